@@ -24,16 +24,16 @@ use Rattle.kijolvar.specs.Tills.{KeepsRest, disk_of, session_in}
 use Rattle.kijolvar.proofs.HeldLemmas.{each_behind, lines_behind}
 
 -- the lines of inputs behind the first of those that are held
-pub held_behind : (these those held : List (Vec ℕ Global)) → held ≡ behind_first these those → AreHeld these
+pub held_behind : {these those held : List (Vec ℕ Global)} → held ≡ behind_first these those → AreHeld these
     → AreHeld those → AreHeld held
-held_behind these those held is each others =
+held_behind {these = these} {those = those} is each others =
     record { each = subst (All IsOneLine) (sym is) (each_behind these those each.each others.each) }
 
 -- what the till keeps, if it kept it before too
-pub rest_from : (old mid new : TillState) → file_of (disk_of mid) ≡ file_of (disk_of old) → mid.failed ≡ old.failed
+pub rest_from : {old mid new : TillState} → file_of (disk_of mid) ≡ file_of (disk_of old) → mid.failed ≡ old.failed
     → mid.profile ≡ old.profile
     → mid.orders ≡ old.orders → mid.is_driven ≡ old.is_driven → KeepsRest mid new → KeepsRest old new
-rest_from old mid new file failed profile orders is_driven rest = record {
+rest_from file failed profile orders is_driven rest = record {
   file = rest.file ∙ file;
   in_step = rest.in_step;
   told = rest.told;
@@ -45,24 +45,24 @@ rest_from old mid new file failed profile orders is_driven rest = record {
 
 module _ (bound : DiskGhosts HostedDisk) (hosts : Device → Course) (peripherals : Ghosts Device) where
   -- lines go on, from the same
-  goes_from : (counter : Counter HostedDisk Device) (s t : Session) (b d : Given) (ls ms : List (Vec ℕ Global))
+  goes_from : {counter : Counter HostedDisk Device} (s : Session) {t : Session} {b d : Given} {ls : List (Vec ℕ Global)} (ms : List (Vec ℕ Global))
       (new : TillState) → s ≡ t → b ≡ d
       → ls ≡ ms → GoesOn bound hosts peripherals counter s b ls new → GoesOn bound hosts peripherals counter t d ms new
-  goes_from counter s t b d ls ms new same_session same_given same_lines go =
+  goes_from {counter = counter} s {b = b} {d = d} ms new same_session same_given same_lines go =
       subst (λ (x : Session). GoesOn bound hosts peripherals counter x d ms new) same_session
       (subst (λ (x : Given). GoesOn bound hosts peripherals counter s x ms new) same_given
       (subst (λ (x : List (Vec ℕ Global)). GoesOn bound hosts peripherals counter s b x new) same_lines go))
 
   -- a device takes the report, whatever the till has beside its counter
-  reports_from : (is_done : Bool) (old same new : Counter HostedDisk Device) → same ≡ old → Stays peripherals same new
+  reports_from : (is_done : Bool) {old same : Counter HostedDisk Device} (new : Counter HostedDisk Device) → same ≡ old → Stays peripherals same new
       → hosts_in hosts new ≡ changed_pending (reported_course is_done) (hosts_in hosts same)
       → IsReported hosts peripherals is_done old new
-  reports_from is_done old same new is stays course =
+  reports_from is_done new is stays course =
       subst (λ (c : Counter HostedDisk Device). IsReported hosts peripherals is_done c new) is
       (record { stays = stays; course = course })
 
-  pub takes_done : (old before begun : TillState) (reported : Counter HostedDisk Device) (new : TillState)
-      (inputs : List ℕ) (these : List (Vec ℕ Global))
+  pub takes_done : {old before begun : TillState} {reported : Counter HostedDisk Device} {new : TillState}
+      {inputs : List ℕ} (these : List (Vec ℕ Global))
       → before ≡ record old { held = before.held } → BeginsAnswer before begun
       → Stays peripherals begun.counter reported
       → hosts_in hosts reported ≡ changed_pending (reported_course true) (hosts_in hosts begun.counter)
@@ -71,7 +71,7 @@ module _ (bound : DiskGhosts HostedDisk) (hosts : Device → Course) (peripheral
       → GoesOn bound hosts peripherals reported (session_in peripherals begun)
       (given_to begun.answer) begun.held.items new
       → KeepsRest (record begun { counter = reported }) new → TakesDone bound hosts peripherals old inputs new
-  takes_done old before begun reported new inputs these is begins stays course are inserted each go rest =
+  takes_done {old = old} {before = before} {begun = begun} {reported = reported} {new = new} these is begins stays course are inserted each go rest =
       let counter : begun.counter ≡ old.counter =
       ap (λ (k : TillState). k.counter) begins.stays ∙ ap (λ (k : TillState). k.counter) is in
       let session : session_in peripherals begun ≡ session_in peripherals old =
@@ -81,14 +81,13 @@ module _ (bound : DiskGhosts HostedDisk) (hosts : Device → Course) (peripheral
       let held : begun.held.items ≡ before.held.items = ap (λ (k : TillState). k.held.items) begins.stays in
       record {
         reported = reported;
-        reports = reports_from true old.counter begun.counter reported counter stays course;
+        reports = reports_from true reported counter stays course;
         lines = before.held.items;
         are = ap lines_in inserted ∙ lines_behind these old.held.items each.each
             ∙ ap (λ (ls : List (List ℕ)). behind_first ls (lines_in old.held.items)) are;
-        go_on = goes_from reported _ _ _ _ _ _ new session answer held go;
-        rest = rest_from old (record begun { counter = reported }) new
-            (ap (λ (t : TotalsView HostedDisk). file_of t.disk) stays.totals
-            ∙ ap (λ (c : Counter HostedDisk Device). file_of c.totals.disk) counter)
+        go_on = goes_from _ _ new session answer held go;
+        rest = rest_from (ap (λ (t : TotalsView HostedDisk). file_of t.disk) stays.totals ∙ ap
+            (λ (c : Counter HostedDisk Device). file_of c.totals.disk) counter)
             (ap (λ (k : TillState). k.failed) begins.stays ∙ ap (λ (k : TillState). k.failed) is)
             (ap (λ (k : TillState). k.profile) begins.stays ∙ ap (λ (k : TillState). k.profile) is)
             (ap (λ (k : TillState). k.orders) begins.stays ∙ ap (λ (k : TillState). k.orders) is)
@@ -96,31 +95,28 @@ module _ (bound : DiskGhosts HostedDisk) (hosts : Device → Course) (peripheral
       }
 
   -- lines that were carried out, in the terms of any fault
-  all_carried : {E : Type 0} (old new : Counter HostedDisk Device) (s left : Session) (lines : List (List ℕ))
-      (before after : Given)
-      (result : Result (Unit {0}) E) → is_ok result ≡ true
-      → RunsGivenLines bound peripherals old s lines before after result left new
+  all_carried : {E : Type 0} {old new : Counter HostedDisk Device} {s left : Session} {lines : List (List ℕ)}
+      {before after : Given} (result : Result (Unit {0}) E)
+      → is_ok result ≡ true → RunsGivenLines bound peripherals old s lines before after result left new
       → RunsGivenLines {E = Unit {0}} bound peripherals old s lines before after (Ok tt) left new
-  all_carried old new s left lines before after (Ok u) is done = done
-  all_carried old new s left lines before after (Err fault) is done = absurd (true≢false (sym is))
+  all_carried (Ok u) is done = done
+  all_carried (Err fault) is done = absurd (true≢false (sym is))
 
-  cut_carried : {E : Type 0} (old new : Counter HostedDisk Device) (s left : Session) (lines : List (List ℕ))
-      (before after : Given)
-      (result : Result (Unit {0}) E) → is_ok result ≡ false
-      → RunsGivenLines bound peripherals old s lines before after result left new
+  cut_carried : {E : Type 0} {old new : Counter HostedDisk Device} {s left : Session} {lines : List (List ℕ)}
+      {before after : Given} (result : Result (Unit {0}) E)
+      → is_ok result ≡ false → RunsGivenLines bound peripherals old s lines before after result left new
       → RunsGivenLines {E = Unit {0}} bound peripherals old s lines before after (Err tt) left new
-  cut_carried old new s left lines before after (Ok u) is done = absurd (true≢false is)
-  cut_carried old new s left lines before after (Err fault) is done = done
+  cut_carried (Ok u) is done = absurd (true≢false is)
+  cut_carried (Err fault) is done = done
 
   -- lines are carried out by a till that has begun its answer
   carries_from : {E : Type 0} (old begun : TillState) (fed : Counter HostedDisk Device) (left : Session)
-      (lines : List (List ℕ)) (between : Given)
-      (result : Result (Unit {0}) E) → BeginsAnswer old begun
-      → RunsGivenLines bound peripherals begun.counter (session_in peripherals begun) lines
-      (given_to begun.answer) between result left fed
+      (lines : List (List ℕ)) (between : Given) (result : Result (Unit {0}) E)
+      → BeginsAnswer old begun
+      → RunsGivenLines bound peripherals begun.counter (session_in peripherals begun) lines (given_to begun.answer)
+      between result left fed
       → RunsGivenLines bound peripherals old.counter (session_in peripherals old) lines
-      (given_with [] (given_to old.answer).faults) between result
-      left fed
+      (given_with [] (given_to old.answer).faults) between result left fed
   carries_from old begun fed left lines between result begins done =
       let counter : begun.counter ≡ old.counter = ap (λ (k : TillState). k.counter) begins.stays in
       let session : session_in peripherals begun ≡ session_in peripherals old =
@@ -132,76 +128,66 @@ module _ (bound : DiskGhosts HostedDisk) (hosts : Device → Course) (peripheral
       (subst (λ (x : Given). RunsGivenLines bound peripherals begun.counter
       (session_in peripherals begun) lines x between result left fed) begins.answer done))
 
-  pub takes_failure : {E : Type 0} (old begun mid : TillState) (fed reported : Counter HostedDisk Device)
-      (left : Session) (between : Given)
-      (result : Result (Unit {0}) E) (new : TillState) (inputs : List ℕ) → BeginsAnswer old begun
+  pub takes_failure : {E : Type 0} {old begun mid : TillState} {fed reported : Counter HostedDisk Device}
+      (left : Session) (between : Given) (result : Result (Unit {0}) E) {new : TillState} {inputs : List ℕ}
+      → BeginsAnswer old begun
       → RunsGivenLines bound peripherals begun.counter (session_in peripherals begun) (lines_of inputs)
-      (given_to begun.answer) between result left
-      fed → is_ok result ≡ true → file_of fed.totals.disk ≡ file_of (disk_of begun) → Stays peripherals fed reported
-      → hosts_in hosts reported ≡ changed_pending (reported_course false) (hosts_in hosts fed)
-      → mid ≡ record begun {
+      (given_to begun.answer) between result left fed
+      → is_ok result ≡ true → file_of fed.totals.disk ≡ file_of (disk_of begun) → Stays peripherals fed reported
+      → hosts_in hosts reported ≡ changed_pending (reported_course false) (hosts_in hosts fed) → mid ≡ record begun {
         counter = reported;
         names = mid.names;
         spares = mid.spares;
         answer = mid.answer;
         outcome =
             mid.outcome;
-      }
-      → GoesOn bound hosts peripherals reported left between begun.held.items new → KeepsRest mid new
-      → TakesFailure bound hosts peripherals old inputs new
-  takes_failure old begun mid fed reported left between result new inputs begins done all file stays course is go rest =
+      } → GoesOn bound hosts peripherals reported left between begun.held.items new → KeepsRest mid new → TakesFailure
+      bound hosts peripherals old inputs new
+  takes_failure {old = old} {begun = begun} {fed = fed} {reported = reported} left between result {new = new} begins done all file stays course is go rest =
       record {
         fed = fed;
         session = left;
         between = between;
-        carries = all_carried old.counter fed _ left _ _ between result all
-            (carries_from old begun fed left _ between result begins done);
+        carries = all_carried result all (carries_from old begun fed left _ between result begins done);
         reported = reported;
         reports = record { stays = stays; course = course };
-        go_on = goes_from reported left left between between _ _ new refl refl
-            (ap (λ (k : TillState). k.held.items) begins.stays) go;
-        rest = rest_from old mid new
-            (ap (λ (k : TillState). file_of (disk_of k)) is
-            ∙ ap (λ (t : TotalsView HostedDisk). file_of t.disk) stays.totals ∙ file
-            ∙ ap (λ (k : TillState). file_of (disk_of k)) begins.stays)
-            (ap (λ (k : TillState). k.failed) is ∙ ap (λ (k : TillState). k.failed) begins.stays)
-            (ap (λ (k : TillState). k.profile) is ∙ ap (λ (k : TillState). k.profile) begins.stays)
-            (ap (λ (k : TillState). k.orders) is ∙ ap (λ (k : TillState). k.orders) begins.stays)
-            (ap (λ (k : TillState). k.is_driven) is ∙ ap (λ (k : TillState). k.is_driven) begins.stays) rest;
+        go_on = goes_from left _ new refl refl (ap (λ (k : TillState). k.held.items) begins.stays) go;
+        rest = rest_from (ap (λ (k : TillState). file_of (disk_of k)) is ∙ ap
+            (λ (t : TotalsView HostedDisk). file_of t.disk) stays.totals ∙ file ∙ ap
+            (λ (k : TillState). file_of (disk_of k)) begins.stays) (ap (λ (k : TillState). k.failed) is ∙ ap
+            (λ (k : TillState). k.failed) begins.stays) (ap (λ (k : TillState). k.profile) is ∙ ap
+            (λ (k : TillState). k.profile) begins.stays) (ap (λ (k : TillState). k.orders) is ∙ ap
+            (λ (k : TillState). k.orders) begins.stays) (ap (λ (k : TillState). k.is_driven) is ∙ ap
+            (λ (k : TillState). k.is_driven) begins.stays) rest;
       }
 
-  pub cuts_inputs : {E : Type 0} (old begun mid : TillState) (fed : Counter HostedDisk Device)
-      (result : Result (Unit {0}) E) (new : TillState)
-      (inputs : List ℕ) → BeginsAnswer old begun
+  pub cuts_inputs : {E : Type 0} {old begun mid : TillState} {fed : Counter HostedDisk Device}
+      (result : Result (Unit {0}) E) {new : TillState} {inputs : List ℕ}
+      → BeginsAnswer old begun
       → RunsGivenLines bound peripherals begun.counter (session_in peripherals begun) (lines_of inputs)
-      (given_to begun.answer)
-      (given_to mid.answer) result (session_in peripherals mid) fed → is_ok result ≡ false
-      → file_of fed.totals.disk ≡ file_of (disk_of begun)
-      → mid ≡ record begun {
+      (given_to begun.answer) (given_to mid.answer) result (session_in peripherals mid) fed
+      → is_ok result ≡ false → file_of fed.totals.disk ≡ file_of (disk_of begun) → mid ≡ record begun {
         counter = fed;
         names = mid.names;
         spares = mid.spares;
         answer = mid.answer;
         outcome =
             mid.outcome;
-      }
-      → DropsHeld peripherals mid new → IsInStep (disk_of new) → CutsInputs bound hosts peripherals old inputs new
-  cuts_inputs old begun mid fed result new inputs begins done cut file is drops in_step =
+      } → DropsHeld peripherals mid new → IsInStep (disk_of new) → CutsInputs bound hosts peripherals old inputs new
+  cuts_inputs {old = old} {begun = begun} {mid = mid} {fed = fed} result {new = new} {inputs = inputs} begins done cut file is drops in_step =
       let counter : mid.counter ≡ fed = ap (λ (k : TillState). k.counter) is in
       let answer : given_to mid.answer ≡ given_to new.answer =
       sym (ap (λ (k : TillState). given_to k.answer) drops.stays) in
       let session : session_in peripherals mid ≡ session_in peripherals new =
       sym (ap (session_in peripherals) drops.stays) in
-      let whole = cut_carried old.counter fed _ _ _ _ _ result cut
-      (carries_from old begun fed _ _ _ result begins done) in
+      let whole = cut_carried result cut (carries_from old begun fed _ _ _ result begins done) in
       record {
         fed = fed;
         carries = subst (λ (x : Given). RunsGivenLines {E = Unit {0}} bound peripherals old.counter
             (session_in peripherals old) (lines_of inputs) (given_with [] (given_to old.answer).faults) x (Err tt)
-            (session_in peripherals new) fed) answer
-            (subst (λ (x : Session). RunsGivenLines {E = Unit {0}} bound peripherals old.counter
-            (session_in peripherals old) (lines_of inputs) (given_with [] (given_to old.answer).faults)
-            (given_to mid.answer) (Err tt) x fed) session whole);
+            (session_in peripherals new) fed) answer (subst (λ (x : Session). RunsGivenLines {E = Unit {0}} bound
+            peripherals old.counter (session_in peripherals old) (lines_of inputs)
+            (given_with [] (given_to old.answer).faults) (given_to mid.answer) (Err tt) x fed) session whole);
         stays = subst (λ (c : Counter HostedDisk Device). Stays peripherals c new.counter) counter drops.counter;
         held = drops.held;
         left = ap (λ (k : TillState). k.left) drops.stays;

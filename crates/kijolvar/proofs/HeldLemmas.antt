@@ -1,6 +1,6 @@
 -- How a text falls into its first line and the others, and lines behind others.
 use Rattle.std.proofs.Common.{All, List, Vec, [], ap, append-nil, arith, drop, get_or, length, length-drop, refl}
-use Rattle.std.proofs.Common.{sym, take, true, ℕ, ◌+◌, ◌-◌, ◌++◌, ◌<◌, ◌∙◌, ◌∷◌, ◌≡◌, ◌≤◌}
+use Rattle.std.proofs.Common.{sym, take, true, ℕ, ◌+◌, ◌-◌, ◌++◌, ◌<◌, ◌∙◌, ◌∷◌, ◌≡◌}
 use Rattle.std.proofs.lemmas.List.{append_assoc, drop_all, take-append-drop, take_all, take_more}
 use Rattle.std.proofs.lemmas.List.Elements.{All-append, All-nil, All-push, All-tail}
 use Rattle.pos_script.specs.LineBuffers.{have_no_feed}
@@ -20,9 +20,13 @@ feed_splits front more free =
     let line : List ℕ = front ++ 10 ∷ [] in
     let whole = go_on_lines (front ++ 10 ∷ []) more in
     let rest = go_on_rest (front ++ 10 ∷ []) more in
-    two_parts (pieces 10 ((front ++ 10 ∷ []) ++ more))
-    ∙ rw (whole, rest, ends_lines [] front free, ends_rest [] front free)
-    (ap (λ x. without_cr front ∷ x) (sym (two_parts (pieces 10 more))))
+    two_parts (pieces 10 ((front ++ 10 ∷ []) ++ more)) ∙ rw (
+      whole,
+      rest,
+      ends_lines [] front free,
+      ends_rest [] front
+          free,
+    ) (ap (λ x. without_cr front ∷ x) (sym (two_parts (pieces 10 more))))
 
 -- a line without a line feed
 end_alone : (text : List ℕ) → have_no_feed text ≡ true → 0 < length text → lines_of text ≡ text ∷ []
@@ -30,23 +34,21 @@ end_alone [] free some = absurd (omega (arith, some))
 end_alone (b ∷ bs) free some = rw (one_piece (b ∷ bs) free) refl
 
 -- the first line of a text is split off at its line feed
-pub splits_at_feed : (text : List ℕ) (count : ℕ) → count < length text → have_no_feed (take count text) ≡ true
-    → get_or text count 0 ≡ 10
-    → SplitsOff text (count + 1)
-splits_at_feed text count within free feed =
+pub splits_at_feed : {text : List ℕ} {count : ℕ} → count < length text → have_no_feed (take count text) ≡ true
+    → get_or text count 0 ≡ 10 → SplitsOff text (count + 1)
+splits_at_feed {text = text} {count = count} within free feed =
     let front : take (count + 1) text ≡ take count text ++ 10 ∷ [] =
     take_more text count 0 within ∙ ap (λ b. take count text ++ b ∷ []) feed in
     record {
       line = without_cr (take count text);
       one = ap lines_of front ∙ feed_alone (take count text) free;
-      lines = ap lines_of (sym (take-append-drop (count + 1) text))
-          ∙ ap (λ x. lines_of (x ++ drop (count + 1) text)) front
-          ∙ feed_splits (take count text) (drop (count + 1) text) free;
+      lines = ap lines_of (sym (take-append-drop (count + 1) text)) ∙ ap (λ x. lines_of (x ++ drop (count + 1) text))
+          front ∙ feed_splits (take count text) (drop (count + 1) text) free;
     }
 
 -- or it is the last
-pub splits_at_end : (text : List ℕ) → have_no_feed text ≡ true → 0 < length text → SplitsOff text (length text)
-splits_at_end text free some = record {
+pub splits_at_end : {text : List ℕ} → have_no_feed text ≡ true → 0 < length text → SplitsOff text (length text)
+splits_at_end {text = text} free some = record {
   line = text;
   one = rw (take_all (length text) text (omega arith)) (end_alone text free some);
   lines = rw (drop_all (length text) text (omega arith)) (end_alone text free some);
@@ -60,20 +62,18 @@ lines_push (t ∷ ts) text = ap (λ x. lines_of t.items ++ x) (lines_push ts tex
     ∙ sym (append_assoc (lines_of t.items) (lines_in ts) (lines_of text.items))
 
 pub one_more : {A : Type 0} (texts : List (Vec ℕ A)) (text : Vec ℕ A) (rest : List ℕ) (count : ℕ)
-    (whole : List (List ℕ))
+    {whole : List (List ℕ)}
     → text.items ≡ take count rest → SplitsOff rest count → whole ≡ lines_in texts ++ lines_of rest
     → whole ≡ lines_in (texts ++ text ∷ []) ++ lines_of (drop count rest)
-one_more texts text rest count whole is splits same =
+one_more texts text rest count is splits same =
     let one : lines_of text.items ≡ splits.line ∷ [] = ap lines_of is ∙ splits.one in
-    same ∙ ap (λ x. lines_in texts ++ x) splits.lines
-    ∙ sym (append_assoc (lines_in texts) (splits.line ∷ []) (lines_of (drop count rest)))
-    ∙ ap (λ x. (lines_in texts ++ x) ++ lines_of (drop count rest)) (sym one)
-    ∙ ap (λ x. x ++ lines_of (drop count rest)) (sym (lines_push texts text))
+    same ∙ ap (λ x. lines_in texts ++ x) splits.lines ∙ sym (append_assoc (lines_in texts) (splits.line ∷ [])
+    (lines_of (drop count rest))) ∙ ap (λ x. (lines_in texts ++ x) ++ lines_of (drop count rest)) (sym one) ∙ ap
+    (λ x. x ++ lines_of (drop count rest)) (sym (lines_push texts text))
 
-pub each_more : {A : Type 0} (texts : List (Vec ℕ A)) (text : Vec ℕ A) (rest : List ℕ) (count : ℕ)
-    → text.items ≡ take count rest
-    → SplitsOff rest count → All IsOneLine texts → All IsOneLine (texts ++ text ∷ [])
-each_more texts text rest count is splits each =
+pub each_more : {A : Type 0} (texts : List (Vec ℕ A)) (text : Vec ℕ A) {rest : List ℕ} {count : ℕ}
+    → text.items ≡ take count rest → SplitsOff rest count → All IsOneLine texts → All IsOneLine (texts ++ text ∷ [])
+each_more texts text is splits each =
     All-push IsOneLine texts text each (splits.line, ap lines_of is ∙ splits.one)
 
 -- lines behind the first of others, each of which is one line

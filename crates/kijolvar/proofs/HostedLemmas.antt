@@ -33,19 +33,19 @@ lost_cause true before after fault =
 lost_cause false before after fault =
     record { later = omega arith; last = omega arith; rises = inl (omega arith); same = tt }
 
-kept_cause : (failures : ℕ) (before after : DiskState) → failures < 2 ^ 64
+kept_cause : {failures : ℕ} (before after : DiskState) → failures < 2 ^ 64
     → HasCause {T = Unit {0}} (with_failures before failures) (with_failures after failures) (Ok tt)
-kept_cause failures before after last = record { later = omega arith; last = last; rises = tt; same = refl }
+kept_cause before after last = record { later = omega arith; last = last; rises = tt; same = refl }
 
 -- a call fails exactly where its errand is lost
 pub cause_of : (Is : Errand → Type 0) (old new : Option HostWork) (answer : Answer) (before after : DiskState)
     → AddsIfHosted Is old new answer
     → HasCause (with_failures before (failures_of old)) (with_failures after (failures_of new)) answer
-cause_of Is None new (Ok u) before after (none, done) = rw none (kept_cause 0 before after (omega arith))
+cause_of Is None new (Ok u) before after (none, done) = rw none (kept_cause before after (omega arith))
 cause_of Is None new (Err e) before after (none, done) = absurd (cc)
 cause_of Is (Some old) None answer before after adds = absurd adds
 cause_of Is (Some old) (Some new) (Ok u) before after (kept, (one, is, now)) =
-    rw (now, kept) (kept_cause 0 before after (omega arith))
+    rw (now, kept) (kept_cause before after (omega arith))
 cause_of Is (Some old) (Some new) (Err e) before after now = rw now (lost_cause old.lost before after e)
 
 few_by : (lost : Bool) → failures_by lost < 2 ^ 64
@@ -62,27 +62,26 @@ any_answer (Ok u) a = a
 any_answer (Err e) a = tt
 
 -- a read asks nothing of the host
-pub reads_hosted : (work : Option HostWork) (old new : Memory) (at : ℕ) (out : List ℕ) (answer : Answer)
-    → answer ≡ Ok tt
-    → Reads (state_of old) (state_of new) at out answer
+pub reads_hosted : (work : Option HostWork) (old new : Memory) {at : ℕ} {out : List ℕ} (answer : Answer)
+    → answer ≡ Ok tt → Reads (state_of old) (state_of new) at out answer
     → Reads (hosted_state (hosted old work)) (hosted_state (hosted new work)) at out answer
-reads_hosted work old new at out (Err e) done reads = absurd (cc)
-reads_hosted work old new at out (Ok u) done reads = record {
+reads_hosted work old new (Err e) done reads = absurd (cc)
+reads_hosted work old new (Ok u) done reads = record {
   bytes = reads.bytes;
   reading = reads.reading;
   loose = reads.loose;
   still_loose = reads.still_loose;
   time = time_under (failures_of work) (failures_of work) reads.time;
-  cause = kept_cause (failures_of work) (state_of old) (state_of new) (few work);
+  cause = kept_cause (state_of old) (state_of new) (few work);
 }
 
 -- a write, whatever became of its errand
-pub writes_hosted : (old new : HostedDisk) (at : ℕ) (bytes : List ℕ) (said : Answer) (answer : Answer) → said ≡ Ok tt
+pub writes_hosted : (old new : HostedDisk) {at : ℕ} {bytes : List ℕ} (said : Answer) {answer : Answer} → said ≡ Ok tt
     → Writes (state_of old.memory) (state_of new.memory) at bytes said
     → AddsIfHosted (IsWrite at bytes) old.work new.work answer
     → Writes (hosted_state old) (hosted_state new) at bytes answer
-writes_hosted old new at bytes (Err e) answer done writes adds = absurd (cc)
-writes_hosted old new at bytes (Ok u) answer done writes adds = record {
+writes_hosted old new (Err e) done writes adds = absurd (cc)
+writes_hosted old new {at = at} {bytes = bytes} (Ok u) {answer = answer} done writes adds = record {
   written = any_answer answer writes.written;
   same_length = writes.same_length;
   elsewhere = writes.elsewhere;
@@ -121,20 +120,19 @@ synced_so (Write place kept) file is = absurd is
 synced_so Sync file is = refl
 
 -- where nothing is left and nothing failed, the file has the bytes of the disk
-settled_file : (lost failed : Bool) (errands : List Errand) (file reading : List ℕ)
+settled_file : (lost failed : Bool) (errands : List Errand) {file reading : List ℕ}
     → (lost ≡ false → file_after_all errands file ≡ reading)
     → settlement_by (lost || failed) errands ≡ Settled → Some file ≡ Some reading
-settled_file true failed errands file reading is settled = absurd (cc)
-settled_file false true errands file reading is settled = absurd (cc)
-settled_file false false [] file reading is settled = ap Some (is refl)
-settled_file false false (errand ∷ errands) file reading is settled = absurd (cc)
+settled_file true failed errands is settled = absurd (cc)
+settled_file false true errands is settled = absurd (cc)
+settled_file false false [] is settled = ap Some (is refl)
+settled_file false false (errand ∷ errands) is settled = absurd (cc)
 
 pub in_file : (memory : Memory) (work : Option HostWork) (failed : Bool) → IsInStep (hosted memory work)
-    → settlement_with work failed ≡ Settled
-    → IsInFile (hosted memory work)
+    → settlement_with work failed ≡ Settled → IsInFile (hosted memory work)
 in_file memory None failed is settled = absurd (cc)
 in_file memory (Some work) failed is settled =
-    settled_file work.lost failed work.errands work.file memory.present.reading is settled
+    settled_file work.lost failed work.errands is settled
 
 -- a host that owes errands lost none
 owed_kept : (lost failed : Bool) (errands : List Errand) → settlement_by (lost || failed) errands ≡ Owed → lost ≡ false
@@ -142,13 +140,13 @@ owed_kept true failed errands owed = absurd (cc)
 owed_kept false failed errands owed = refl
 
 -- Where none is left of them, the code says so, and else it says something else.
-told_code : (errands : List Errand) (at_before at : ℕ) (before after : List ℕ) (needed_before needed code : ℕ)
+told_code : (errands : List Errand) (at_before at : ℕ) (before after : List ℕ) (needed_before needed : ℕ) {code : ℕ}
     (told : Bool)
     → WritesOldest errands at_before at before after needed_before needed code told → code ≡ ok → errands ≡ []
-told_code [] at_before at before after needed_before needed code told tells is = refl
-told_code (Sync ∷ errands) at_before at before after needed_before needed code told (tells, rest) is =
+told_code [] at_before at before after needed_before needed told tells is = refl
+told_code (Sync ∷ errands) at_before at before after needed_before needed told (tells, rest) is =
     absurd (omega (arith, tells.0, is))
-told_code (Write place bytes ∷ errands) at_before at before after needed_before needed code told (tells, rest) is =
+told_code (Write place bytes ∷ errands) at_before at before after needed_before needed told (tells, rest) is =
     absurd (⊎_elim (λ fits. omega (arith, fits.1, is)) (λ long. omega (arith, long.1, is)) tells.1)
 
 -- a file whose errands are all done has the bytes of the disk
@@ -169,30 +167,27 @@ owed_work None failed owed = absurd (cc)
 owed_work (Some work) failed owed = (owed_kept work.lost failed work.errands owed, λ is. cc)
 
 still_hosted : (old new : Option HostWork) (failed : Bool) (one : Option Errand) → settlement_with old failed ≡ Owed
-    → DoesIfHosted old new one
-    → IfSome new (λ w. w.lost ≡ false) × (new ≢ None)
+    → DoesIfHosted old new one → IfSome new (λ w. w.lost ≡ false) × (new ≢ None)
 still_hosted None new failed one owed does = absurd (cc)
 still_hosted (Some old) None failed one owed does = absurd does
 still_hosted (Some old) (Some new) failed one owed does =
     (kept_on old new one does (owed_kept old.lost failed old.errands owed), λ is. cc)
 
 still_owed : (told : Bool) (old new : HostedDisk) (failed : Bool) → settlement_with old.work failed ≡ Owed
-    → DoesTold told old new
-    → IfSome new.work (λ w. w.lost ≡ false) × (new.work ≢ None)
+    → DoesTold told old new → IfSome new.work (λ w. w.lost ≡ false) × (new.work ≢ None)
 still_owed true old new failed owed (one, does) = still_hosted old.work new.work failed one owed does.does
 still_owed false old new failed owed same = rw same (owed_work old.work failed owed)
 
 -- where the host is told that nothing is left, its file has the bytes of the disk
 pub told_in_file : (told : Bool) (old new : HostedDisk) (failed : Bool) → settlement_with old.work failed ≡ Owed
     → DoesTold told old new → IsInStep new
-    → (at_before at : ℕ) (before after : List ℕ) (needed_before needed code : ℕ) (now : Bool)
+    → (at_before at : ℕ) (before after : List ℕ) (needed_before needed : ℕ) {code : ℕ} (now : Bool)
     → WritesOldest (errands_of new.work) at_before at before after needed_before needed code now → code ≡ ok
     → IsInFile new
-told_in_file told old new failed owed does is at_before at before after needed_before needed code now tells fine =
+told_in_file told old new failed owed does is at_before at before after needed_before needed now tells fine =
     let still = still_owed told old new failed owed does in
-    all_done new.memory new.work is
-    (told_code (errands_of new.work) at_before at before after needed_before needed code now tells fine) still.0
-    still.1
+    all_done new.memory new.work is (told_code (errands_of new.work) at_before at before after needed_before needed now
+    tells fine) still.0 still.1
 
 -- a host that said that an errand failed has failed, unless there is no file
 pub failed_now : (work : Option HostWork) (failed : Bool) → settlement_with work failed ≢ InMemory

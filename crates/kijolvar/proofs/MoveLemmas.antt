@@ -12,28 +12,26 @@ use Rattle.kijolvar.specs.TillDisks.{HostedDisk, IsInStep, file_of, hosted, host
 use Rattle.kijolvar.specs.declared.till_disk.Settlement.TheVariants.{Owed}
 
 -- a disk of the file that was moved, with its errands, is the one that the move makes; one was lost for want of memory
-pub is_moved : (bytes : List ℕ) (old new : HostedDisk) (result : Result HostedDisk ℕ)
-    → old ≡ hosted (fresh bytes) (Some (no_work bytes))
-    → MovesAny (hosted_state old) (hosted_state new) (Ok tt)
-    → KeepsFirstLayout (hosted_state old).reading (hosted_state new).reading
-    → file_of new ≡ file_of old
+pub is_moved : {bytes : List ℕ} {old : HostedDisk} (new : HostedDisk) (result : Result HostedDisk ℕ)
+    → old ≡ hosted (fresh bytes) (Some (no_work bytes)) → MovesAny (hosted_state old) (hosted_state new) (Ok tt)
+    → KeepsFirstLayout (hosted_state old).reading (hosted_state new).reading → file_of new ≡ file_of old
     → MatchResult result (λ same. (same ≡ new) × IsInStep new × (settlement_with new.work false ≡ Owed))
     (λ code. code ≡ no_memory)
     → MatchResult result (IsMovedOf bytes) (RefusesMove bytes)
-is_moved bytes old new (Ok it) same moves rest file (is, in_step, owed) = rw is (record {
+is_moved new (Ok it) same moves rest file (is, in_step, owed) = rw is (record {
   moves = subst (λ (d : HostedDisk). MovesAny (hosted_state d) (hosted_state new) (Ok tt)) same moves;
   rest = subst (λ (d : HostedDisk). KeepsFirstLayout (hosted_state d).reading (hosted_state new).reading) same rest;
   file = file ∙ ap file_of same;
   in_step = in_step;
   owed = owed;
 })
-is_moved bytes old new (Err code) same moves rest file none = inl none
+is_moved new (Err code) same moves rest file none = inl none
 
 -- a file that isn't moved is refused for what it holds
-pub isnt_moved : (bytes : List ℕ) (old new : HostedDisk) (why : StoreFault) (code : ℕ)
+pub isnt_moved : {bytes : List ℕ} {old : HostedDisk} (new : HostedDisk) {why : StoreFault} {code : ℕ}
     → old ≡ hosted (fresh bytes) (Some (no_work bytes))
     → MovesAny (hosted_state old) (hosted_state new) (Err why) → code ≡ move_code why → RefusesMove bytes code
-isnt_moved bytes old new why code same moves told =
+isnt_moved new {why = why} same moves told =
     inr (inr (
       why,
       new,

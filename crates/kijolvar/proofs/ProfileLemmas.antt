@@ -19,16 +19,14 @@ same_entries (x ∷ xs) (y ∷ ys) same = grind (arith, same_entries xs ys)
 
 -- a document that is a profile isn't refused but for want of memory
 pub one_answer : (document : Option Members) (contents : Contents) (why : ProfileFault)
-    → FromDocument document (Ok contents)
-    → FromDocument document (Err why) → why ≢ NoMemory → ⊥
+    → FromDocument document (Ok contents) → FromDocument document (Err why) → why ≢ NoMemory → ⊥
 one_answer (Some root) contents BadText is refused other = refused
 one_answer (Some root) contents (BadEntry number) is refused other =
     true≢false (sym refused.here ∙ is.read.sound number)
 one_answer (Some root) contents (Duplicate name) is refused other =
     let same = same_entries contents.devices refused.contents.devices (sym is.read.devices ∙ refused.read.devices) in
-    true≢false (sym refused.first.here
-    ∙ ap (λ (devices : List Entry). is_repeated (names_of devices) refused.place) (sym same)
-    ∙ is.names refused.place)
+    true≢false (sym refused.first.here ∙ ap (λ (devices : List Entry). is_repeated (names_of devices) refused.place)
+    (sym same) ∙ is.names refused.place)
 one_answer (Some root) contents NoMemory is refused other = other refl
 one_answer None contents why is refused other = is
 

@@ -17,11 +17,11 @@ module _ {D P : Type 0} (bound : DiskGhosts D) (peripherals : Ghosts P) where
   run_fixed old new [] same = ap (λ (c : Counter D P). bound.fixed c.totals.disk) same
   run_fixed old new (step ∷ steps) (mid, first, rest) = run_fixed mid new steps rest ∙ first.kept.fixed
 
-  finish_fixed : (old new : Counter D P) (session : Session) (lines : List (List ℕ)) (before after : Given)
-      (left : Session)
+  finish_fixed : (old : Counter D P) {new : Counter D P} {session : Session} {lines : List (List ℕ)} {before after : Given}
+      {left : Session}
       → Finishes (IsRun bound peripherals) old session lines before after left new
       → bound.fixed new.totals.disk ≡ bound.fixed old.totals.disk
-  finish_fixed old new session lines before after left done =
+  finish_fixed old {new = new} done =
       run_fixed old new done.transcript.steps done.transcript.run
 
   pub lines_fixed : {E : Type 0} (old new : Counter D P) (session : Session) (lines : List (List ℕ))
@@ -29,7 +29,6 @@ module _ {D P : Type 0} (bound : DiskGhosts D) (peripherals : Ghosts P) where
       (left : Session) → RunsGivenLines bound peripherals old session lines before after result left new
       → bound.fixed new.totals.disk ≡ bound.fixed old.totals.disk
   lines_fixed old new session lines before after (Ok u) left done =
-      finish_fixed old new session lines before after left done
+      finish_fixed old done
   lines_fixed old new session lines before after (Err fault) left stops =
-      run_fixed stops.mid new stops.failed.carried.steps stops.failed.carried.run
-      ∙ finish_fixed old stops.mid session stops.earlier before stops.given stops.between stops.done
+      run_fixed stops.mid new stops.failed.carried.steps stops.failed.carried.run ∙ finish_fixed old stops.done

@@ -28,22 +28,16 @@ all_read scan place n front (h ∷ hs) is room =
     let P = HasRoom place scan_events in
     let behind = all_listening place (read scan) (controls_of hs) in
     let copies = copies_from (n + 1) scan place (controls_of hs) in
-    let next : (g : KeptControl) (c : Control) → g.control ≡ c
-    → Reads (controls_of front ++ c ∷ behind) copies (front ++ g ∷ hs) = λ g c same.
-    rw (← same)
-    (rw (
+    let next : (g : KeptControl) (c : Control) → g.control ≡ c → Reads (controls_of front ++ c ∷ behind) copies
+    (front ++ g ∷ hs) = λ g c same. rw (← same) (rw (
       map-append (λ (x : KeptControl). x.control) front (g ∷ []),
       append_assoc front (g ∷ []) hs,
       append_assoc (controls_of front) (g.control ∷ []) behind,
-    )
-    at (all_read scan place (n + 1) (front ++ g ∷ []) hs (omega (arith, length_push front g)) (All-tail P h hs room)))
+    ) at (all_read scan place (n + 1) (front ++ g ∷ []) hs (omega (arith, length_push front g)) (All-tail P h hs room)))
     in
-    ⊎_elim (λ yes.
-    rw yes (record {
+    ⊎_elim (λ yes. rw yes (record {
       within = omega (arith, length-append front (h ∷ hs));
       room = λ d. rw (get_or_at front h hs d n is) (All-head P h hs room yes);
       after = λ d g same. rw (set_at front h hs g n is)
           (next g (read scan h.control) (rw (get_or_at front h hs d n is) at same));
-    }))
-    (λ no. rw no (next h h.control refl))
-    (cases_Bool (listens place h.control))
+    })) (λ no. rw no (next h h.control refl)) (cases_Bool (listens place h.control))

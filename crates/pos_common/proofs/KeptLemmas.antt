@@ -12,8 +12,7 @@ control_at hs i d c lt = sym (get_or-map (λ (g : KeptControl). g.control) hs i 
 
 -- a held control that is still the same control changes nothing of the machine
 pub same_control : (hs : List KeptControl) (i : ℕ) (d g : KeptControl) → i < length hs
-    → g.control ≡ (get_or hs i d).control
-    → controls_of (set hs i g) ≡ controls_of hs
+    → g.control ≡ (get_or hs i d).control → controls_of (set hs i g) ≡ controls_of hs
 same_control hs i d g lt s =
     grind (
       arith,
@@ -39,8 +38,7 @@ first_of_rest P hs i d lt a = All-head P (get_or hs i d) (drop (i + 1) hs) (rw (
 
 -- what each element from a place on has, those behind it have when it is changed
 pub rest_after_set : (P : KeptControl → Type 0) (hs : List KeptControl) (i : ℕ) (g : KeptControl) → i < length hs
-    → All P (drop i hs)
-    → All P (drop (i + 1) (set hs i g))
+    → All P (drop i hs) → All P (drop (i + 1) (set hs i g))
 rest_after_set P hs i g lt a =
     rw (drop-set-lt (i + 1) hs i g (omega arith))
     (All-tail P (get_or hs i g) (drop (i + 1) hs) (rw (drop_more hs i g lt) at a))
@@ -53,8 +51,7 @@ same_rest hs old i g r = drop-set-lt (i + 1) hs i g (omega arith) ∙ sym (drop-
 
 -- one more at the front has it
 pub front_after_set : (P : KeptControl → Type 0) (hs : List KeptControl) (i : ℕ) (g : KeptControl) → i < length hs → P g
-    → All P (take i hs)
-    → All P (take (i + 1) (set hs i g))
+    → All P (take i hs) → All P (take (i + 1) (set hs i g))
 front_after_set P hs i g lt p a = subst (All P) (sym (take_more_set hs i g lt)) (All-push P (take i hs) g a p)
 
 -- the control with a number that is given, as the machine sees it

@@ -17,8 +17,7 @@ use Rattle.std.specs.Prelude.{◌⊎◌}
 use Rattle.pos_common.proofs.CheckLemmas.{refused}
 
 module _ (k : Category) (n : ℕ) (claims : List (Option ℕ)) (asked : Call) (olds : List Control) (one : Control)
-    (rows : Control → List Row)
-    (comes_to : Control → Option Action) (found : slice_get olds n ≡ Some one) where
+    (rows : Control → List Row) (comes_to : Control → Option Action) (found : slice_get olds n ≡ Some one) where
   abbrev refusals : List Row
   refusals = own_refusals k (rows one) n claims asked one
 
@@ -35,8 +34,7 @@ module _ (k : Category) (n : ℕ) (claims : List (Option ℕ)) (asked : Call) (o
   -- it is refused
   pub refused_call : (code : Code) (at : Hardware) → first_refusal refusals ≡ Some (answer.Refused code 0)
       → Called (Ok (answer.Refused code 0)) at olds at
-  refused_call code at refuses = rw (found)
-      (refused refusals (answer.Refused code 0) _ _ refuses (record { controls = refl; hardware = refl }))
+  refused_call code at refuses = rw (found) (refused _ _ refuses (record { controls = refl; hardware = refl }))
 
   -- then it gives no order
   pub refused_orders : (code : Code) (orders : ℕ) → first_refusal refusals ≡ Some (answer.Refused code 0)
@@ -57,8 +55,7 @@ module _ (k : Category) (n : ℕ) (claims : List (Option ℕ)) (asked : Call) (o
 
   -- and gives its orders
   pub done_orders : (d : Action) (outcome : Result Answer NoMemory) (old new : ℕ) → first_refusal refusals ≡ None
-      → comes_to one ≡ Some d
-      → OrdersBy d outcome old new → Ordered outcome old new
+      → comes_to one ≡ Some d → OrdersBy d outcome old new → Ordered outcome old new
   done_orders d (Ok result) old new none comes gives = rw (found, none, comes) gives
   done_orders d (Err want) old new none comes gives = rw (found, none) (by_action d gives)
     where

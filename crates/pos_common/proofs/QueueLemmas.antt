@@ -24,8 +24,7 @@ pub says_at : (given : Order) (hs : List KeptControl) (i : ℕ) (d g : KeptContr
     (λ want. SameHardware (controls_of hs) at (controls_of (set hs i g)) at)
 says_at given hs i d g (Ok result) at lt turns =
     let within : i < length (controls_of hs) = omega (arith, length-map hs (λ (x : KeptControl). x.control)) in
-    rw (slice_get-get_or (controls_of hs) i d.control within, ← control_at hs i d d.control lt)
-    (record {
+    rw (slice_get-get_or (controls_of hs) i d.control within, ← control_at hs i d d.control lt) (record {
       outcome = weaker (first_refusal (id_rows (get_or hs i d).control)) _ _ _ _
           (λ done. record { done = done.0; controls = changed_at (queued given) hs i d g lt done.1; hardware = refl })
           (λ refusal same. (
@@ -34,8 +33,7 @@ says_at given hs i d g (Ok result) at lt turns =
               controls = same_control hs i d g lt (ap (λ (h : KeptControl). h.control) same.1);
               hardware = refl;
             },
-          ))
-          turns.outcome;
+          )) turns.outcome;
     })
 says_at given hs i d g (Err want) at lt same = grind (arith, same_control hs i d g)
 

@@ -10,9 +10,9 @@ pub settled_twice : (layout : Layout) (left : List Standing) (mode : Mode)
 settled_twice layout left mode = grind arith
 
 -- what is settled otherwise is settled
-pub settles : (layout : Layout) (mode : Mode) (left was : List Standing) → left ≡ settled layout mode was
+pub settles : (layout : Layout) (mode : Mode) {left : List Standing} (was : List Standing) → left ≡ settled layout mode was
     → left ≡ settled layout mode left
-settles layout mode left was is = grind arith
+settles layout mode was is = grind arith
 
 -- what a crash leaves is said of the files that the totals have
 pub kept_left : (changes : List TotalsChange) (old : TotalsPart) → IsSettled old.totals old.left
@@ -40,9 +40,9 @@ pub same_rest : (totals : TotalsPart) → Rest totals totals
 same_rest totals = record { layout = refl; mode = refl; left = refl }
 
 -- so a crash leaves what it left
-pub rest_settled : (old new : TotalsPart) → Rest old new → (left : List Standing)
+pub rest_settled : {old new : TotalsPart} → Rest old new → (left : List Standing)
     → settled new.totals.layout new.totals.mode left ≡ settled old.totals.layout old.totals.mode left
-rest_settled old new rests left = ap₂ (λ layout state. store_settled layout state left) rests.layout rests.mode
+rest_settled rests left = ap₂ (λ layout state. store_settled layout state left) rests.layout rests.mode
 
 -- an arrangement leaves the files, and so does the end of what a control has
 pub arranged_rest : (old : TotalsPart) (n : ℕ) (arrangement : Arrangement)

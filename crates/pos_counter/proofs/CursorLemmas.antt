@@ -10,7 +10,7 @@ use Rattle.pos_counter.proofs.Common.{true, with_run, zero, with_text, ℕ, ℤ,
 use Rattle.std.proofs.lemmas.Bool.Decides.{nat_tests}
 use Rattle.std.proofs.lemmas.Nat.{mod_below}
 use Rattle.std.specs.Prelude.{drop}
-use Rattle.pos_display.specs.DisplayCalls.{display_action, display_rows, scrolls, shows}
+use Rattle.pos_display.specs.DisplayCalls.{display_action, display_rows, shows}
 use Rattle.pos_service.specs.declared.action.ControlUpdate.TheVariants as change
 use Rattle.pos_service.specs.declared.display_text.Attribute.{Attribute}
 
@@ -60,8 +60,8 @@ pub place_set : (at : Option Kind) (c : Cursor) (p : Property) (v : Value) → t
     → IsPlaceOn at (cursor_after c p v).place
 place_set at c p v may is = grind (arith, with_row, with_column)
 
-pub first_place : (rows columns : ℕ) → 1 ≤ rows → IsPlace rows columns origin
-first_place rows columns some = grind (arith, nat_tests)
+pub first_place : {rows : ℕ} (columns : ℕ) → 1 ≤ rows → IsPlace rows columns origin
+first_place columns some = grind (arith, nat_tests)
 
 -- the first place is one of each display
 pub place_opened : (at : Option Kind) → IfSome at IsInRange → IsPlaceOn at origin
@@ -69,28 +69,27 @@ place_opened at range = grind (arith, first_place)
 
 -- ---- texts
 
-run_column : (columns : ℕ) (run : List ℕ) (strip : Strip) → 0 < columns → strip.place.column ≤ columns
+run_column : {columns : ℕ} (run : List ℕ) (strip : Strip) → 0 < columns → strip.place.column ≤ columns
     → (with_run columns run strip).place.column ≤ columns
-run_column columns run strip some le = grind (arith, mod_below)
+run_column run strip some le = grind (arith, mod_below)
 
 -- a text leaves the place on the strip at most one right of the last column
-text_column : (columns : ℕ) (run bytes : List ℕ) (strip : Strip) → 0 < columns → strip.place.column ≤ columns
+text_column : {columns : ℕ} (run bytes : List ℕ) (strip : Strip) → 0 < columns → strip.place.column ≤ columns
     → (with_text columns run bytes strip).place.column ≤ columns
-text_column columns run [] strip some le = run_column columns run strip some le
-text_column columns run (b ∷ bytes) strip some le =
+text_column run [] strip some le = run_column run strip some le
+text_column {columns = columns} run (b ∷ bytes) strip some le =
     let within = λ (s : Strip). s.place.column ≤ columns in
     cond_both (b == 10) _ _ within
-    (λ feeds. text_column columns [] bytes (fed (with_run columns run strip)) some (omega arith))
+    (λ feeds. text_column [] bytes (fed (with_run columns run strip)) some (omega arith))
     (λ other. cond_both (b == 13) _ _ within
-    (λ returns. text_column columns [] bytes (returned (with_run columns run strip)) some (omega arith))
-    (λ plain. text_column columns (run ++ b ∷ []) bytes strip some le))
+    (λ returns. text_column [] bytes (returned (with_run columns run strip)) some (omega arith))
+    (λ plain. text_column (run ++ b ∷ []) bytes strip some le))
 
 -- a text leaves the cursor at a place
-pub text_place : (rows columns : ℕ) (update : Bool) (start : Place) (bytes : List ℕ) → 0 < rows → 0 < columns
-    → IsPlace rows columns start
-    → IsPlace rows columns (place_left rows columns update start bytes)
-text_place rows columns false start bytes tall wide is = is
-text_place rows columns true start bytes tall wide is = grind (arith, nat_tests, and_from, text_column)
+pub text_place : {rows columns : ℕ} (update : Bool) (start : Place) (bytes : List ℕ) → 0 < rows → 0 < columns
+    → IsPlace rows columns start → IsPlace rows columns (place_left rows columns update start bytes)
+text_place false start bytes tall wide is = is
+text_place true start bytes tall wide is = grind (arith, nat_tests, and_from, text_column)
 
 -- ---- what calls come to
 
@@ -106,9 +105,9 @@ DeedStaysOn at was (Changes what) = StaysOn at was what
 DeedStaysOn at was (Queues given) = ⊤
 
 -- what comes of an attribute, or of a direction, is one
-one_of : {A : Type 0} (f : A → Action) (o : Option A) (d : Action) (P : Action → Type 0) → ((a : A) → P (f a))
+one_of : {A : Type 0} {f : A → Action} (o : Option A) {d : Action} (P : Action → Type 0) → ((a : A) → P (f a))
     → option_map f o ≡ Some d → P d
-one_of f o d P each is = grind (arith, same_Some)
+one_of o P each is = grind (arith, same_Some)
 
 -- of a display
 module _ (rows columns : ℕ) (cursor : Cursor) (tall : 1 ≤ rows) (wide : 1 ≤ columns) where
@@ -116,32 +115,31 @@ module _ (rows columns : ℕ) (cursor : Cursor) (tall : 1 ≤ rows) (wide : 1 �
   at = Some (Display rows columns)
 
   -- a text from a place leaves the cursor at one
-  text_stays : (start : Place) (text : List ℕ) (style : Option Attribute) (d : Action)
+  text_stays : (start : Place) (text : List ℕ) (style : Option Attribute) {d : Action}
       → (IsPlace rows columns cursor.place → IsPlace rows columns start)
       → option_map (shows at cursor start text) style ≡ Some d → DeedStaysOn at cursor.place d
-  text_stays start text style d within is = search (rules, one_of, text_place)
+  text_stays start text style within is = search (rules, one_of, text_place)
 
   display_stays : (asked : Call) (d : Action) → NoneApplies (display_rows at asked)
       → display_action at cursor asked ≡ Some d → DeedStaysOn at cursor.place d
   display_stays (DisplayText text attribute) d allowed is =
-      text_stays cursor.place text (attribute_of attribute) d (λ i. i) is
+      text_stays cursor.place text (attribute_of attribute) (λ i. i) is
   display_stays (DisplayTextAt row column text attribute) d allowed is =
       let (row_allowed, others) = allowed in
       let first = with_row rows columns origin row (unless_not (is_index rows row) row_allowed)
-      (first_place rows columns tall) in
+      (first_place columns tall) in
       let start = with_column rows columns (record { row = nat_abs row; column = 0 }) column
       (unless_not (is_up_to columns column) others.0) first in
-      text_stays (record { row = nat_abs row; column = nat_abs column }) text (attribute_of attribute) d (λ i. start) is
+      text_stays (record { row = nat_abs row; column = nat_abs column }) text (attribute_of attribute) (λ i. start) is
   display_stays ClearText d allowed is =
-      subst (DeedStaysOn at cursor.place) (same_Some _ d is) (λ i display. first_place rows columns tall)
+      subst (DeedStaysOn at cursor.place) (same_Some _ d is) (λ i display. first_place columns tall)
   display_stays (ScrollText direction units) d allowed is =
-      one_of (scrolls units) (direction_of direction) d (DeedStaysOn at cursor.place) (λ way. tt) is
+      one_of (direction_of direction) (DeedStaysOn at cursor.place) (λ way. tt) is
   display_stays asked d allowed is = absurd cc
 
 -- a call whose arguments are allowed comes to what leaves the cursor at a place of the device, which serves the
 -- category
-pub deed_called : (k : Category) (is : Kind) (c : Control) (asked : Call) (d : Action) → serves k is ≡ true
-    → IsInRange is
-    → NoneApplies (device_rows k (Some is) c asked) → device_action k (Some is) c asked ≡ Some d
+pub deed_called : (k : Category) (is : Kind) (c : Control) (asked : Call) {d : Action} → serves k is ≡ true
+    → IsInRange is → NoneApplies (device_rows k (Some is) c asked) → device_action k (Some is) c asked ≡ Some d
     → DeedStaysOn (Some is) c.cursor.place d
-deed_called k is c asked d served range allowed e = grind (arith, display_stays)
+deed_called k is c asked served range allowed e = grind (arith, display_stays)

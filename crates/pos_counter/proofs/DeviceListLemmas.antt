@@ -24,9 +24,9 @@ pub found_same : (name : List ℕ) (list : List Registered)
     → place_of (devices_of list) name ≡ registered_place (names_of list) name
 found_same name list = ap (λ names. registered_place names name) (names_stay list)
 
-pub found_first : (name : List ℕ) (list : List Registered) (place : ℕ)
+pub found_first : (name : List ℕ) (list : List Registered) {place : ℕ}
     → registered_place (names_of list) name ≡ Some place → place_of (devices_of list) name ≡ Some place
-found_first name list place is = found_same name list ∙ is
+found_first name list is = found_same name list ∙ is
 
 -- and a name that isn't registered has none
 pub kind_unnamed : (name : List ℕ) (list : List Registered) → registered_place (names_of list) name ≡ None
@@ -36,9 +36,9 @@ kind_unnamed name list is = ap (λ o. kind_in (device_at (devices_of list) o)) (
 -- ---- what stands at a place
 
 -- what is at a place of the registry is at that place of the machine
-pub registered_there : (list : List Registered) (place : ℕ) (d : Registered) → slice_get list place ≡ Some d
+pub registered_there : (list : List Registered) (place : ℕ) {d : Registered} → slice_get list place ≡ Some d
     → slice_get (devices_of list) place ≡ Some (device_of d)
-registered_there list place d at = slice_get-map device_of list place ∙ ap (option_map device_of) at
+registered_there list place at = slice_get-map device_of list place ∙ ap (option_map device_of) at
 
 -- another peripheral, or none, at a device is other hardware, or none
 pub devices_with : (list : List Registered) (place : ℕ) (d : Registered) (x : Option PeripheralState)
@@ -49,30 +49,30 @@ devices_with [] place d x at = cc
 devices_with (y ∷ list) zero d x at = search rules
 devices_with (y ∷ list) (suc place) d x at = ap (λ ds. device_of y ∷ ds) (devices_with list place d x at)
 
-served_kind : (d : Registered) (was : PeripheralState) → IsServed d → d.peripheral ≡ Some was → d.kind ≡ was.kind
-served_kind d was served is = search rules
+served_kind : (d : Registered) {was : PeripheralState} → IsServed d → d.peripheral ≡ Some was → d.kind ≡ was.kind
+served_kind d served is = search rules
 
 -- what stands at a place serves a device there, and is of its kind
-served_at : (list : List Registered) (place : ℕ) (was : PeripheralState) → AllByRecursion IsServed list
+served_at : (list : List Registered) (place : ℕ) {was : PeripheralState} → AllByRecursion IsServed list
     → standing_at list place ≡ Some was
     → (d : Registered) × (slice_get list place ≡ Some d) × (d.peripheral ≡ Some was) × (d.kind ≡ was.kind)
-served_at [] place was served is = absurd cc
-served_at (d ∷ list) zero was served is = (d, refl, is, served_kind d was served.0 is)
-served_at (d ∷ list) (suc place) was served is = served_at list place was served.1 is
+served_at [] place served is = absurd cc
+served_at (d ∷ list) zero served is = (d, refl, is, served_kind d served.0 is)
+served_at (d ∷ list) (suc place) served is = served_at list place served.1 is
 
 -- what is done with what serves a device
-pub done_there : {hs gs : List KeptControl} (list new : List Registered) (place : ℕ) (was now : PeripheralState)
+pub done_there : {hs gs : List KeptControl} (list : List Registered) {new : List Registered} (place : ℕ) (was now : PeripheralState)
     (Does : Effect) → AllByRecursion IsServed list → standing_at list place ≡ Some was
     → new ≡ with_peripheral list place (Some now)
     → Does (controls_of hs) (hardware_of was) (controls_of gs) (hardware_of now)
     → IsDoneAt (devices_of list) place Does hs gs (devices_of new)
-done_there list new place was now Does served stands is does =
-    let there = served_at list place was served stands in
+done_there list place was now Does served stands is does =
+    let there = served_at list place served stands in
     record {
       device = device_of there.0;
       before = hardware_of was;
       after = hardware_of now;
-      is_device = registered_there list place there.0 there.1;
+      is_device = registered_there list place there.1;
       is_attached = ap (option_map hardware_of) there.2;
       kind = there.3;
       does = does;
@@ -116,14 +116,13 @@ kinds_hold (d ∷ list) kinds served = search (rules, has_its_kind, (kinds_hold 
 -- the device of a name that the registry has
 named_device : (list : List Registered) (name : List ℕ) (d : Registered) → IsNamed list name d
     → device_at (devices_of list) (place_of (devices_of list) name) ≡ Some (device_of d)
-named_device list name d is = ap (device_at (devices_of list)) (found_first name list is.place is.found)
-    ∙ registered_there list is.place d is.at
+named_device list name d is = ap (device_at (devices_of list)) (found_first name list is.found)
+    ∙ registered_there list is.place is.at
 
 module _ (hs : List KeptControl) (list new : List Registered) (name : List ℕ) (cl : List (Option ℕ))
     (tn : Option (List ℕ)) (part : TotalsPart) where
   -- nothing has changed
-  same_machine : new ≡ list → machine_with hs cl (devices_of new) tn part
-      ≡ machine_with hs cl (devices_of list) tn part
+  same_machine : new ≡ list → machine_with hs cl (devices_of new) tn part ≡ machine_with hs cl (devices_of list) tn part
   same_machine is = ap (λ xs. machine_with hs cl (devices_of xs) tn part) is
 
   -- what stands at a place of the registry
@@ -136,14 +135,13 @@ module _ (hs : List KeptControl) (list new : List Registered) (name : List ℕ) 
       (result : Result (Unit {0}) (AttachFault × B))
       → IfErr result (λ refusal. refusal.1 ≡ peripheral) → Attaches list name (state peripheral) result new
       → Step (machine_with hs cl (devices_of list) tn part) (Attach name (hardware_of (state peripheral)))
-      (attached state result)
-      (machine_with hs cl (devices_of new) tn part)
+      (attached state result) (machine_with hs cl (devices_of new) tn part)
   attach_step state peripheral (Ok u) back h =
       record {
         place = h.place;
         device = device_of h.may.device;
-        is_at = found_first name list h.place h.found;
-        is_device = registered_there list h.place h.may.device h.may.at;
+        is_at = found_first name list h.found;
+        is_device = registered_there list h.place h.may.at;
         is_vacant = ap (option_map hardware_of) h.may.vacant;
         kind = sym h.may.kind;
         machine = rw (h.served, devices_with list h.place h.may.device (Some (state peripheral)) h.may.at);
@@ -171,8 +169,8 @@ module _ (hs : List KeptControl) (list new : List Registered) (name : List ℕ) 
       record {
         place = h.0.place;
         device = device_of d.0;
-        is_at = found_first name list h.0.place h.0.found;
-        is_device = registered_there list h.0.place d.0 d.1;
+        is_at = found_first name list h.0.found;
+        is_device = registered_there list h.0.place d.1;
         is_attached = ap (option_map hardware_of) d.2 ∙ ap (λ s. Some (hardware_of s)) (sym h.0.parked);
         is_closed = sym (told h.0.place h.0.found) ∙ h.1;
         machine = ap (λ xs. machine_with hs cl xs tn part)
@@ -186,7 +184,7 @@ module _ (hs : List KeptControl) (list new : List Registered) (name : List ℕ) 
       let named : IsNamed list name h.0.device = h.0.named in (
         record {
           place = named.place;
-          is_at = found_first name list named.place named.found;
+          is_at = found_first name list named.found;
           is_attached = rw (named_device list name h.0.device named, h.0.served);
           is_open = sym (told named.place named.found) ∙ h.1;
         },

@@ -26,15 +26,13 @@ runs_anyhow bound peripherals failures a c (s ∷ steps) left is run =
     let B = machine_of_counter peripherals b (part_with now next failures) in
     let as_step =
     λ (spared : Spared left failures (machine_of_counter peripherals a) a.totals s.0 s.1
-    (machine_of_counter peripherals b) b.totals).
-    subst (λ l. Step A s.0 s.1 (machine_of_counter peripherals b (part_with now l failures))) (spared.is_settled is)
-    (spared.step is) in
+    (machine_of_counter peripherals b) b.totals). subst (λ l. Step A s.0 s.1
+    (machine_of_counter peripherals b (part_with now l failures))) (spared.is_settled is) (spared.step is) in
     let first : StepSparing A s.0 s.1 B = (
       λ spares. as_step (run.1.spared left failures spares),
       ⊎_elim (λ spared. inl (as_step spared))
           (λ alone. inr (alone_over A s.0 (machine_of_counter peripherals b (part_with now left failures))
-          (part_with now next failures) alone))
-          (run.1.otherwise left failures),
+          (part_with now next failures) alone)) (run.1.otherwise left failures),
     ) in
     record {
       after = rest.after;

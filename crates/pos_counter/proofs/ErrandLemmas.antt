@@ -24,10 +24,8 @@ module _ {D P : Type 0} (bound : DiskGhosts D) (peripherals : Ghosts P) (old : C
   over_leaves : (left : List Standing) → Leaves bound old.totals left → Leaves bound over.totals left
   over_leaves left leaves = record {
     honest = keeps.honest.0 leaves.honest;
-    leaves = λ bytes may. leaves.leaves bytes
-        (same_may (bound.state disk) (bound.state old.totals.disk) bytes
-        (same_again (bound.state old.totals.disk) (bound.state disk) (keeps.same leaves.honest))
-        may);
+    leaves = λ bytes may. leaves.leaves bytes (same_may (bound.state disk) (bound.state old.totals.disk) bytes
+        (same_again (bound.state old.totals.disk) (bound.state disk) (keeps.same leaves.honest)) may);
     is_settled = leaves.is_settled;
   }
 
@@ -40,8 +38,7 @@ module _ {D P : Type 0} (bound : DiskGhosts D) (peripherals : Ghosts P) (old : C
 
   -- a run before it
   over_before : (first : Counter D P) (left : List Standing) (steps : List (Request × Response))
-      → RunsFrom bound peripherals left first steps old
-      → RunsFrom bound peripherals left first steps over
+      → RunsFrom bound peripherals left first steps old → RunsFrom bound peripherals left first steps over
   over_before first left steps runs =
       let A = machine peripherals first (part_of bound first.totals left) in
       let P : Machine → Type 0 = λ M. (run : Run A steps M)
@@ -114,8 +111,7 @@ module _ {D P : Type 0} (bound : DiskGhosts D) (peripherals : Ghosts P) {old new
       (over_leaves bound peripherals old new.totals.disk is.disk left leaves)
 
   pub same_before : (first : Counter D P) (left : List Standing) (steps : List (Request × Response))
-      → RunsFrom bound peripherals left first steps old
-      → RunsFrom bound peripherals left first steps new
+      → RunsFrom bound peripherals left first steps old → RunsFrom bound peripherals left first steps new
   same_before first left steps runs =
       subst (λ (c : Counter D P). RunsFrom bound peripherals left first steps c) (sym is.same)
       (over_before bound peripherals old new.totals.disk is.disk first left steps runs)
@@ -154,11 +150,11 @@ back_left a b c [] more run rest bytes h =
     (subst (λ r. IsLeftDuring b more c r bytes) (sym (subst_refl (λ n. Run n more c) rest)) h) run
 back_left a b c (s ∷ steps) more run rest bytes h = inr (back_left run.0 b c steps more run.2 rest bytes h)
 
-pub runs_on : {D P : Type 0} (bound : DiskGhosts D) (peripherals : Ghosts P) (first mid last : Counter D P)
+pub runs_on : {D P : Type 0} (bound : DiskGhosts D) (peripherals : Ghosts P) (first mid : Counter D P) {last : Counter D P}
     (left : List Standing)
     (steps more : List (Request × Response)) (runs : RunsFrom bound peripherals left first steps mid)
     → RunsFrom bound peripherals runs.after mid more last → RunsFrom bound peripherals left first (steps ++ more) last
-runs_on bound peripherals first mid last left steps more runs rest =
+runs_on bound peripherals first mid {last = last} left steps more runs rest =
     let A = machine peripherals first (part_of bound first.totals left) in
     let B = machine peripherals mid (part_of bound mid.totals runs.after) in
     let C = machine peripherals last (part_of bound last.totals rest.after) in
@@ -168,9 +164,8 @@ runs_on bound peripherals first mid last left steps more runs rest =
       leaves = rest.leaves;
       run = whole;
       any_moment = followed_by (bound.state first.totals.disk) (bound.state mid.totals.disk)
-          (bound.state last.totals.disk) P
-          (weaker (bound.state first.totals.disk) (bound.state mid.totals.disk) (IsLeftDuring A steps B runs.run) P
-          (front_left A B C steps more runs.run rest.run) runs.any_moment)
+          (bound.state last.totals.disk) P (weaker (bound.state first.totals.disk) (bound.state mid.totals.disk)
+          (IsLeftDuring A steps B runs.run) P (front_left A B C steps more runs.run rest.run) runs.any_moment)
           (weaker (bound.state mid.totals.disk) (bound.state last.totals.disk) (IsLeftDuring B more C rest.run) P
           (back_left A B C steps more runs.run rest.run) rest.any_moment);
     }

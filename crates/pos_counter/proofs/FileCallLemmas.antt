@@ -34,17 +34,15 @@ pub data Comes (P : Type 0) (old : Totals) (result : Answer) (new : Totals) : Li
       → Comes P old result new (change ∷ others)
 
 grouped : (P : Type 0) (old : Totals) (transactions : List (Option (List TotalsChange))) (change : TotalsChange)
-    (others : List TotalsChange) (given : Value)
-    (result : Answer) (new : Totals)
-    → RunsOut old (change ∷ others) result new
-    ⊎ GroupDone P (record old { transactions = transactions }) (change ∷ others) given result new
+    (others : List TotalsChange) (given : Value) (result : Answer) (new : Totals)
+    → RunsOut old (change ∷ others) result new ⊎ GroupDone P (record old { transactions = transactions })
+    (change ∷ others) given result new
     → Comes P old result new (change ∷ others)
 grouped P old transactions change others given result new (inl out) = Stays old.transactions (λ some. rw out.2 tt) out.3
 grouped P old transactions change others given result new (inr done) = Groups change others transactions given done
 
 pub puts_comes : (asked : FileCall) (P : Type 0) (old : Totals) (n : ℕ) (result : Answer) (new : Totals)
-    → Puts asked P old n result new
-    → Comes P old result new (changes_asked old n asked)
+    → Puts asked P old n result new → Comes P old result new (changes_asked old n asked)
 puts_comes (Makes change) P old n result new does = elim (match_cases (transaction_of old n) _ _ does) [
   | inl x ↦ rw x.0 (elim (decided_cases x.1) [
     | inl y ↦ grouped P old old.transactions change [] (given_by old.next change) result new y.1
@@ -68,11 +66,11 @@ puts_so : (asked : FileCall) (P Q : Type 0) (old : Totals) (n : ℕ) (result : A
 puts_so asked P Q old n result new to does = grind (arith, match_cases, decided_weaker)
 
 -- the totals do so
-totals_do : (asked : FileCall) (old : TotalsPart) (n : ℕ) (result : Answer) (new : TotalsPart)
+totals_do : (asked : FileCall) {old : TotalsPart} (n : ℕ) {result : Answer} {new : TotalsPart}
     → PutsChanges (λ answer totals. Puts asked (Rises old.failures new.failures) old.totals n answer totals) old
     (changes_asked old.totals n asked)
     result new → TotalsDo asked old n result new
-totals_do asked old n result new puts = grind arith
+totals_do asked n puts = grind arith
 
 -- it keeps the layout, and without changes the mode
 comes_layout : {P : Type 0} {old new : Totals} {result : Answer} {changes : List TotalsChange}
@@ -134,13 +132,11 @@ module _ {D : Type 0} (bound : DiskGhosts D) (old new : TotalsView D) (n : ℕ) 
           leaves = record {
             honest = puts.kept.honest.0 leaves.honest;
             leaves = passes.now;
-            is_settled = rw layout
-                (settled_twice old.totals.layout
-                (in_doubt old.totals.layout old.totals.next left changes old.totals.mode) new.totals.mode);
+            is_settled = rw layout (settled_twice old.totals.layout (in_doubt old.totals.layout old.totals.next left
+                changes old.totals.mode) new.totals.mode);
           };
           answer = answers left after (bound.state old.disk).failures (bound.state new.disk).failures
-              (λ some failed. failed leaves.honest) refl
-              (puts.counts leaves.honest) (puts.kept.later leaves.honest);
+              (λ some failed. failed leaves.honest) refl (puts.counts leaves.honest) (puts.kept.later leaves.honest);
           any_moment = subst (λ l. LeavesOnly (bound.state old.disk) (bound.state new.disk) (StandsForEither l after))
               (sym leaves.is_settled) passes.any_moment;
         }
@@ -182,14 +178,15 @@ module _ {D : Type 0} (bound : DiskGhosts D) (old new : TotalsView D) (n : ℕ) 
       | inl x ↦
           let (unrefused, done) = x in
           let (answered, arranges) = done in
-          ap (λ (t : Totals). settled t.layout t.mode left) arranges
-          ∙ rest_settled (part_with old.totals left 0) _
+          ap (λ (t : Totals). settled t.layout t.mode left) arranges ∙ rest_settled
           (arranged_rest (part_with old.totals left 0) n arrangement) left
       | inr x ↦ same_settled x.1 left
     ];
-    answer = λ left failures so. rw is
-        (decided_weaker (λ done. (done.0, ap (λ (t : Totals). part_with t left failures) done.1))
-        (same_part left failures) arranged.answer);
+    answer = λ left failures so. rw is (decided_weaker (λ done. (
+      done.0,
+      ap (λ (t : Totals). part_with t left failures)
+          done.1,
+    )) (same_part left failures) arranged.answer);
   })
   calls_files (Err want) (Arranges arrangement) is takes arranged = absurd arranged
   calls_files outcome Nothing is takes calls = absurd calls

@@ -20,17 +20,15 @@ use Rattle.pos_counter.proofs.SoundnessLemmas.{seated}
 
 -- a device whose hardware is as it was
 same_device : (ds : List Device) (place : ℕ) (d : Device) (before after : Hardware) → slice_get ds place ≡ Some d
-    → d.hardware ≡ Some before
-    → after ≡ before → set ds place (record d { hardware = Some after }) ≡ ds
+    → d.hardware ≡ Some before → after ≡ before → set ds place (record d { hardware = Some after }) ≡ ds
 same_device ds place d before after at is same =
     ap (set ds place) (ap (λ (o : Option Hardware). let y : Device = record d { hardware = o } in y)
-    (ap Some same ∙ sym is)
-    ∙ sym (get_or_from_slice_get ds place d d at)) ∙ set-get_or ds place d
+    (ap Some same ∙ sym is) ∙ sym (get_or_from_slice_get ds place d d at)) ∙ set-get_or ds place d
 
 -- the device at the place that a control has open has a peripheral, and may be called
-pub served_there : (m : Machine) (n : ℕ) (c : Control) (place : ℕ) → IsSound m → slice_get m.controls n ≡ Some c
+pub served_there : {m : Machine} {n : ℕ} {c : Control} (place : ℕ) → IsSound m → slice_get m.controls n ≡ Some c
     → c.device ≡ Some (At place) → MayBeCalled m.devices place m.controls n
-served_there m n c place sound found is =
+served_there {m = m} {n = n} {c = c} place sound found is =
     let (device, there, served) = matched (slice_get m.devices place) (IsServedFor c.category c.cursor.place)
     (rw is at (seated m n c sound found)) in
     let (fits, attached, on_it) = served in
@@ -63,9 +61,9 @@ let_refusals m n c asked own lets =
 -- ---- what is done with what stands at a place
 
 -- controls that were changed in place stand in the same list
-pub kept_in_place : {X Z : Type 0} (v : Vec X Z) (lent now : List X) → lent ≡ v.items → length now ≡ length lent
+pub kept_in_place : {X Z : Type 0} (v : Vec X Z) {lent : List X} (now : List X) → lent ≡ v.items → length now ≡ length lent
     → (with_items v now).items ≡ now
-kept_in_place v lent now is count = with_items_is v now (omega (arith, count, ap length is, v.ok.0))
+kept_in_place v now is count = with_items_is v now (omega (arith, count, ap length is, v.ok.0))
 
 module _ (hs gs : List KeptControl) (ds es : List Device) (cl : List (Option ℕ)) (tn : Option (List ℕ))
     (part : TotalsPart) (place : ℕ) where
@@ -107,15 +105,13 @@ module _ (hs gs : List KeptControl) (ds es : List Device) (cl : List (Option ℕ
 
   -- a call of a category's own is a step
   pub device_step : (n : ℕ) (c : Control) (asked : Call) (r : Result Answer NoMemory) → is_common asked ≡ false
-      → slice_get (controls_of hs) n ≡ Some c
-      → c.device ≡ Some (At place) → IsDoneAt ds place (CallsAt n cl asked r) hs gs es
-      → Step old (CallOf n asked) (answered r) new
+      → slice_get (controls_of hs) n ≡ Some c → c.device ≡ Some (At place)
+      → IsDoneAt ds place (CallsAt n cl asked r) hs gs es → Step old (CallOf n asked) (answered r) new
   device_step n c asked r own found device done =
       by_outcome r (MatchOption-at_some ⊥
       (λ control. OwnCalled control.category (device_rows control.category (Some done.before.kind) control asked)
-      (device_action control.category (Some done.before.kind) control asked) n cl asked r control
-      (controls_of hs) done.before (controls_of gs) done.after)
-      c found done.does)
+      (device_action control.category (Some done.before.kind) control asked) n cl asked r control (controls_of hs)
+      done.before (controls_of gs) done.after) c found done.does)
     where
       kind : kind_of old c ≡ Some done.before.kind
       kind = rw (device, done.is_device, done.kind)
@@ -138,8 +134,7 @@ module _ (hs gs : List KeptControl) (ds es : List Device) (cl : List (Option ℕ
       at_hardware result does =
           let there = ap open_place device in
           let here = MatchOption-at_some ⊥
-          (λ place'. DeviceDoes c.category (Some done.before.kind) n c asked result place'
-          (controls_of hs) done.before
+          (λ place'. DeviceDoes c.category (Some done.before.kind) n c asked result place' (controls_of hs) done.before
           (controls_of gs) done.after) place there does in
           on_hardware (open_place c.device) (DeviceDoes c.category (kind_of old c) n c asked result) there
           (let there = rw (← kind) at here in search (done.is_device, done.is_attached, done.kind, there, done.changed))
@@ -166,16 +161,15 @@ closed_refuses m n c asked own closed = ap first_refusal (own_call m n c asked o
     closed_table holder rest = rw closed refl
 
 -- what the check of a control of Hard Totals refuses, the table of its call refuses
-pub totals_refuse : (m : Machine) (n : ℕ) (c : Control) (asked : Call) (refusal : Answer) → c.category ≡ HardTotals
+pub totals_refuse : (m : Machine) (n : ℕ) (c : Control) (asked : Call) {refusal : Answer} → c.category ≡ HardTotals
     → c.device ≡ Some TheTotals
     → ((rest : List Row) → first_refusal (table n m.totals.totals.area c (needs_of HardTotals asked) rest)
     ≡ Some refusal)
     → first_refusal (table n (holder_of m c) c (needs_of c.category asked) (own_rows c.device m n c asked))
     ≡ Some refusal
-totals_refuse m n c asked refusal is opens refuses =
+totals_refuse m n c asked is opens refuses =
     ap₂ (λ k d. first_refusal (table n (holder_in m.claims m.totals.totals.area d) c (needs_of k asked)
-    (own_rows c.device m n c asked))) is opens
-    ∙ refuses (own_rows c.device m n c asked)
+    (own_rows c.device m n c asked))) is opens ∙ refuses (own_rows c.device m n c asked)
 
 -- what its check lets through, the rest of the table decides
 pub totals_let : (m : Machine) (n : ℕ) (c : Control) (asked : Call) → c.category ≡ HardTotals
@@ -187,16 +181,16 @@ totals_let m n c asked is opens lets rest =
     ∙ lets rest
 
 -- what is true of the control with a number
-pub at_number : (controls : List Control) (n : ℕ) (c : Control) (Is : Control → Type 0) → slice_get controls n ≡ Some c
+pub at_number : (controls : List Control) (n : ℕ) {c : Control} (Is : Control → Type 0) → slice_get controls n ≡ Some c
     → MatchOption (slice_get controls n) ⊥ Is → Is c
-at_number controls n c Is found is = MatchOption-at_some ⊥ Is c found is
+at_number controls n {c = c} Is found is = MatchOption-at_some ⊥ Is c found is
 
 -- ---- what holds a device
 
 -- the device at whose place an open control is has a claim
-pub covered : (m : Machine) (n : ℕ) (c : Control) → IsSound m → slice_get m.controls n ≡ Some c
+pub covered : {m : Machine} (n : ℕ) {c : Control} → IsSound m → slice_get m.controls n ≡ Some c
     → IfSome (open_place c.device) (λ place. place < length m.claims)
-covered m n c sound found = by c.device (seated m n c sound found)
+covered {m = m} n {c = c} sound found = by c.device (seated m n c sound found)
   where
     by : (device : Option OpenDevice) → IsOpenFor m.devices c.category c.cursor.place device
         → IfSome (open_place device) (λ place. place < length m.claims)

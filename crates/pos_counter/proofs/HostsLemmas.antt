@@ -24,23 +24,20 @@ use Rattle.pos_counter.specs.declared.counter.Counter.{Counter}
 use Rattle.pos_counter.specs.declared.devices.Devices.{Devices}
 
 -- a device whose peripheral is to the counter as it was
-pub same_peripheral : (devices : List Registered) (place : ℕ) (state : PeripheralState)
-    → standing_at devices place ≡ Some state
-    → with_peripheral devices place (Some state) ≡ devices
-same_peripheral [] place state is = refl
-same_peripheral (device ∷ devices) zero state is = ap (λ p. record device { peripheral = p } ∷ devices) (sym is)
-same_peripheral (device ∷ devices) (suc place) state is =
-    ap (λ ds. device ∷ ds) (same_peripheral devices place state is)
+pub same_peripheral : (devices : List Registered) (place : ℕ) {state : PeripheralState}
+    → standing_at devices place ≡ Some state → with_peripheral devices place (Some state) ≡ devices
+same_peripheral [] place is = refl
+same_peripheral (device ∷ devices) zero is = ap (λ p. record device { peripheral = p } ∷ devices) (sym is)
+same_peripheral (device ∷ devices) (suc place) is =
+    ap (λ ds. device ∷ ds) (same_peripheral devices place is)
 
 -- a counter whose devices are to it as they were is sound
-pub same_sound : {D P : Type 0} (peripherals : Ghosts P) (old : Counter D P) (devices : Devices P)
+pub same_sound : {D P : Type 0} {peripherals : Ghosts P} {old : Counter D P} {devices : Devices P}
     → devices_in peripherals devices ≡ devices_in peripherals old.devices → IsCounterSound peripherals old
-    → AreDevicesSound peripherals devices
-    → IsCounterSound peripherals (record old { devices = devices })
-same_sound peripherals old devices same sound are = record {
+    → AreDevicesSound peripherals devices → IsCounterSound peripherals (record old { devices = devices })
+same_sound {old = old} {devices = devices} same sound are = record {
   machine = λ part. subst (λ ds. IsSound (machine_with old.controls.items old.claims ds old.totals_name part))
-      (sym same)
-      (sound.machine part);
+      (sym same) (sound.machine part);
   devices = are;
 }
 
@@ -52,38 +49,35 @@ standing_there peripherals (slot ∷ slots) zero = refl
 standing_there peripherals (slot ∷ slots) (suc place) = standing_there peripherals slots place
 
 pub served_there : {P : Type 0} (peripherals : Ghosts P) (slots : List (Slot P)) (place : ℕ)
-    → is_some (peripheral_at slots place) ≡ true
-    → is_some (standing_at (registered_of peripherals slots) place) ≡ true
+    → is_some (peripheral_at slots place) ≡ true → is_some (standing_at (registered_of peripherals slots) place) ≡ true
 served_there peripherals slots place is = grind (arith, standing_there peripherals slots place)
 
 module _ {P : Type 0} (course_of : P → Course) where
-  set_there : (slots : List (Slot P)) (place : ℕ) (slot : Slot P) (before after : P) (change : Course → Course)
-      → slice_get slots place ≡ Some slot
-      → slot.peripheral ≡ Some before → course_of after ≡ change (course_of before)
+  set_there : (slots : List (Slot P)) (place : ℕ) {slot : Slot P} {before after : P} (change : Course → Course)
+      → slice_get slots place ≡ Some slot → slot.peripheral ≡ Some before → course_of after ≡ change (course_of before)
       → hosts_of course_of (slice_set slots place (slot_with slot after)) ≡ changed_at change place
       (hosts_of course_of slots)
-  set_there [] place slot before after change at is same = refl
-  set_there (first ∷ slots) zero slot before after change at is same = rw (same_Some first slot at, is, same) refl
-  set_there (first ∷ slots) (suc place) slot before after change at is same =
-      ap (λ hs. host_of course_of first ∷ hs) (set_there slots place slot before after change at is same)
+  set_there [] place change at is same = refl
+  set_there (first ∷ slots) zero {slot = slot} change at is same = rw (same_Some first slot at, is, same) refl
+  set_there (first ∷ slots) (suc place) change at is same =
+      ap (λ hs. host_of course_of first ∷ hs) (set_there slots place change at is same)
 
-  with_there : (slots : Vec (Slot P) Global) (place : ℕ) (o : Option (Slot P)) (before after : P)
+  with_there : (slots : Vec (Slot P) Global) (place : ℕ) (o : Option (Slot P)) {before after : P}
       (change : Course → Course) → slice_get slots.items place ≡ o
       → option_and_then (λ slot. slot.peripheral) o ≡ Some before → course_of after ≡ change (course_of before)
       → hosts_of course_of (slots_with slots place o after).items ≡ changed_at change place
       (hosts_of course_of slots.items)
-  with_there slots place None before after change at is same = grind (arith, is)
-  with_there slots place (Some slot) before after change at is same =
-      set_there slots.items place slot before after change at is same
+  with_there slots place None change at is same = grind (arith, is)
+  with_there slots place (Some slot) change at is same =
+      set_there slots.items place change at is same
 
   -- another peripheral serves the device at a place
-  pub hosts_with : (slots : Vec (Slot P) Global) (place : ℕ) (before after : P) (change : Course → Course)
-      → peripheral_at slots.items place ≡ Some before
-      → course_of after ≡ change (course_of before)
+  pub hosts_with : (slots : Vec (Slot P) Global) (place : ℕ) {before after : P} (change : Course → Course)
+      → peripheral_at slots.items place ≡ Some before → course_of after ≡ change (course_of before)
       → hosts_of course_of (slots_with slots place (slice_get slots.items place) after).items ≡ changed_at change place
       (hosts_of course_of slots.items)
-  hosts_with slots place before after change is same =
-      with_there slots place (slice_get slots.items place) before after change refl is same
+  hosts_with slots place change is same =
+      with_there slots place (slice_get slots.items place) change refl is same
 
   vacant_here : (change : Course → Course) (name : List ℕ) (o : Option P) → is_some o ≡ false
       → changed_host change (name, option_map course_of o) ≡ (name, option_map course_of o)
@@ -101,11 +95,11 @@ module _ {P : Type 0} (course_of : P → Course) where
       ap (λ hs. host_of course_of slot ∷ hs) (vacant_same change slots place none)
 
   -- the slot at a place is that device
-  pub slot_pends : (slots : List (Slot P)) (place : ℕ) (slot : Slot P) → slice_get slots place ≡ Some slot
+  pub slot_pends : (slots : List (Slot P)) (place : ℕ) {slot : Slot P} → slice_get slots place ≡ Some slot
       → pends_at (hosts_of course_of slots) place ≡ has_pending (host_of course_of slot)
-  slot_pends [] place slot at = grind (arith, at)
-  slot_pends (first ∷ slots) zero slot at = ap (λ s. has_pending (host_of course_of s)) (same_Some first slot at)
-  slot_pends (first ∷ slots) (suc place) slot at = slot_pends slots place slot at
+  slot_pends [] place at = grind (arith, at)
+  slot_pends (first ∷ slots) zero {slot = slot} at = ap (λ s. has_pending (host_of course_of s)) (same_Some first slot at)
+  slot_pends (first ∷ slots) (suc place) at = slot_pends slots place at
 
   -- a place without a slot has no order
   pub none_pends : (slots : List (Slot P)) (place : ℕ) → slice_get slots place ≡ None
@@ -130,9 +124,9 @@ module _ {P : Type 0} (course_of : P → Course) where
   pending_served (slot ∷ slots) (suc place) pends = pending_served slots place pends
 
 -- the places behind the first
-pub tail_first : (host : Host) (hosts : List Host) (place : ℕ) → IsFirstPending (host ∷ hosts) (suc place)
+pub tail_first : {host : Host} {hosts : List Host} {place : ℕ} → IsFirstPending (host ∷ hosts) (suc place)
     → IsFirstPending hosts place
-tail_first host hosts place first = record {
+tail_first first = record {
   pends = first.pends;
   none_before = λ lower less. first.none_before (suc lower) (omega (arith, less));
 }
@@ -144,7 +138,7 @@ first_changed change [] place first = refl
 first_changed change (host ∷ hosts) zero first = rw first.pends refl
 first_changed change (host ∷ hosts) (suc place) first =
     rw (first.none_before zero (omega arith))
-    (ap (λ hs. host ∷ hs) (first_changed change hosts place (tail_first host hosts place first)))
+    (ap (λ hs. host ∷ hs) (first_changed change hosts place (tail_first first)))
 
 -- no device has an order
 pub tail_none : (host : Host) (hosts : List Host) → NonePending (host ∷ hosts) → NonePending hosts
@@ -166,25 +160,22 @@ none_found [] none = refl
 none_found (host ∷ hosts) none = passed_over host hosts (none zero) ∙ none_found hosts (tail_none host hosts none)
 
 -- the first device with an order is found
-pub first_found : {P : Type 0} (course_of : P → Course) (slots : List (Slot P)) (place : ℕ) (slot : Slot P)
-    (peripheral : P)
+pub first_found : {P : Type 0} (course_of : P → Course) (slots : List (Slot P)) (place : ℕ) {slot : Slot P}
+    {peripheral : P}
     → IsFirstPending (hosts_of course_of slots) place → slice_get slots place ≡ Some slot
-    → slot.peripheral ≡ Some peripheral
-    → pending_of (hosts_of course_of slots) ≡ Some (slot.name, course_of peripheral)
-first_found course_of [] place slot peripheral first at is = grind (arith, at)
-first_found course_of (s ∷ slots) zero slot peripheral first at is =
+    → slot.peripheral ≡ Some peripheral → pending_of (hosts_of course_of slots) ≡ Some (slot.name, course_of peripheral)
+first_found course_of [] place first at is = grind (arith, at)
+first_found course_of (s ∷ slots) zero {slot = slot} {peripheral = peripheral} first at is =
     let same = same_Some s slot at in
     let pends : is_pending (course_of peripheral) ≡ true =
     subst (λ o. has_pending (slot.name, option_map course_of o) ≡ true) is
     (subst (λ x. has_pending (host_of course_of x) ≡ true) same first.pends) in
     subst (λ x. pending_of (host_of course_of x ∷ hosts_of course_of slots) ≡ Some (slot.name, course_of peripheral))
-    (sym same)
-    (subst (λ o. pending_of ((slot.name, option_map course_of o) ∷ hosts_of course_of slots) ≡ Some
+    (sym same) (subst (λ o. pending_of ((slot.name, option_map course_of o) ∷ hosts_of course_of slots) ≡ Some
     (slot.name, course_of peripheral)) (sym is) (rw pends refl))
-first_found course_of (s ∷ slots) (suc place) slot peripheral first at is =
-    passed_over (host_of course_of s) (hosts_of course_of slots) (first.none_before zero (omega arith))
-    ∙ first_found course_of slots place slot peripheral
-    (tail_first (host_of course_of s) (hosts_of course_of slots) place first) at is
+first_found course_of (s ∷ slots) (suc place) first at is =
+    passed_over (host_of course_of s) (hosts_of course_of slots) (first.none_before zero (omega arith)) ∙ first_found
+    course_of slots place (tail_first first) at is
 
 module _ {P : Type 0} (course_of : P → Course) (slots : List (Slot P)) (place : ℕ)
     (first : IsFirstPending (hosts_of course_of slots) place) where
@@ -194,7 +185,7 @@ module _ {P : Type 0} (course_of : P → Course) (slots : List (Slot P)) (place 
 
   pub has_peripheral : (slot : Slot P) → slice_get slots place ≡ Some slot → slot.peripheral ≡ None → ⊥
   has_peripheral slot at none = false≢true
-      (sym (slot_pends course_of slots place slot at ∙ vacant_pends course_of slot none) ∙ first.pends)
+      (sym (slot_pends course_of slots place at ∙ vacant_pends course_of slot none) ∙ first.pends)
 
 -- no device from a place on has an order
 pub pends_past : (hosts : List Host) (place : ℕ) → length hosts ≤ place → pends_at hosts place ≡ false
@@ -204,16 +195,15 @@ pends_past (host ∷ hosts) (suc place) past = pends_past hosts place (omega (ar
 
 -- no device before a place has an order, nor has the one there
 pub none_more : (hosts : List Host) (place : ℕ) → ((lower : ℕ) → lower < place → pends_at hosts lower ≡ false)
-    → pends_at hosts place ≡ false
-    → (lower : ℕ) → lower < place + 1 → pends_at hosts lower ≡ false
+    → pends_at hosts place ≡ false → (lower : ℕ) → lower < place + 1 → pends_at hosts lower ≡ false
 none_more hosts place before here lower below = ⊎_elim (λ less. before lower less)
     (λ reached. subst (λ k. pends_at hosts k ≡ false) (omega (arith, below, reached)) here) (cases_lt lower place)
 
 -- no device before their end has an order
-pub none_all : {P : Type 0} (course_of : P → Course) (slots : List (Slot P)) (place : ℕ)
+pub none_all : {P : Type 0} (course_of : P → Course) (slots : List (Slot P)) {place : ℕ}
     → ((lower : ℕ) → lower < place → pends_at (hosts_of course_of slots) lower ≡ false) → length slots ≤ place
     → NonePending (hosts_of course_of slots)
-none_all course_of slots place before all any = ⊎_elim (λ less. before any less)
+none_all course_of slots {place = place} before all any = ⊎_elim (λ less. before any less)
     (λ reached. pends_past (hosts_of course_of slots) any
     (omega (arith, all, reached, length-map slots (λ s. host_of course_of s)))) (cases_lt any place)
 
@@ -272,8 +262,7 @@ changed_found change None = None
 changed_found change (Some (name, c)) = Some (name, change c)
 
 here_changed : (change : Course → Course) → ((c : Course) → is_pending c ≡ true → is_pending (change c) ≡ true)
-    → (b : Bool) (name : List ℕ) (c : Course)
-    (hosts : List Host) → is_pending c ≡ b
+    → (b : Bool) (name : List ℕ) (c : Course) (hosts : List Host) → is_pending c ≡ b
     → pending_of (changed_pending change hosts) ≡ changed_found change (pending_of hosts)
     → pending_of (changed_pending change ((name, Some c) ∷ hosts)) ≡ changed_found change
     (pending_of ((name, Some c) ∷ hosts))
@@ -282,8 +271,7 @@ here_changed change keeps false name c hosts is rest = rw (is, is) rest
 
 -- the order that was pending is the one still
 pub pending_changed : (change : Course → Course) → ((c : Course) → is_pending c ≡ true → is_pending (change c) ≡ true)
-    → (hosts : List Host)
-    → pending_of (changed_pending change hosts) ≡ changed_found change (pending_of hosts)
+    → (hosts : List Host) → pending_of (changed_pending change hosts) ≡ changed_found change (pending_of hosts)
 pending_changed change keeps [] = refl
 pending_changed change keeps ((name, None) ∷ hosts) = pending_changed change keeps hosts
 pending_changed change keeps ((name, Some c) ∷ hosts) =
@@ -318,9 +306,8 @@ then_reported done (Some (name, course.Reported asked is_done)) = refl
 
 -- the place of a name, in a list that begins at a place
 abbrev pub NamedFrom : {P : Type 0} → (P → Course) → List (Slot P) → ℕ → List ℕ → ℕ → Type 0
-NamedFrom course_of slots at name place = (k : ℕ) × (place ≡ at + k)
-    × ((change : Course → Course) → changed_named change name (hosts_of course_of slots) ≡ changed_at change k
-    (hosts_of course_of slots))
+NamedFrom course_of slots at name place = (k : ℕ) × (place ≡ at + k) × ((change : Course → Course) → changed_named
+    change name (hosts_of course_of slots) ≡ changed_at change k (hosts_of course_of slots))
     × (course_named name (hosts_of course_of slots) ≡ option_map course_of (peripheral_at slots k))
 
 module _ {P : Type 0} (peripherals : Ghosts P) (course_of : P → Course) where
@@ -340,13 +327,13 @@ module _ {P : Type 0} (peripherals : Ghosts P) (course_of : P → Course) where
         rw is course,
       )
 
-  named_from : (slots : List (Slot P)) (at place : ℕ) (name : List ℕ)
+  named_from : (slots : List (Slot P)) (at : ℕ) {place : ℕ} (name : List ℕ)
       → registered_from at name (names_of (registered_of peripherals slots)) ≡ Some place
       → NamedFrom course_of slots at name place
-  named_from [] at place name found = grind (arith, found)
-  named_from (slot ∷ slots) at place name found =
+  named_from [] at name found = grind (arith, found)
+  named_from (slot ∷ slots) at {place = place} name found =
       named_or (bytes_eq name slot.name) slot slots at place name refl
-      (λ later. named_from slots (at + 1) place name later) found
+      (λ later. named_from slots (at + 1) name later) found
 
   unnamed_or : (b : Bool) (slot : Slot P) (slots : List (Slot P)) (at : ℕ) (name : List ℕ) → bytes_eq name slot.name ≡ b
       → (registered_from (at + 1) name (names_of (registered_of peripherals slots)) ≡ None
@@ -366,12 +353,12 @@ module _ {P : Type 0} (peripherals : Ghosts P) (course_of : P → Course) where
       (λ later. unnamed_from slots (at + 1) name later) found
 
   -- the device that the registry finds
-  pub named_there : (slots : List (Slot P)) (place : ℕ) (name : List ℕ)
+  pub named_there : (slots : List (Slot P)) {place : ℕ} (name : List ℕ)
       → registered_from 0 name (names_of (registered_of peripherals slots)) ≡ Some place
       → IsNamedAt name (hosts_of course_of slots) place
       × (course_named name (hosts_of course_of slots) ≡ option_map course_of (peripheral_at slots place))
-  named_there slots place name found =
-      let (k, same, changes, course) = named_from slots 0 place name found in
+  named_there slots {place = place} name found =
+      let (k, same, changes, course) = named_from slots 0 name found in
       let is : k ≡ place = omega (arith, same) in (
         λ change. subst (λ n. changed_named change name (hosts_of course_of slots) ≡ changed_at change n
             (hosts_of course_of slots)) is (changes change),
@@ -393,10 +380,8 @@ absent_here change (name, None) is = refl
 absent_here change (name, Some c) is = grind (arith, is)
 
 absent_or : (b : Bool) (change : Course → Course) (name : List ℕ) (host : Host) (hosts : List Host)
-    → bytes_eq name host.0 ≡ b
-    → (course_named name hosts ≡ None → changed_named change name hosts ≡ hosts)
-    → course_named name (host ∷ hosts) ≡ None
-    → changed_named change name (host ∷ hosts) ≡ host ∷ hosts
+    → bytes_eq name host.0 ≡ b → (course_named name hosts ≡ None → changed_named change name hosts ≡ hosts)
+    → course_named name (host ∷ hosts) ≡ None → changed_named change name (host ∷ hosts) ≡ host ∷ hosts
 absent_or true change name host hosts is rest none =
     rw is (ap (λ h. h ∷ hosts) (absent_here change host (rw is at none)))
 absent_or false change name host hosts is rest none = rw is (ap (λ hs. host ∷ hs) (rest (rw is at none)))

@@ -23,9 +23,8 @@ match_weaker o P Q R S f g h = grind arith
 
 -- a table's decision, weakened
 pub decided_weaker : {rows : List Row} {result : Answer} {Same Done Kept Did : Type 0} → (Done → Did) → (Same → Kept)
-    → Decided rows result Same Done
-    → Decided rows result Kept Did
-decided_weaker {rows = rows} done same d = search (rules, match_weaker)
+    → Decided rows result Same Done → Decided rows result Kept Did
+decided_weaker done same d = search (rules, match_weaker)
 
 -- a table that refuses nothing, and one that refuses
 pub decided_none : {rows : List Row} {result : Answer} {Same Done : Type 0} → first_refusal rows ≡ None → Done
@@ -33,8 +32,7 @@ pub decided_none : {rows : List Row} {result : Answer} {Same Done : Type 0} → 
 decided_none none done = record { outcome = rw none done }
 
 pub decided_some : {rows : List Row} {result refusal : Answer} {Same Done : Type 0} → first_refusal rows ≡ Some refusal
-    → result ≡ refusal → Same
-    → Decided rows result Same Done
+    → result ≡ refusal → Same → Decided rows result Same Done
 decided_some some is same = record { outcome = rw some (is, same) }
 
 -- a refusal acknowledges nothing
@@ -66,37 +64,34 @@ pub kept_at : (hs : List KeptControl) (n : ℕ) (h : KeptControl) → n < length
 kept_at hs n h lt is = control_at hs n h lt ∙ ap (λ (k : KeptControl). Some k.control) (sym is)
 
 -- it is one
-pub kept_same : (hs : List KeptControl) (n : ℕ) (h k : KeptControl) → n < length hs → h ≡ get_or hs n h
+pub kept_same : (hs : List KeptControl) {n : ℕ} {h : KeptControl} (k : KeptControl) → n < length hs → h ≡ get_or hs n h
     → k ≡ get_or hs n k → h ≡ k
-kept_same hs n h k lt is also = is ∙ get_or_default hs n h k lt ∙ sym also
+kept_same hs {n = n} {h = h} k lt is also = is ∙ get_or_default hs n h k lt ∙ sym also
 
 -- the machine with one control in the place of another
 pub set_machine : (hs : List KeptControl) (cl : List (Option ℕ)) (ds : List Device) (tn : Option (List ℕ))
-    (part : TotalsPart) (n : ℕ)
-    (g : KeptControl) (c : Control) → g.control ≡ c
-    → machine_with (set hs n g) cl ds tn part ≡ with_control (machine_with hs cl ds tn part) n c
-set_machine hs cl ds tn part n g c e = search (rules, map-set)
+    (part : TotalsPart) (n : ℕ) (g : KeptControl) {c : Control}
+    → g.control ≡ c → machine_with (set hs n g) cl ds tn part ≡ with_control (machine_with hs cl ds tn part) n c
+set_machine hs cl ds tn part n g e = search (rules, map-set)
 
 -- the machine whose control is as it was
 pub kept_machine : (hs : List KeptControl) (cl : List (Option ℕ)) (ds : List Device) (tn : Option (List ℕ))
-    (part : TotalsPart) (n : ℕ)
-    (g h : KeptControl) → g ≡ h → h ≡ get_or hs n h
-    → machine_with (set hs n g) cl ds tn part ≡ machine_with hs cl ds tn part
-kept_machine hs cl ds tn part n g h same is =
+    (part : TotalsPart) (n : ℕ) {g h : KeptControl}
+    → g ≡ h → h ≡ get_or hs n h → machine_with (set hs n g) cl ds tn part ≡ machine_with hs cl ds tn part
+kept_machine hs cl ds tn part n {h = h} same is =
     ap (λ (ks : List KeptControl). machine_with ks cl ds tn part) (ap (set hs n) (same ∙ is) ∙ set-get_or hs n h)
 
 -- a call that other rows decide, with the same refusal, is a step
 pub decided_step : (m m' : Machine) (n : ℕ) (c : Control) (asked : Call) (r : Answer) (rows : List Row)
     (Same Done : Type 0)
     → slice_get m.controls n ≡ Some c → first_refusal (refusals m n c asked) ≡ first_refusal rows → (Same → m' ≡ m)
-    → (Done → Does m n c asked r m')
-    → Decided rows r Same Done → Step m (CallOf n asked) (Answered r) m'
+    → (Done → Does m n c asked r m') → Decided rows r Same Done → Step m (CallOf n asked) (Answered r) m'
 decided_step m m' n c asked r rows Same Done found refused same does d =
     rw found (record { outcome = rw refused (decided_weaker does same d).outcome })
 
 -- a property that is told, or for which there is no memory, is a step
-pub get_step : (m : Machine) (n : ℕ) (c : Control) (p : Property) (r : Result Answer NoMemory)
+pub get_step : (m : Machine) (n : ℕ) {c : Control} (p : Property) (r : Result Answer NoMemory)
     → slice_get m.controls n ≡ Some c
     → Gets (get_rows n (holder_of m c) c (context_of m n c) p) p (property_of c (context_of m n c) p) r
     → Step m (CallOf n (Get p)) (answered r) m
-get_step m n c p r found h = grind (arith, decided_step)
+get_step m n p r found h = grind (arith, decided_step)

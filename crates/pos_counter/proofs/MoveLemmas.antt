@@ -8,9 +8,9 @@ use Rattle.pos_counter.proofs.PrefixRunLemmas.{some_left}
 use Rattle.pos_counter.proofs.PrefixLemmas.{made_by_layout_2}
 
 -- a prefix by the layout of the history is one
-kept_through : (history : History) (standing : Standing) → IsPrefixOf history standing
+kept_through : (history : History) {standing : Standing} → IsPrefixOf history standing
     → IsPrefixThrough history standing
-kept_through history standing is = record {
+kept_through history is = record {
   prefix = is.prefix;
   first = is.first;
   holds = is.holds;
@@ -23,9 +23,9 @@ kept_through history standing is = record {
 }
 
 -- and so are its files, moved
-moved_through : (history : History) (standing : Standing) → IsPrefixOf history standing
+moved_through : (history : History) {standing : Standing} → IsPrefixOf history standing
     → IsPrefixThrough history (moved standing)
-moved_through history standing is = record {
+moved_through history is = record {
   prefix = is.prefix;
   first = is.first;
   holds = is.holds;
@@ -33,25 +33,25 @@ moved_through history standing is = record {
   by = inr refl;
   files = is.files;
   sequence = 1;
-  made = made_by_layout_2 history.layout history.start is.prefix is.files is.made;
+  made = made_by_layout_2 history.layout history.start is.prefix is.made;
   stands = ap moved is.stands;
 }
 
 -- bytes that stand for one of the standings that were moved
-some_moved : (P : Standing → Type 0) (left : List Standing) (bytes : List ℕ)
+some_moved : (P : Standing → Type 0) (left : List Standing) {bytes : List ℕ}
     → ((standing : Standing) → IsOneOf left standing → P (moved standing))
     → StandsForOneOf (map moved left) bytes → StandsForSome P bytes
-some_moved P [] bytes each is = absurd is
-some_moved P (standing ∷ left) bytes each (inl is) =
+some_moved P [] each is = absurd is
+some_moved P (standing ∷ left) each (inl is) =
     record { standing = moved standing; stands = is; has = each standing (inl refl) }
-some_moved P (standing ∷ left) bytes each (inr is) = some_moved P left bytes (λ other one. each other (inr one)) is
+some_moved P (standing ∷ left) each (inr is) = some_moved P left (λ other one. each other (inr one)) is
 
 -- what a move leaves
 pub through : (history : History) (left : List Standing)
     → ((standing : Standing) → IsOneOf left standing → IsPrefixOf history standing)
     → (bytes : List ℕ) → StandsForEither left (map moved left) bytes → StandsForSome (IsPrefixThrough history) bytes
 through history left each bytes either = ⊎_elim
-    (λ was. some_left (IsPrefixThrough history) left bytes
-    (λ standing one. kept_through history standing (each standing one)) was)
-    (λ is. some_moved (IsPrefixThrough history) left bytes
-    (λ standing one. moved_through history standing (each standing one)) is) either
+    (λ was. some_left (IsPrefixThrough history) left
+    (λ standing one. kept_through history (each standing one)) was)
+    (λ is. some_moved (IsPrefixThrough history) left
+    (λ standing one. moved_through history (each standing one)) is) either

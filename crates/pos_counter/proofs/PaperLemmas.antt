@@ -17,24 +17,22 @@ use Rattle.pos_service.specs.Hardware.{StaysInService}
 use Rattle.pos_service.specs.declared.faults.NoMemory.{NoMemory}
 
 -- a peripheral whose paper is taken away stays in service
-pub stays_in_service : (was now : PeripheralState) (outcome : Result (Unit {0}) NoMemory) → was.is_parked ≡ false
-    → TearsOff was outcome now
-    → StaysInService was now
-stays_in_service was now (Ok done) unparked torn = rw torn (record { unparked = unparked; kind = refl })
-stays_in_service was now (Err want) unparked same = rw same (record { unparked = unparked; kind = refl })
+pub stays_in_service : {was now : PeripheralState} (outcome : Result (Unit {0}) NoMemory) → was.is_parked ≡ false
+    → TearsOff was outcome now → StaysInService was now
+stays_in_service (Ok done) unparked torn = rw torn (record { unparked = unparked; kind = refl })
+stays_in_service (Err want) unparked same = rw same (record { unparked = unparked; kind = refl })
 
 -- what becomes of the devices
-pub torn_there : (list new : List Registered) (place : ℕ) (was now : PeripheralState)
-    (outcome : Result (Unit {0}) NoMemory)
+pub torn_there : (list : List Registered) {new : List Registered} (place : ℕ) {was : PeripheralState}
+    (now : PeripheralState) (outcome : Result (Unit {0}) NoMemory)
     → AllByRecursion IsServed list → standing_at list place ≡ Some was → new ≡ with_peripheral list place (Some now)
-    → TearsOff was outcome now
-    → (helds : List KeptControl) → MatchResult outcome
-    (λ done. IsDoneAt (devices_of list) place IsTorn helds helds (devices_of new))
+    → TearsOff was outcome now → (helds : List KeptControl)
+    → MatchResult outcome (λ done. IsDoneAt (devices_of list) place IsTorn helds helds (devices_of new))
     (λ want. devices_of new ≡ devices_of list)
-torn_there list new place was now (Ok done) served stands is torn helds =
-    done_there list new place was now IsTorn served stands is (refl, ap hardware_of torn)
-torn_there list new place was now (Err want) served stands is same helds = ap devices_of
-    (is ∙ ap (λ s. with_peripheral list place (Some s)) same ∙ same_peripheral list place was stands)
+torn_there list place {was = was} now (Ok done) served stands is torn helds =
+    done_there list place was now IsTorn served stands is (refl, ap hardware_of torn)
+torn_there list place now (Err want) served stands is same helds = ap devices_of
+    (is ∙ ap (λ s. with_peripheral list place (Some s)) same ∙ same_peripheral list place stands)
 
 -- a device that stands to its host as it did
 same_host : (host : Host) → changed_host (λ c. c) host ≡ host
@@ -47,9 +45,8 @@ same_at (host ∷ hosts) zero = ap (λ h. h ∷ hosts) (same_host host)
 same_at (host ∷ hosts) (suc place) = ap (λ hs. host ∷ hs) (same_at hosts place)
 
 -- a machine is sound behind it
-pub torn_sound : (m m' : Machine) (at : Option ℕ) → OnHardware m at (λ place. IsTorn) m' → IsSound m → IsSound m'
-torn_sound m m' at torn sound = on_hardware_sound m m' at (λ place. IsTorn)
-    (λ place before new after stands does. record {
-      kind = ap (λ (h : Hardware). h.kind) does.1;
-      seats = λ all. rw does.0 all;
-    }) torn sound
+pub torn_sound : {m m' : Machine} {at : Option ℕ} → OnHardware m at (λ place. IsTorn) m' → IsSound m → IsSound m'
+torn_sound {m = m} torn sound = on_hardware_sound m (λ place. IsTorn) (λ place before new after stands does. record {
+  kind = ap (λ (h : Hardware). h.kind) does.1;
+  seats = λ all. rw does.0 all;
+}) torn sound

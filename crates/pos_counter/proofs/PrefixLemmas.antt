@@ -31,13 +31,13 @@ these_files (Err fault) found is = absurd cc
 these_files (Ok files) found is =
     ap (λ (fs : List PlainFile). Ok fs) ((pointwise_decides file_decides files found).0 is)
 
-are_these : (made : Result (List PlainFile) DirectoryFault) (found : List PlainFile) → made ≡ Ok found
+are_these : {made : Result (List PlainFile) DirectoryFault} (found : List PlainFile) → made ≡ Ok found
     → has_made made found ≡ true
-are_these made found is = ap (λ o. has_made o found) is ∙ (pointwise_decides file_decides found found).1 refl
+are_these found is = ap (λ o. has_made o found) is ∙ (pointwise_decides file_decides found found).1 refl
 
-pub same_Ok : (files others : List PlainFile) → ◌≡◌ {A = Result (List PlainFile) DirectoryFault} (Ok files) (Ok others)
+pub same_Ok : {files others : List PlainFile} → ◌≡◌ {A = Result (List PlainFile) DirectoryFault} (Ok files) (Ok others)
     → files ≡ others
-same_Ok files others same = cc
+same_Ok same = cc
 
 -- what is made after something is made of what that made
 pub made_then : (first : Result (List PlainFile) DirectoryFault)
@@ -116,16 +116,14 @@ pub record Fits (history : History) (totals : TotalsPart) : Type 0 where
       × (history.doubt ≡ None)
   pub is_settled : IsSettled totals.totals totals.left
 
-pub same_stands : (layout other : Layout) (files others : List PlainFile) (m n : ℕ)
-    → Stands layout files m ≡ Stands other others n
-    → (layout ≡ other) × (files ≡ others) × (m ≡ n)
-same_stands layout other files others m n same = (cc, cc, cc)
+pub same_stands : {layout other : Layout} {files others : List PlainFile} {m n : ℕ}
+    → Stands layout files m ≡ Stands other others n → (layout ≡ other) × (files ≡ others) × (m ≡ n)
+same_stands same = (cc, cc, cc)
 
 -- totals that are ready leave their files alone
-alone : (layout : Layout) (mode : Mode) (left : List Standing) (doubt : Option Group) → IsReady mode
-    → left ≡ settled layout mode left
-    → AreAround layout (plain (files_of mode)) doubt left
-alone layout mode left doubt ready is standing one = grind arith
+alone : {layout : Layout} (mode : Mode) {left : List Standing} (doubt : Option Group) → IsReady mode
+    → left ≡ settled layout mode left → AreAround layout (plain (files_of mode)) doubt left
+alone mode doubt ready is standing one = grind arith
 
 -- ---- steps
 
@@ -147,8 +145,7 @@ decided_grows : (history : History) (doubt : Option Group) (found : List PlainFi
 decided_grows history None found = as_it_was history history.doubt
 decided_grows history (Some group) found =
     cond_both (has_made (files_after history (history.settled ++ group ∷ [])) found) (with_settled history group)
-    (without_doubt history)
-    (Grows history) (λ test. by_group history group) (λ test. as_it_was history None)
+    (without_doubt history) (Grows history) (λ test. by_group history group) (λ test. as_it_was history None)
 
 pub told_grows : (history : History) (event : FilesEvent) → Grows history (told history event)
 told_grows history (GroupAccepted group) = by_group history group
@@ -161,31 +158,29 @@ pub grows : (history : History) (event : FilesEvent) → BeginsWith (told histor
 grows history event = (told_grows history event).settled
 
 -- totals that are ready fit the history of their files
-ready_fits : (history : History) (totals : TotalsPart) → IsReady totals.totals.mode
-    → IsSettled totals.totals totals.left
-    → totals.totals.layout ≡ history.layout
+ready_fits : {history : History} {totals : TotalsPart} → IsReady totals.totals.mode
+    → IsSettled totals.totals totals.left → totals.totals.layout ≡ history.layout
     → files_after history history.settled ≡ Ok (plain (files_of totals.totals.mode)) → history.doubt ≡ None
     → Fits history totals
-ready_fits history totals is settles layout made none = search (rules, alone, settles)
+ready_fits is settles layout made = search (rules, alone, settles)
 
 -- what happens keeps the history fitting
-pub fits_next : (history : History) (old : TotalsPart) (event : FilesEvent) (new : TotalsPart) → Fits history old
-    → Happens old event new
-    → IsSettled new.totals new.left → Fits (told history event) new
-fits_next history old event new fits h settles =
+pub fits_next : {history : History} {old : TotalsPart} (event : FilesEvent) {new : TotalsPart} → Fits history old
+    → Happens old event new → IsSettled new.totals new.left → Fits (told history event) new
+fits_next event fits h settles =
     grind (arith, ready_fits, settles, one_more, same_stands, cond_both, these_files, are_these, told_grows)
 
 -- a history fits totals that start with the files after its settled groups
-pub fits_start : (history : History) (start : List PlainFile) (sequence : ℕ) (totals : TotalsPart)
+pub fits_start : {history : History} {start : List PlainFile} {sequence : ℕ} {totals : TotalsPart}
     → files_after history history.settled ≡ Ok start
     → StartsWith history.layout start sequence totals → Fits history totals
-fits_start history start sequence totals made is = search rules
+fits_start made is = search rules
 
 -- ---- a crash
 
 -- where the history fits, a crash leaves a prefix of it
-pub fits_leaves : (history : History) (totals : TotalsPart) → Fits history totals → LeavesPrefix history totals
-fits_leaves history totals fits standing is = elim (fits.around standing is) [
+pub fits_leaves : {history : History} {totals : TotalsPart} → Fits history totals → LeavesPrefix history totals
+fits_leaves {history = history} fits standing is = elim (fits.around standing is) [
   | inl w ↦ record {
     prefix = history.settled;
     first = (listed history.doubt, refl);
@@ -199,8 +194,7 @@ fits_leaves history totals fits standing is = elim (fits.around standing is) [
     prefix = history.settled ++ w.group ∷ [];
     first = (
       [],
-      ap (λ doubt. history.settled ++ listed doubt) w.doubted
-          ∙ sym (append-nil (history.settled ++ w.group ∷ [])),
+      ap (λ doubt. history.settled ++ listed doubt) w.doubted ∙ sym (append-nil (history.settled ++ w.group ∷ [])),
     );
     holds = (w.group ∷ [], refl);
     files = w.files;
@@ -211,21 +205,19 @@ fits_leaves history totals fits standing is = elim (fits.around standing is) [
 ]
 
 -- the settled groups of a history begin with those of the one before
-pub begins_on : (third second first : List Group) → BeginsWith third second → BeginsWith second first
+pub begins_on : {third second : List Group} (first : List Group) → BeginsWith third second → BeginsWith second first
     → BeginsWith third first
-begins_on third second first late early =
+begins_on first late early =
     (early.0 ++ late.0, late.1 ∙ ap (λ groups. groups ++ late.0) early.1 ∙ append_assoc first early.0 late.0)
 
 -- inside a step a crash leaves a prefix of the history before or after it
-pub fits_inside : (history : History) (old : TotalsPart) (event : FilesEvent) (new : TotalsPart) → Fits history old
-    → Fits (told history event) new
-    → LeavesPrefixInside history old (told history event) new
-fits_inside history old event new fits next left is = elim is [
-  | inl before ↦ inl (fits_leaves history old fits left before)
+pub fits_inside : (history : History) {old : TotalsPart} (event : FilesEvent) {new : TotalsPart} → Fits history old
+    → Fits (told history event) new → LeavesPrefixInside history old (told history event) new
+fits_inside history event fits next left is = elim is [
+  | inl before ↦ inl (fits_leaves fits left before)
   | inr after ↦
-      let prefix = fits_leaves (told history event) new next left after in
-      let holds = begins_on prefix.prefix (told history event).settled history.settled prefix.holds
-      (grows history event) in
+      let prefix = fits_leaves next left after in
+      let holds = begins_on history.settled prefix.holds (grows history event) in
       inr (search (prefix.first, prefix.made, prefix.stands, holds))
 ]
 
@@ -237,14 +229,12 @@ Outcome = Result (List PlainFile) DirectoryFault
 module _ (limits wider : Limits) (are : AreWider limits wider) where
   -- a change that is applicable within limits is so within wider ones
   wider_outcome : (files : List PlainFile) (change : Change) (next : List PlainFile)
-      → outcome limits files change ≡ Ok next
-      → outcome wider files change ≡ Ok next
+      → outcome limits files change ≡ Ok next → outcome wider files change ≡ Ok next
   wider_outcome files change next done = grind (arith, nat_tests)
 
   -- so is a group
   wider_group : (files : List PlainFile) (changes : List Change) (last : List PlainFile)
-      → outcome_of_all limits files changes ≡ Ok last
-      → outcome_of_all wider files changes ≡ Ok last
+      → outcome_of_all limits files changes ≡ Ok last → outcome_of_all wider files changes ≡ Ok last
   wider_group files [] last done = done
   wider_group files (change ∷ changes) last done =
       let there = made_then (outcome limits files change) (λ next. outcome_of_all limits next changes) last done in
@@ -252,18 +242,17 @@ module _ (limits wider : Limits) (are : AreWider limits wider) where
 
   -- and all groups of a history
   wider_groups : (files : List PlainFile) (groups : List Group) (last : List PlainFile)
-      → after_groups limits files groups ≡ Ok last
-      → after_groups wider files groups ≡ Ok last
+      → after_groups limits files groups ≡ Ok last → after_groups wider files groups ≡ Ok last
   wider_groups files [] last done = done
   wider_groups files (group ∷ groups) last done =
       let there = made_then (outcome_of_all limits files group) (λ next. after_groups limits next groups) last done in
       rw (wider_group files group there.0 there.1) (wider_groups there.0 groups last there.2)
 
 -- what groups make within the limits of a layout, they make within those of layout 2
-pub made_by_layout_2 : (layout : Layout) (start : List PlainFile) (groups : List Group) (files : List PlainFile)
+pub made_by_layout_2 : (layout : Layout) (start : List PlainFile) (groups : List Group) {files : List PlainFile}
     → after_groups (limits_of layout) start groups ≡ Ok files → after_groups (limits_of Layout2) start groups ≡ Ok files
-made_by_layout_2 Layout1 start groups files made = search (rules, wider_groups)
-made_by_layout_2 Layout2 start groups files made = made
+made_by_layout_2 Layout1 start groups made = search (rules, wider_groups)
+made_by_layout_2 Layout2 start groups made = made
 
 module _ (history : History) (held : List Group) (files : List PlainFile) (sequence : ℕ)
     (is : IsPrefix history held (Stands Layout1 files sequence)) where
@@ -278,7 +267,7 @@ module _ (history : History) (held : List Group) (files : List PlainFile) (seque
   -- which fits a machine that begins over these files
   pub fits_moved : (totals : TotalsPart) → StartsWith Layout2 files 1 totals
       → Fits (moved_with history is.prefix) totals
-  fits_moved totals starts = fits_start (moved_with history is.prefix) files 1 totals made_moved starts
+  fits_moved totals starts = fits_start made_moved starts
 
 -- whatever a machine runs through, the settled groups stay
 pub held_along : (history : History) (held : List Group) (old : Machine) (steps : List (Request × Response))
@@ -287,5 +276,4 @@ pub held_along : (history : History) (held : List Group) (old : Machine) (steps 
 held_along history held old [] new run begins = begins
 held_along history held old (s ∷ steps) new run begins =
     let next = history_with history old s.0 s.1 run.0 in
-    held_along next held run.0 steps new run.2
-    (begins_on next.settled history.settled held (grows history (event_of old s.0 s.1 run.0)) begins)
+    held_along next held run.0 steps new run.2 (begins_on held (grows history (event_of old s.0 s.1 run.0)) begins)

@@ -19,51 +19,46 @@ pub run_fits : (history : History) (old : Machine) (steps : List (Request × Res
     → Fits history old.totals → Fits (history_along history old steps new run) new.totals
 run_fits history old [] new run fits = subst (λ (m : Machine). Fits history m.totals) (sym run) fits
 run_fits history old (s ∷ steps) new run fits =
-    run_fits (history_with history old s.0 s.1 run.0) run.0 steps new run.2
-    (step_fits history old s.0 s.1 run.0 fits run.1)
+    run_fits (history_with history old s.0 s.1 run.0) run.0 steps new run.2 (step_fits old s.0 s.1 run.0 fits run.1)
 
 -- bytes that stand for one of the standings
-pub some_left : (P : Standing → Type 0) (left : List Standing) (bytes : List ℕ)
-    → ((standing : Standing) → IsOneOf left standing → P standing)
-    → StandsForOneOf left bytes → StandsForSome P bytes
-some_left P [] bytes each is = absurd is
-some_left P (standing ∷ left) bytes each (inl is) =
+pub some_left : (P : Standing → Type 0) (left : List Standing) {bytes : List ℕ}
+    → ((standing : Standing) → IsOneOf left standing → P standing) → StandsForOneOf left bytes → StandsForSome P bytes
+some_left P [] each is = absurd is
+some_left P (standing ∷ left) each (inl is) =
     record { standing = standing; stands = is; has = each standing (inl refl) }
-some_left P (standing ∷ left) bytes each (inr is) = some_left P left bytes (λ other one. each other (inr one)) is
+some_left P (standing ∷ left) each (inr is) = some_left P left (λ other one. each other (inr one)) is
 
 -- what bytes that are left stand for is a prefix
-pub bytes_after : (history : History) (totals : TotalsPart) (bytes : List ℕ) → Fits history totals
-    → StandsForOneOf totals.left bytes
-    → StandsForSome (IsPrefixOf history) bytes
-bytes_after history totals bytes fits is =
-    some_left (IsPrefixOf history) totals.left bytes (fits_leaves history totals fits) is
+pub bytes_after : {history : History} {totals : TotalsPart} {bytes : List ℕ} → Fits history totals
+    → StandsForOneOf totals.left bytes → StandsForSome (IsPrefixOf history) bytes
+bytes_after {history = history} {totals = totals} fits is =
+    some_left (IsPrefixOf history) totals.left (fits_leaves fits) is
 
 -- each moment of a run lies in one step
 pub bytes_along : (history : History) (old : Machine) (steps : List (Request × Response)) (new : Machine)
     (run : Run old steps new)
-    → Fits history old.totals → (bytes : List ℕ) → IsLeftDuring old steps new run bytes
+    → Fits history old.totals → {bytes : List ℕ} → IsLeftDuring old steps new run bytes
     → StandsForSome (IsPrefixAlong history old steps new run) bytes
-bytes_along history old [] new run fits bytes is = bytes_after history old.totals bytes fits is
-bytes_along history old (s ∷ steps) new run fits bytes (inl is) =
-    some_left (IsPrefixAlong history old (s ∷ steps) new run) old.totals.left bytes
-    (λ standing one. inl (inl (fits_leaves history old.totals fits standing one))) is
-bytes_along history old (s ∷ steps) new run fits bytes (inr is) =
+bytes_along history old [] new run fits is = bytes_after fits is
+bytes_along history old (s ∷ steps) new run fits (inl is) =
+    some_left (IsPrefixAlong history old (s ∷ steps) new run) old.totals.left
+    (λ standing one. inl (inl (fits_leaves fits standing one))) is
+bytes_along history old (s ∷ steps) new run fits (inr is) =
     let next = history_with history old s.0 s.1 run.0 in
-    let later = bytes_along next run.0 steps new run.2 (step_fits history old s.0 s.1 run.0 fits run.1) bytes is in
+    let later = bytes_along next run.0 steps new run.2 (step_fits old s.0 s.1 run.0 fits run.1) is in
     record { standing = later.standing; stands = later.stands; has = inr later.has }
 
 -- what bytes that are left before a step or after it stand for
-pub bytes_inside : (history : History) (old : Machine) (q : Request) (r : Response) (new : Machine) (bytes : List ℕ)
-    → Fits history old.totals
-    → Step old q r new → StandsForEither old.totals.left new.totals.left bytes
+pub bytes_inside : {history : History} (old : Machine) (q : Request) (r : Response) (new : Machine) {bytes : List ℕ}
+    → Fits history old.totals → Step old q r new → StandsForEither old.totals.left new.totals.left bytes
     → StandsForSome (IsPrefixInside history (history_with history old q r new)) bytes
-bytes_inside history old q r new bytes fits step h =
-    let inside = fits_inside history old.totals (event_of old q r new) new.totals fits
-    (step_fits history old q r new fits step) in
+bytes_inside {history = history} old q r new fits step h =
+    let inside = fits_inside history (event_of old q r new) fits (step_fits old q r new fits step) in
     elim h [
-      | inl x ↦ some_left (IsPrefixInside history (history_with history old q r new)) old.totals.left bytes
+      | inl x ↦ some_left (IsPrefixInside history (history_with history old q r new)) old.totals.left
           (λ standing one. inside standing (inl one)) x
-      | inr x ↦ some_left (IsPrefixInside history (history_with history old q r new)) new.totals.left bytes
+      | inr x ↦ some_left (IsPrefixInside history (history_with history old q r new)) new.totals.left
           (λ standing one. inside standing (inr one)) x
     ]
 
@@ -73,12 +68,11 @@ module _ (layout : Layout) (start : List PlainFile) (sequence : ℕ) (first last
     (steps : List (Request × Response)) (run : Run first steps last)
     (is : StartsWith layout start sequence first.totals) where
   pub fits_last : Fits (history_of layout start first steps last run) last.totals
-  fits_last = run_fits (begun layout start) first steps last run
-      (fits_start (begun layout start) start sequence first.totals refl is)
+  fits_last = run_fits (begun layout start) first steps last run (fits_start refl is)
 
   -- after the run
   pub law_after : LeavesPrefix (history_of layout start first steps last run) last.totals
-  law_after = fits_leaves (history_of layout start first steps last run) last.totals fits_last
+  law_after = fits_leaves fits_last
 
   -- what a recovery answers that recovers nothing
   pub law_recovers : (result : Answer) (new : TotalsPart) → Recovers last.totals result new
@@ -93,9 +87,8 @@ pub history_append : (history : History) (a b c : Machine) (steps more : List (R
     (history_along history a steps b run) b more c rest
 unfolding run_append
 history_append history a b c [] more run rest =
-    path_j (λ m e. history_along history m more c (subst (λ n. Run n more c) e rest)
-    ≡ history_along history b more c rest)
-    (ap (λ r. history_along history b more c r) (subst_refl (λ m. Run m more c) rest)) run
+    path_j (λ m e. history_along history m more c (subst (λ n. Run n more c) e rest) ≡ history_along history b more c
+    rest) (ap (λ r. history_along history b more c r) (subst_refl (λ m. Run m more c) rest)) run
 history_append history a b c (s ∷ steps) more run rest =
     history_append (history_with history a s.0 s.1 run.0) run.0 b c steps more run.2 rest
 
@@ -137,23 +130,20 @@ module _ {D P : Type 0} (bound : DiskGhosts D) (peripherals : Ghosts P) (layout 
           begins = past.begins;
           left = s.after;
           leaves = s.leaves;
-          run = run_append A B C steps
-              ((q, r) ∷ []) past.run (C, s.step, refl);
+          run = run_append A B C steps ((q, r) ∷ []) past.run (C, s.step, refl);
         };
         step = s.step;
         history = same;
         any_moment = λ bytes left. subst (λ (h : History). StandsForSome (IsPrefixInside (history_until past) h) bytes)
-            (sym same)
-            (bytes_inside (history_until past) B q r C bytes fits s.step (s.any_moment.each bytes left));
+            (sym same) (bytes_inside B q r C fits s.step (s.any_moment.each bytes left));
         now = λ bytes may. subst (λ (h : History). StandsForSome (IsPrefixOf h) bytes) (sym same)
-            (bytes_after (history_with (history_until past) B q r C) C.totals bytes
+            (bytes_after
             (run_fits (history_until past) B ((q, r) ∷ []) C (C, s.step, refl) fits) (s.leaves.leaves bytes may));
       }
 
   -- a list of requests
   pub keeps_prefixes : (steps more : List (Request × Response)) (old new : Counter D P)
-      (past : HasRun bound peripherals layout start sequence steps old)
-      (run : IsRun bound peripherals old more new)
+      (past : HasRun bound peripherals layout start sequence steps old) (run : IsRun bound peripherals old more new)
       → KeepsPrefixes bound peripherals layout start sequence steps old past more new run
   keeps_prefixes steps [] old new past run = tt
   keeps_prefixes steps (s ∷ more) old new past run =

@@ -22,21 +22,20 @@ use Rattle.pos_counter.proofs.SoundnessLemmas.{seated, set_seat, totals_category
 
 -- a property is set, or finds no memory, and nothing is recovered
 pub plain_set : (hs : List KeptControl) (cl : List (Option ℕ)) (ds : List Device) (tn : Option (List ℕ))
-    (part : TotalsPart) (n : ℕ)
-    (g h : KeptControl) (p : Property) (v : Value)
-    (r : Result Answer NoMemory) → n < length hs → h ≡ get_or hs n h → recovers part h.control p v ≡ false
-    → SetsTo (set_rows n (holder_in cl part.totals.area h.control.device)
-    (kind_in (device_at ds (open_place h.control.device))) h.control p v) (tells_power h.control p v) r h g
+    (part : TotalsPart) (n : ℕ) (g h : KeptControl) (p : Property) (v : Value) (r : Result Answer NoMemory)
+    → n < length hs → h ≡ get_or hs n h → recovers part h.control p v ≡ false
+    → SetsTo (set_rows n (holder_in cl part.totals.area h.control.device) (kind_in
+    (device_at ds (open_place h.control.device))) h.control p v) (tells_power h.control p v) r h g
     (after_set (signs_in (hardware_in (device_at ds (open_place h.control.device)))) h.control p v)
     → Step (machine_with hs cl ds tn part) (CallOf n (Set p v)) (answered r) (machine_with (set hs n g) cl ds tn part)
 plain_set hs cl ds tn part n g h p v (Ok r) lt is plain turns = rw (kept_at hs n h lt is) (decided_weaker
-    (λ done. rw plain (done.0, set_machine hs cl ds tn part n g _ done.1))
-    (λ same. kept_machine hs cl ds tn part n g h same is) turns)
+    (λ done. rw plain (done.0, set_machine hs cl ds tn part n g done.1))
+    (λ same. kept_machine hs cl ds tn part n same is) turns)
 plain_set hs cl ds tn part n g h p v (Err want) lt is plain wants = rw (kept_at hs n h lt is) (
   or_right _ _ wants.0,
   wants.1,
-  set_machine hs cl ds tn part n g h.control wants.2 ∙ sym (set_machine hs cl ds tn part n h h.control refl)
-      ∙ kept_machine hs cl ds tn part n h h refl is,
+  set_machine hs cl ds tn part n g wants.2 ∙ sym (set_machine hs cl ds tn part n h refl)
+      ∙ kept_machine hs cl ds tn part n refl is,
 )
 
 -- ---- what asks for a recovery
@@ -52,9 +51,9 @@ pub record Asking (hs : List KeptControl) (n : ℕ) (p : Property) (v : Value) (
   pub opened : is_none control.device ≡ false
   pub totals : control.device ≡ Some TheTotals
 
-pub asks_there : (hs : List KeptControl) (n : ℕ) (p : Property) (v : Value) (mode : Mode) → IsRecovering hs n p v mode
+pub asks_there : {hs : List KeptControl} {n : ℕ} {p : Property} {v : Value} {mode : Mode} → IsRecovering hs n p v mode
     → Asking hs n p v mode
-asks_there hs n p v mode h = grind (arith, matched)
+asks_there h = grind (arith, matched)
 
 module _ (c : Control) (totals : c.category ≡ HardTotals) where
   -- nothing refuses to enable it, whoever holds the area
@@ -63,12 +62,12 @@ module _ (c : Control) (totals : c.category ≡ HardTotals) where
   unrefused n holder at opened = rw (totals, opened)
 
   -- so it is enabled, without memory
-  pub done_set : (n : ℕ) (holder : Option ℕ) (kind : Option Kind) (s : Signs) (h g : KeptControl) (p : Property)
-      (v : Value) (r : Result Answer NoMemory)
+  pub done_set : (n : ℕ) (holder : Option ℕ) (kind : Option Kind) (s : Signs) (h g : KeptControl) {p : Property}
+      {v : Value} {r : Result Answer NoMemory}
       → is_none c.device ≡ false → h.control ≡ c → p ≡ DeviceEnabled → v ≡ Truth true
       → SetsTo (set_rows n holder kind h.control p v) (tells_power h.control p v) r h g (after_set s h.control p v)
       → (r ≡ Ok (Done Empty)) × (g.control ≡ after_set s c DeviceEnabled (Truth true))
-  done_set n holder kind s h g p v r opened same names gives wants = grind (arith, unrefused, and_right)
+  done_set n holder kind s h g opened same names gives wants = grind (arith, unrefused, and_right)
 
 -- ---- a recovery
 
@@ -79,8 +78,7 @@ module _ {D : Type 0} (bound : DiskGhosts D) (old new : TotalsView D) (off : old
   found_one : RecoversOneOf left (bound.state old.disk) (bound.state new.disk) old.totals r new.totals
   found_one =
       subst (λ mode. WhenOff mode (RecoversAny (bound.state old.disk) (bound.state new.disk) old.totals r new.totals))
-      off
-      (recovers.one_of leaves.honest) left leaves.leaves
+      off (recovers.one_of leaves.honest) left leaves.leaves
 
   -- a recovery leaves the files that were found, and else what it was
   recovered_leaves : Leaves bound new (settled new.totals.layout new.totals.mode left)
@@ -97,9 +95,8 @@ module _ {D : Type 0} (bound : DiskGhosts D) (old new : TotalsView D) (off : old
 -- ---- a call that recovers totals that are off
 
 module _ {D P : Type 0} (bound : DiskGhosts D) (peripherals : Ghosts P) (old new : Counter D P)
-    (sound : IsCounterSound peripherals old)
-    (devices : AreDevicesSound peripherals new.devices) (n : ℕ) (p : Property) (v : Value)
-    (there : Asking old.controls.items n p v old.totals.totals.mode) where
+    (sound : IsCounterSound peripherals old) (devices : AreDevicesSound peripherals new.devices) (n : ℕ) (p : Property)
+    (v : Value) (there : Asking old.controls.items n p v old.totals.totals.mode) where
   abbrev c : Control
   c = there.control
 
@@ -113,7 +110,7 @@ module _ {D P : Type 0} (bound : DiskGhosts D) (peripherals : Ghosts P) (old new
   enabled = after_enabling (before []) c
 
   category : c.category ≡ HardTotals
-  category = totals_category (before []) n c (sound.machine (part_of bound old.totals [])) there.at there.totals
+  category = totals_category n (sound.machine (part_of bound old.totals [])) there.at there.totals
 
   allowed : (left : List Standing) → first_refusal (refusals (before left) n c enabling) ≡ None
   allowed left = unrefused c category n (holder_of (before left) c) (kind_of (before left) c) there.opened
@@ -134,13 +131,11 @@ module _ {D P : Type 0} (bound : DiskGhosts D) (peripherals : Ghosts P) (old new
 
   -- it is a step for all that the disk may leave, and changes the totals alone, and its control
   serves : (r : Result (Unit {0}) RecoveryFault) (response : Response) → DiskRecovers bound old.totals r new.totals
-      → ((left : List Standing) → Leaves bound old.totals left
-      → Step (before left) (CallOf n enabling) response
+      → ((left : List Standing) → Leaves bound old.totals left → Step (before left) (CallOf n enabling) response
       (now (settled new.totals.totals.layout new.totals.totals.mode left)))
-      → ((part other : TotalsPart)
-      → (machine peripherals new other ≡ record (machine peripherals old part) { totals = other })
-      ⊎ (machine peripherals new other
-      ≡ record (with_control (machine peripherals old part) n enabled) { totals = other }))
+      → ((part other : TotalsPart) → (machine peripherals new other ≡ record (machine peripherals old part)
+      { totals = other }) ⊎ (machine peripherals new other ≡ record (with_control (machine peripherals old part) n
+      enabled) { totals = other }))
       → IsCounterSound peripherals new → Serves bound peripherals old (CallOf n (Set p v)) response new
   serves r response recovers step alone sound = rw (there.names, there.gives) (record {
     step = record {
@@ -166,8 +161,7 @@ module _ {D P : Type 0} (bound : DiskGhosts D) (peripherals : Ghosts P) (old new
       → DiskRecovers bound old.totals (Ok tt) new.totals
       → ((part : TotalsPart) → machine peripherals new part ≡ with_control (machine peripherals old part) n enabled)
       → Serves bound peripherals old (CallOf n (Set p v)) (answered o) new
-  recovered_serves o is recovers same = rw is (serves (Ok tt) (Answered (Done Empty)) recovers
-      (λ left leaves.
+  recovered_serves o is recovers same = rw is (serves (Ok tt) (Answered (Done Empty)) recovers (λ left leaves.
       let after = settled new.totals.totals.layout new.totals.totals.mode left in
       does (Done Empty) left after (inl (
         refl,
@@ -177,9 +171,7 @@ module _ {D P : Type 0} (bound : DiskGhosts D) (peripherals : Ghosts P) (old new
           counts = never_failed bound old.totals new.totals there.off (Ok tt) recovers left leaves (λ failed. cc);
         },
         same (part_of bound new.totals after),
-      )))
-      (λ part other. inr (same other))
-      (record {
+      ))) (λ part other. inr (same other)) (record {
         machine = λ part.
             let m = machine peripherals old part in
             let seat = set_seat m.devices (signs_at m c) c DeviceEnabled (Truth true) refl
@@ -200,7 +192,7 @@ module _ {D P : Type 0} (bound : DiskGhosts D) (peripherals : Ghosts P) (old new
     fails response step = serves (Err x) response recovers
         (λ left leaves. subst (λ after. Step (before left) (CallOf n enabling) response (now after))
         (leaves.is_settled ∙ ap (λ (t : Totals). settled t.layout t.mode left) (sym kept)) (step left leaves))
-        (λ part other. inl (same other)) (same_sound peripherals old new same sound devices)
+        (λ part other. inl (same other)) (same_sound same sound devices)
 
     same_part : (left : List Standing) → Leaves bound old.totals left
         → (IsErrOf {T = Unit {0}} (Err x) fault.Device → ⊥)

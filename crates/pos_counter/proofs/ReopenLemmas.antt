@@ -3,7 +3,7 @@ use Rattle.pos_counter.proofs.Common.{Answer, Answered, Applies, CallOf, Control
 use Rattle.pos_counter.proofs.Common.{Group, History, IsOneOf, Layout, Limits, List, Machine, Ok, PlainFile, Recovers}
 use Rattle.pos_counter.proofs.Common.{Refused, Request, Response, Rises, Run, SetsByRecovery, Some, Stands, StartsWith}
 use Rattle.pos_counter.proofs.Common.{Step, TotalsPart, Truth, [], after_groups, and_from, arith, asks_recovery, begun}
-use Rattle.pos_counter.proofs.Common.{enabling, event_of, first_refusal, history_along, history_of, history_with, inl}
+use Rattle.pos_counter.proofs.Common.{enabling, event_of, first_refusal, history_along, history_with, inl}
 use Rattle.pos_counter.proofs.Common.{inr, length, limits_of, outcome_of_all, refl, refusals, rules, slice_get, subst}
 use Rattle.pos_counter.proofs.Common.{true, ℕ, ◌∙◌, ◌∷◌, ◌≡◌, ◌≤◌}
 use Rattle.pos_dir.proofs.ChangeLemmas.{few_after_all}
@@ -29,8 +29,7 @@ module _ (layout : Layout) (start : List PlainFile) (sequence : ℕ) (old : Mach
     by_recovery result new h = grind (arith, these, plain_numbered, law_recovers)
 
     refused : (refusal : Answer) (new : Machine) → first_refusal (refusals old number control enabling) ≡ Some refusal
-        → new ≡ old
-        → FindsThem layout start sequence old number control (Answered refusal) new
+        → new ≡ old → FindsThem layout start sequence old number control (Answered refusal) new
     refused refusal new first unchanged = grind (arith, refused_undone)
 
     pub finds_them : (response : Response) (new : Machine) → slice_get old.controls number ≡ Some control
@@ -46,13 +45,13 @@ few_applied limits base files [] few is = subst (λ (fs : List PlainFile). lengt
 few_applied limits base files (text ∷ texts) few is =
     few_applied limits is.0 files texts (few_after_all limits base is.0 is.1.changes few is.1.outcome) is.2
 
-few_groups : (limits : Limits) (files next : List PlainFile) (groups : List Group) → length files ≤ limits.files
+few_groups : (limits : Limits) (files : List PlainFile) {next : List PlainFile} (groups : List Group) → length files ≤ limits.files
     → after_groups limits files groups ≡ Ok next → length next ≤ limits.files
-few_groups limits files next [] few made =
-    subst (λ (fs : List PlainFile). length fs ≤ limits.files) (same_Ok files next made) few
-few_groups limits files next (group ∷ groups) few made =
+few_groups limits files [] few made =
+    subst (λ (fs : List PlainFile). length fs ≤ limits.files) (same_Ok made) few
+few_groups limits files {next = next} (group ∷ groups) few made =
     let there = made_then (outcome_of_all limits files group) (λ mid. after_groups limits mid groups) next made in
-    few_groups limits there.0 next groups (few_after_all limits files there.0 group few there.1) there.2
+    few_groups limits there.0 groups (few_after_all limits files there.0 group few there.1) there.2
 
 -- a history keeps the layout and the files that it starts with
 abbrev HasStart : Layout → List PlainFile → History → Type 0
@@ -79,12 +78,10 @@ module _ (layout : Layout) (start : List PlainFile) (sequence : ℕ) (first last
   few_left : (other : Layout) (files : List PlainFile) (q : ℕ) → IsOneOf last.totals.left (Stands other files q)
       → length files ≤ (limits_of layout).files
   few_left other files q one =
-      let history = history_of layout start first steps last run in
       let prefix = law_after layout start sequence first last steps run is (Stands other files q) one in
       let from = along_start (begun layout start) first steps last run in
-      let same = same_stands other history.layout files prefix.files q prefix.sequence prefix.stands in
-      rw same.1 (few_groups (limits_of layout) start prefix.files prefix.prefix few
-      (rw (from.0, from.1) at prefix.made))
+      let same = same_stands prefix.stands in
+      rw same.1 (few_groups (limits_of layout) start prefix.prefix few (rw (from.0, from.1) at prefix.made))
 
   pub disk_failed : (result : Answer) (new : TotalsPart) → Recovers last.totals result new
       → (result ≡ Refused Failure 0) × Rises last.totals.failures new.failures

@@ -33,20 +33,19 @@ left_first a c [] run bytes h = h
 left_first a c (s ∷ more) run bytes h = inl h
 
 -- and so is what is left before or after its first step
-left_beside : (a b c : Machine) (s : machine.Request × machine.Response)
-    (more : List (machine.Request × machine.Response)) (step : Step a s.0 s.1 b)
-    (run : Run b more c) (bytes : List ℕ) → StandsForEither a.totals.left b.totals.left bytes
-    → IsLeftDuring a (s ∷ more) c (b, step, run) bytes
+left_beside : (a b c : Machine) (s : machine.Request × machine.Response) (more : List
+    (machine.Request × machine.Response)) (step : Step a s.0 s.1 b) (run : Run b more c) (bytes : List ℕ)
+    → StandsForEither a.totals.left b.totals.left bytes → IsLeftDuring a (s ∷ more) c (b, step, run) bytes
 left_beside a b c s more step run bytes h = grind (arith, left_first)
 
 module _ {D P : Type 0} (bound : DiskGhosts D) (peripherals : Ghosts P) where
   -- a run with one step more
-  pub runs_more : (a b c : Counter D P) (steps : List (machine.Request × machine.Response)) (q : machine.Request)
-      (r : machine.Response)
+  pub runs_more : (a : Counter D P) {b c : Counter D P} (steps : List (machine.Request × machine.Response)) {q : machine.Request}
+      {r : machine.Response}
       → IsRun bound peripherals a steps b → IsStep bound peripherals b q r c
       → IsRun bound peripherals a (steps ++ (q, r) ∷ []) c
-  runs_more a b c [] q r run next = (c, subst (λ m. IsStep bound peripherals m q r c) run next, refl)
-  runs_more a b c (s ∷ steps) q r run next = (run.0, run.1, runs_more run.0 b c steps q r run.2 next)
+  runs_more a {c = c} [] {q = q} {r = r} run next = (c, subst (λ m. IsStep bound peripherals m q r c) run next, refl)
+  runs_more a (s ∷ steps) run next = (run.0, run.1, runs_more run.0 steps run.2 next)
 
   -- a step is a run
   pub one_step : (a b : Counter D P) (q : machine.Request) (r : machine.Response) → IsStep bound peripherals a q r b
@@ -64,13 +63,11 @@ module _ {D P : Type 0} (bound : DiskGhosts D) (peripherals : Ghosts P) where
   abbrev pub MachineRuns : List Standing → Counter D P → List (machine.Request × machine.Response) → Counter D P
       → Type 0
   MachineRuns left a steps b =
-      (after : List Standing) × Leaves bound b.totals after
-      × Run (machine_of_counter peripherals a (part_of bound a.totals left)) steps
-      (machine_of_counter peripherals b (part_of bound b.totals after))
+      (after : List Standing) × Leaves bound b.totals after × Run (machine_of_counter peripherals a
+      (part_of bound a.totals left)) steps (machine_of_counter peripherals b (part_of bound b.totals after))
 
   pub machine_runs : (a b : Counter D P) (steps : List (machine.Request × machine.Response)) (left : List Standing)
-      → Leaves bound a.totals left
-      → IsRun bound peripherals a steps b → MachineRuns left a steps b
+      → Leaves bound a.totals left → IsRun bound peripherals a steps b → MachineRuns left a steps b
   machine_runs a b [] left leaves run = subst (λ n. MachineRuns left a [] n) (sym run) (left, leaves, refl)
   machine_runs a b (s ∷ steps) left leaves run =
       let first = run.1.steps left leaves in

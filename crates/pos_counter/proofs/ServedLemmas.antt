@@ -19,57 +19,52 @@ module _ {P : Type 0} (course_of : P → Course) where
       rw (none zero) (none_pending slots (tail_none (host_of course_of slot) (hosts_of course_of slots) none))
 
   -- the first device with an order
-  pub first_pending : (slots : List (Slot P)) (place : ℕ) (slot : Slot P) (peripheral : P)
-      → IsFirstPending (hosts_of course_of slots) place
-      → slice_get slots place ≡ Some slot → slot.peripheral ≡ Some peripheral
-      → pending_peripheral course_of slots ≡ Some (slot.name, peripheral)
-  first_pending [] place slot peripheral first at is = grind (arith, at)
-  first_pending (s ∷ slots) zero slot peripheral first at is =
+  pub first_pending : (slots : List (Slot P)) (place : ℕ) {slot : Slot P} {peripheral : P}
+      → IsFirstPending (hosts_of course_of slots) place → slice_get slots place ≡ Some slot
+      → slot.peripheral ≡ Some peripheral → pending_peripheral course_of slots ≡ Some (slot.name, peripheral)
+  first_pending [] place first at is = grind (arith, at)
+  first_pending (s ∷ slots) zero {slot = slot} {peripheral = peripheral} first at is =
       let same = same_Some s slot at in
-      rw first.pends
-      (subst (λ x. option_map {U = List ℕ × P} (λ found. (x.name, found)) x.peripheral ≡ Some (slot.name, peripheral))
-      (sym same)
-      (ap (λ o. option_map {U = List ℕ × P} (λ found. (slot.name, found)) o) is))
-  first_pending (s ∷ slots) (suc place) slot peripheral first at is =
-      rw (first.none_before zero (omega arith))
-      (first_pending slots place slot peripheral
-      (tail_first (host_of course_of s) (hosts_of course_of slots) place first) at is)
+      rw first.pends (subst (λ x. option_map {U = List ℕ × P} (λ found. (x.name, found)) x.peripheral ≡ Some
+      (slot.name, peripheral)) (sym same) (ap (λ o. option_map {U = List ℕ × P} (λ found. (slot.name, found)) o) is))
+  first_pending (s ∷ slots) (suc place) first at is =
+      rw (first.none_before zero (omega arith)) (first_pending slots place (tail_first first) at is)
 
 -- what is in the slot at a place
 pub vacant_there : {P : Type 0} (slots : List (Slot P)) (place : ℕ) → slice_get slots place ≡ None
     → peripheral_at slots place ≡ None
 vacant_there slots place at = ap (λ o. option_and_then (λ slot. slot.peripheral) o) at
 
-pub filled_there : {P : Type 0} (slots : List (Slot P)) (place : ℕ) (slot : Slot P) → slice_get slots place ≡ Some slot
+pub filled_there : {P : Type 0} (slots : List (Slot P)) (place : ℕ) {slot : Slot P} → slice_get slots place ≡ Some slot
     → peripheral_at slots place ≡ slot.peripheral
-filled_there slots place slot at = ap (λ o. option_and_then (λ slot. slot.peripheral) o) at
+filled_there slots place {slot = slot} at = ap (λ o. option_and_then (λ slot. slot.peripheral) o) at
 
 module _ {P : Type 0} (peripherals : Ghosts P) where
-  served_or : (b : Bool) (slot : Slot P) (slots : List (Slot P)) (at place : ℕ) (name : List ℕ)
+  served_or : (b : Bool) {slot : Slot P} (slots : List (Slot P)) (at place : ℕ) (name : List ℕ)
       → bytes_eq name slot.name ≡ b
       → (registered_from (at + 1) name (names_of (registered_of peripherals slots)) ≡ Some place
       → (k : ℕ) × (place ≡ at + 1 + k) × (served_named name slots ≡ peripheral_at slots k))
       → registered_from at name (names_of (registered_of peripherals (slot ∷ slots))) ≡ Some place
       → (k : ℕ) × (place ≡ at + k) × (served_named name (slot ∷ slots) ≡ peripheral_at (slot ∷ slots) k)
-  served_or true slot slots at place name is rest found =
+  served_or true slots at place name is rest found =
       let same = same_Some at place (rw is at found) in (0, omega (arith, same), rw is refl)
-  served_or false slot slots at place name is rest found =
+  served_or false slots at place name is rest found =
       let (k, same, serves) = rest (rw is at found) in (suc k, omega (arith, same), rw is serves)
 
-  served_from : (slots : List (Slot P)) (at place : ℕ) (name : List ℕ)
+  served_from : (slots : List (Slot P)) (at : ℕ) {place : ℕ} (name : List ℕ)
       → registered_from at name (names_of (registered_of peripherals slots)) ≡ Some place
       → (k : ℕ) × (place ≡ at + k) × (served_named name slots ≡ peripheral_at slots k)
-  served_from [] at place name found = grind (arith, found)
-  served_from (slot ∷ slots) at place name found =
-      served_or (bytes_eq name slot.name) slot slots at place name refl
-      (λ later. served_from slots (at + 1) place name later) found
+  served_from [] at name found = grind (arith, found)
+  served_from (slot ∷ slots) at {place = place} name found =
+      served_or (bytes_eq name slot.name) slots at place name refl
+      (λ later. served_from slots (at + 1) name later) found
 
   -- what serves the device that the registry finds
   pub served_at : (slots : List (Slot P)) (place : ℕ) (name : List ℕ)
       → registered_from 0 name (names_of (registered_of peripherals slots)) ≡ Some place
       → served_named name slots ≡ peripheral_at slots place
   served_at slots place name found =
-      let (k, same, serves) = served_from slots 0 place name found in
+      let (k, same, serves) = served_from slots 0 name found in
       let is : k ≡ place = omega (arith, same) in subst (λ n. served_named name slots ≡ peripheral_at slots n) is serves
 
   unserved_or : (b : Bool) (slot : Slot P) (slots : List (Slot P)) (at : ℕ) (name : List ℕ)

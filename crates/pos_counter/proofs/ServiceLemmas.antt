@@ -11,11 +11,10 @@ abbrev pub OnlyNow : {D : Type 0} → DiskGhosts D → D → Type 0
 OnlyNow bound disk = (bytes : List ℕ) → bound.honest disk
     → (bound.state disk).left_since (bound.state disk).moment bytes → MayLeave (bound.state disk) bytes
 
-module _ {D P : Type 0} (peripherals : Ghosts P) (old new : Counter D P) where
+module _ {D P : Type 0} {peripherals : Ghosts P} {old new : Counter D P} where
   -- a counter over the same machine is sound
   pub same_sound : ((part : TotalsPart) → machine peripherals new part ≡ machine peripherals old part)
-      → IsCounterSound peripherals old
-      → AreDevicesSound peripherals new.devices → IsCounterSound peripherals new
+      → IsCounterSound peripherals old → AreDevicesSound peripherals new.devices → IsCounterSound peripherals new
   same_sound same sound devices =
       record { machine = λ part. subst IsSound (sym (same part)) (sound.machine part); devices = devices }
 
@@ -25,18 +24,17 @@ module _ {D P : Type 0} (peripherals : Ghosts P) (old new : Counter D P) where
       → Step (machine peripherals old one) q r (machine peripherals new other) → IsCounterSound peripherals new
   still_sound q r one other sound devices step = record {
     machine = λ part.
-        let there = step_sound (machine peripherals old one) (machine peripherals new other) q r step
-        (sound.machine one) in
+        let there = step_sound q r step (sound.machine one) in
         record { kinds = there.kinds; places = there.places; covers = there.covers };
     devices = devices;
   }
 
   -- a step in which the totals have no part, and what a sound counter is behind it
-  pub steps_beside : (q : Request) (r : Response) → IsCounterSound peripherals old
+  pub steps_beside : {q : Request} {r : Response} → IsCounterSound peripherals old
       → AreDevicesSound peripherals new.devices → new.totals ≡ old.totals
       → ((part : TotalsPart) → Step (machine peripherals old part) q r (machine peripherals new part))
       → record { step : IsStepBeside peripherals old q r new; sound : IsCounterSound peripherals new }
-  steps_beside q r sound devices totals step =
+  steps_beside {q = q} {r = r} sound devices totals step =
       let part = part_with old.totals.totals [] 0 in
       record {
         step = record { step = step; totals = totals };
@@ -69,7 +67,7 @@ module _ {D P : Type 0} (bound : DiskGhosts D) (peripherals : Ghosts P) (old new
         let left = settled was.layout was.mode [] in
         record {
           step = quiet_step step;
-          sound = still_sound peripherals old new q r (part_with was left 0) (part_with totals left 0) sound devices
+          sound = still_sound q r (part_with was left 0) (part_with totals left 0) sound devices
               (step left 0 (settled_twice was.layout [] was.mode));
         }
 
@@ -84,5 +82,5 @@ module _ {D P : Type 0} (bound : DiskGhosts D) (peripherals : Ghosts P) (old new
       → ((part : TotalsPart) → Step (machine peripherals old part) q r (machine peripherals new part))
       → Serves bound peripherals old q r new
   stays_serves only sound totals devices step =
-      let both = steps_beside peripherals old new q r sound devices totals step in
+      let both = steps_beside sound devices totals step in
       record { step = beside_is_step only both.step; sound = both.sound }

@@ -34,10 +34,9 @@ moved_at category was now (Some device) moves h = (h.0, h.1, moves h.2)
 
 -- the cursor has moved to another place of the device that is open
 moved_seat : (ds : List Device) (category : Category) (was now : Place) (device : Option OpenDevice)
-    → (IsPlaceOn (kind_in (device_at ds (open_place device))) was
-    → IsPlaceOn (kind_in (device_at ds (open_place device))) now)
-    → IsOpenFor ds category was device
-    → IsOpenFor ds category now device
+    → (IsPlaceOn (kind_in (device_at ds (open_place device))) was → IsPlaceOn
+    (kind_in (device_at ds (open_place device))) now)
+    → IsOpenFor ds category was device → IsOpenFor ds category now device
 moved_seat ds category was now None moves h = h
 moved_seat ds category was now (Some (At place)) moves h = moved_at category was now (slice_get ds place) moves h
 moved_seat ds category was now (Some TheTotals) moves h = h
@@ -52,9 +51,9 @@ pub seated : (m : Machine) (n : ℕ) (c : Control) → IsSound m → slice_get m
 seated m n c s e = all_at (HasItsDevice m.devices) m.controls n c e s.places
 
 -- a control that has the Hard Totals open is one of theirs
-pub totals_category : (m : Machine) (n : ℕ) (c : Control) → IsSound m → slice_get m.controls n ≡ Some c
+pub totals_category : {m : Machine} (n : ℕ) {c : Control} → IsSound m → slice_get m.controls n ≡ Some c
     → c.device ≡ Some TheTotals → c.category ≡ HardTotals
-totals_category m n c s found is = rw is at (seated m n c s found)
+totals_category {m = m} n {c = c} s found is = rw is at (seated m n c s found)
 
 -- a control with its device in the place of another
 pub with_control_sound : (m : Machine) (n : ℕ) (c : Control) → HasItsDevice m.devices c → IsSound m
@@ -102,11 +101,9 @@ abbrev KeepsSeats : List Device → (Control → Control) → Type 0
 KeepsSeats ds change = (c : Control) → HasItsDevice ds c → HasItsDevice ds (change c)
 
 all_listening_keep : (ds : List Device) (place : ℕ) (change : Control → Control) (cs : List Control)
-    → KeepsSeats ds change → All (HasItsDevice ds) cs
-    → All (HasItsDevice ds) (all_listening place change cs)
+    → KeepsSeats ds change → All (HasItsDevice ds) cs → All (HasItsDevice ds) (all_listening place change cs)
 all_listening_keep ds place change cs keeps all =
-    All-map (HasItsDevice ds) (if_listening place change) cs
-    (λ k e lt.
+    All-map (HasItsDevice ds) (if_listening place change) cs (λ k e lt.
     let c = get_or cs k e in
     cond_both (listens place c) (change c) c (HasItsDevice ds) (λ on. keeps c (all k e lt)) (λ off. all k e lt))
 
@@ -114,39 +111,35 @@ reaction_keeps : (ds : List Device) (i : Input) (t : Taken) (was is : Signs) →
 reaction_keeps ds i t was is c h = grind (arith, cond_both)
 
 -- a device that has other hardware, or none, serves whom it served, unless it has lost its own
-served_with : (ds : List Device) (i k : ℕ) (d : Device) (now : Option Hardware) (category : Category) (cursor : Place)
-    → slice_get ds i ≡ Some d
-    → (k ≡ i → is_some now ≡ true) → MatchOption (slice_get ds k) ⊥ (IsServed category cursor)
+served_with : (ds : List Device) (i k : ℕ) {d : Device} (now : Option Hardware) (category : Category) (cursor : Place)
+    → slice_get ds i ≡ Some d → (k ≡ i → is_some now ≡ true) → MatchOption (slice_get ds k) ⊥ (IsServed category cursor)
     → MatchOption (slice_get (set ds i (record d { hardware = now })) k) ⊥ (IsServed category cursor)
-served_with [] i k d now category cursor is stands h = absurd h
-served_with (x ∷ ds) zero zero d now category cursor is stands h = search rules
-served_with (x ∷ ds) zero (suc k) d now category cursor is stands h = h
-served_with (x ∷ ds) (suc i) zero d now category cursor is stands h = h
-served_with (x ∷ ds) (suc i) (suc k) d now category cursor is stands h =
-    served_with ds i k d now category cursor is (λ e. stands (ap suc e)) h
+served_with [] i k now category cursor is stands h = absurd h
+served_with (x ∷ ds) zero zero now category cursor is stands h = search rules
+served_with (x ∷ ds) zero (suc k) now category cursor is stands h = h
+served_with (x ∷ ds) (suc i) zero now category cursor is stands h = h
+served_with (x ∷ ds) (suc i) (suc k) now category cursor is stands h =
+    served_with ds i k now category cursor is (λ e. stands (ap suc e)) h
 
-seat_with : (ds : List Device) (i : ℕ) (d : Device) (now : Option Hardware) → slice_get ds i ≡ Some d
-    → (category : Category) (cursor : Place)
-    (device : Option OpenDevice) → (open_place device ≡ Some i → is_some now ≡ true)
-    → IsOpenFor ds category cursor device
+seat_with : (ds : List Device) (i : ℕ) {d : Device} (now : Option Hardware) → slice_get ds i ≡ Some d
+    → (category : Category) (cursor : Place) (device : Option OpenDevice)
+    → (open_place device ≡ Some i → is_some now ≡ true) → IsOpenFor ds category cursor device
     → IsOpenFor (set ds i (record d { hardware = now })) category cursor device
-seat_with ds i d now is category cursor None stands h = h
-seat_with ds i d now is category cursor (Some (At k)) stands h =
-    served_with ds i k d now category cursor is (λ e. stands (ap (λ n. Some n) e)) h
-seat_with ds i d now is category cursor (Some TheTotals) stands h = h
+seat_with ds i now is category cursor None stands h = h
+seat_with ds i now is category cursor (Some (At k)) stands h =
+    served_with ds i k now category cursor is (λ e. stands (ap (λ n. Some n) e)) h
+seat_with ds i now is category cursor (Some TheTotals) stands h = h
 
 -- other hardware at a device, or none, keeps the machine sound, where it is of the device's kind, and is there where a
 -- control has the device open
-hardware_sound : (m : Machine) (cs : List Control) (i : ℕ) (d : Device) (now : Option Hardware)
-    → slice_get m.devices i ≡ Some d
-    → IfSome now (λ hardware. d.kind ≡ hardware.kind)
-    → All (λ c. open_place c.device ≡ Some i → is_some now ≡ true) cs
-    → All (HasItsDevice m.devices) cs
-    → IsSound m → IsSound (record m { controls = cs; devices = slice_set m.devices i (record d { hardware = now }) })
-hardware_sound m cs i d now is kind stands seats s = record {
+hardware_sound : (m : Machine) {cs : List Control} {i : ℕ} {d : Device} (now : Option Hardware)
+    → slice_get m.devices i ≡ Some d → IfSome now (λ hardware. d.kind ≡ hardware.kind)
+    → All (λ c. open_place c.device ≡ Some i → is_some now ≡ true) cs → All (HasItsDevice m.devices) cs → IsSound m
+    → IsSound (record m { controls = cs; devices = slice_set m.devices i (record d { hardware = now }) })
+hardware_sound m {i = i} {d = d} now is kind stands seats s = record {
   kinds = All-set HasItsKind m.devices i (record d { hardware = now })
       ((all_at HasItsKind m.devices i d is s.kinds).0, kind) s.kinds;
-  places = λ k e lt. seat_with m.devices i d now is _ _ _ (stands k e lt) (seats k e lt);
+  places = λ k e lt. seat_with m.devices i now is _ _ _ (stands k e lt) (seats k e lt);
   covers = s.covers ∙ sym (length-set m.devices i (record d { hardware = now }));
 }
 
@@ -161,18 +154,17 @@ pub record Keeps (ds : List Device) (before : Hardware) (old : List Control) (af
   pub kind : after.kind ≡ before.kind
   pub seats : All (HasItsDevice ds) old → All (HasItsDevice ds) new
 
-pub on_hardware_sound : (m m' : Machine) (at : Option ℕ) (Does : ℕ → Effect)
+pub on_hardware_sound : (m : Machine) {m' : Machine} {at : Option ℕ} (Does : ℕ → Effect)
     → ((place : ℕ) (before : Hardware) (new : List Control) (after : Hardware) → StandsAt m.devices at before
     → Does place m.controls before new after
     → Keeps m.devices before m.controls after new) → OnHardware m at Does m' → IsSound m → IsSound m'
-on_hardware_sound m m' at Does keeps o s =
+on_hardware_sound m {at = at} Does keeps o s =
     let here : HasItsKind o.device = all_at HasItsKind m.devices o.place o.device o.is_device s.kinds in
     let kind : o.device.kind ≡ o.before.kind = rw o.is_attached at here.1 in
     let stands : StandsAt m.devices at o.before =
     record { kind = rw (o.is_at, o.is_device, kind); range = rw kind at here.0 } in
     let kept = keeps o.place o.before o.controls o.after stands o.does in
-    rw o.machine (hardware_sound m o.controls o.place o.device (Some o.after) o.is_device
-    (kind ∙ sym kept.kind) (λ k e lt opens. refl)
+    rw o.machine (hardware_sound m (Some o.after) o.is_device (kind ∙ sym kept.kind) (λ k e lt opens. refl)
     (kept.seats s.places) s)
 
 -- whatever has this effect does so
@@ -181,8 +173,7 @@ AllKeep ds Does = (old : List Control) (before : Hardware) (new : List Control) 
     → Does old before new after → Keeps ds before old after new
 
 module _ (ds : List Device) (old : List Control) (before : Hardware) (new : List Control) (after now : Hardware)
-    (is : after ≡ now)
-    (kind : now.kind ≡ before.kind) where
+    (is : after ≡ now) (kind : now.kind ≡ before.kind) where
   -- controls are as they were
   unmoved : new ≡ old → Keeps ds before old after new
   unmoved same = record { kind = ap (λ (s : Hardware). s.kind) is ∙ kind; seats = λ all. rw same all }
@@ -224,46 +215,38 @@ change_seat : (ds : List Device) (what : ControlUpdate) (c : Control)
 change_seat ds what c stays h = grind (arith, moved_seat)
 
 -- the control with a number, whose cursor a call leaves at a place of its device, keeps that
-changes_keep : (ds : List Device) (what : ControlUpdate) (number : ℕ) (c : Control) (old new : List Control)
-    → slice_get old number ≡ Some c
-    → StaysOn (kind_in (device_at ds (open_place c.device))) c.cursor.place what
-    → ChangesOne (changed what) number old new
-    → All (HasItsDevice ds) old
-    → All (HasItsDevice ds) new
-changes_keep ds what number c old new at stays h all =
+changes_keep : (ds : List Device) (what : ControlUpdate) (number : ℕ) {c : Control} (old new : List Control)
+    → slice_get old number ≡ Some c → StaysOn (kind_in (device_at ds (open_place c.device))) c.cursor.place what
+    → ChangesOne (changed what) number old new → All (HasItsDevice ds) old → All (HasItsDevice ds) new
+changes_keep ds what number {c = c} old new at stays h all =
     let same : new ≡ slice_set old number (changed what c) =
     MatchOption-at_some ⊥ (λ control. new ≡ slice_set old number (changed what control)) c at h in
-    rw same
-    (All-set (HasItsDevice ds) old number (changed what c)
-    (change_seat ds what c stays (all_at (HasItsDevice ds) old number c at all)) all)
+    rw same (All-set (HasItsDevice ds) old number (changed what c) (change_seat ds what c stays
+    (all_at (HasItsDevice ds) old number c at all)) all)
 
 -- what a call comes to keeps each control's device
 deed_keeps : (ds : List Device) (d : Action) (r : Answer) (number place : ℕ) (c : Control) (old : List Control)
-    (before : Hardware) (new : List Control)
-    (after : Hardware) → slice_get old number ≡ Some c
-    → DeedStaysOn (kind_in (device_at ds (open_place c.device))) c.cursor.place d
+    (before : Hardware) (new : List Control) (after : Hardware)
+    → slice_get old number ≡ Some c → DeedStaysOn (kind_in (device_at ds (open_place c.device))) c.cursor.place d
     → CarriesOut d number place r old before new after → Keeps ds before old after new
 deed_keeps ds (Gives given what) r number place c old before new after at stays h =
     let told = ordered_keeps ds given place h.said old before h.heard after h.ordered in
     record { kind = told.kind; seats = λ all. by h.said h.ordered h.follows (told.seats all) }
   where
     by : (said : Reply) → Ordered given place said old before h.heard after → Follows said what number h.heard new
-        → All (HasItsDevice ds) h.heard
-        → All (HasItsDevice ds) new
+        → All (HasItsDevice ds) h.heard → All (HasItsDevice ds) new
     by reply.Done ordered follows all =
         let signs = heard_signs (signs_of before.kind before.plant) (signs_of after.kind after.plant) in
         let hears = if_listening place signs in
         let now = ap (λ (cs : List Control). slice_get cs number) ordered.controls ∙ slice_get-map hears old number
         ∙ ap (option_map hears) at in
-        changes_keep ds what number (hears c) h.heard new now
-        (cond_both (listens place c) (signs c) c
+        changes_keep ds what number h.heard new now (cond_both (listens place c) (signs c) c
         (λ g. StaysOn (kind_in (device_at ds (open_place g.device))) g.cursor.place what)
-        (λ on. stays) (λ off. stays))
-        follows all
+        (λ on. stays) (λ off. stays)) follows all
     by said ordered same all = rw same all
 deed_keeps ds (Changes what) r number place c old before new after at stays h = record {
   kind = ap (λ (s : Hardware). s.kind) h.hardware;
-  seats = λ all. changes_keep ds what number c old new at stays h.controls all;
+  seats = λ all. changes_keep ds what number old new at stays h.controls all;
 }
 deed_keeps ds (Queues given) r number place c old before new after at stays h =
     let (control, found, decided) = matched (slice_get old number) _ h in
@@ -303,9 +286,8 @@ works_keep ds holder place outcome old before new after h =
     by work (Err want) h = same_keeps ds old before new after h
 
 pub device_keeps : (k : Category) (m : Machine) (asked : Call) (r : Answer) (n place : ℕ) (c : Control)
-    (before : Hardware) (new : List Control)
-    (after : Hardware) → slice_get m.controls n ≡ Some c → serves k before.kind ≡ true
-    → NoneApplies (device_rows k (kind_of m c) c asked)
+    (before : Hardware) (new : List Control) (after : Hardware)
+    → slice_get m.controls n ≡ Some c → serves k before.kind ≡ true → NoneApplies (device_rows k (kind_of m c) c asked)
     → StandsAt m.devices (open_place c.device) before
     → DeviceDoes k (kind_of m c) n c asked r place m.controls before new after
     → Keeps m.devices before m.controls after new
@@ -313,7 +295,7 @@ device_keeps k m asked r n place c before new after at served allowed stands h =
     let x = matched (device_action k (kind_of m c) c asked) _ h in
     let stays : (d : Action) → device_action k (kind_of m c) c asked ≡ Some d
     → DeedStaysOn (kind_of m c) c.cursor.place d =
-    rw stands.kind (λ d. deed_called k before.kind c asked d served stands.range (rw stands.kind at allowed)) in
+    rw stands.kind (λ d. deed_called k before.kind c asked served stands.range (rw stands.kind at allowed)) in
     deed_keeps m.devices x.0 r n place c m.controls before new after at (stays x.0 x.1) x.2
 
 -- an open control's category serves its device
@@ -339,22 +321,21 @@ pub released_seat : (ds : List Device) (k : Category) (c : Control) → HasItsDe
 released_seat ds k c h = cond_both (is_exclusive k) (stopped c) c (HasItsDevice ds) (λ one. h) (λ many. h)
 
 -- a device that gets a peripheral of its kind keeps each control's device
-pub attached_sound : (m m' : Machine) (name : List ℕ) (hardware : Hardware) → IsAttached m name hardware m' → IsSound m
+pub attached_sound : {m m' : Machine} {name : List ℕ} (hardware : Hardware) → IsAttached m name hardware m' → IsSound m
     → IsSound m'
-attached_sound m m' name hardware o s =
-    rw o.machine (hardware_sound m m.controls o.place o.device (Some hardware) o.is_device o.kind
-    (λ k e lt opens. refl) s.places s)
+attached_sound {m = m} hardware o s =
+    rw o.machine (hardware_sound m (Some hardware) o.is_device o.kind (λ k e lt opens. refl) s.places s)
 
 -- a control has the device open whose place it has
-opens_at : (device : Option OpenDevice) (place : ℕ) → open_place device ≡ Some place → is_at device place ≡ true
-opens_at None place opens = absurd cc
-opens_at (Some (At at)) place opens = eq-eqb at place (same_Some at place opens)
-opens_at (Some TheTotals) place opens = absurd cc
+opens_at : (device : Option OpenDevice) {place : ℕ} → open_place device ≡ Some place → is_at device place ≡ true
+opens_at None opens = absurd cc
+opens_at (Some (At at)) {place = place} opens = eq-eqb at place (same_Some at place opens)
+opens_at (Some TheTotals) opens = absurd cc
 
 -- a device that no control has open may lose its peripheral
-pub detached_sound : (m m' : Machine) (name : List ℕ) (hardware : Hardware) → IsDetached m name hardware m' → IsSound m
+pub detached_sound : (m : Machine) {m' : Machine} {name : List ℕ} {hardware : Hardware} → IsDetached m name hardware m' → IsSound m
     → IsSound m'
-detached_sound m m' name hardware o s =
-    rw o.machine (hardware_sound m m.controls o.place o.device None o.is_device tt
+detached_sound m o s =
+    rw o.machine (hardware_sound m None o.is_device tt
     (λ k e lt opens. absurd (false≢true (sym o.is_closed ∙ list_any_at (has_open o.place) m.controls k e lt
-    (opens_at (get_or m.controls k e).device o.place opens)))) s.places s)
+    (opens_at (get_or m.controls k e).device opens)))) s.places s)

@@ -36,17 +36,17 @@ abbrev Told : List TotalsChange → TotalsPart → Response → TotalsPart → T
 Told changes old response new =
     Happens old (event_between changes old.totals.mode response new.totals.mode) new × IsSettled new.totals new.left
 
-rests : (changes : List TotalsChange) (old new : TotalsPart) (response : Response)
+rests : {changes : List TotalsChange} {old new : TotalsPart} (response : Response)
     → ((changes ≡ [] → ⊥) → IsUndone response)
     → IsSettled old.totals old.left → Rest old new → Told changes old response new
-rests changes old new response undone is h = grind (arith, rest_settled)
+rests response undone is h = grind (arith, rest_settled)
 
 -- files with one of the sequences
-with_some : (layout : Layout) (files : List PlainFile) (sequences : List ℕ) (left : Standing)
+with_some : {layout : Layout} {files : List PlainFile} (sequences : List ℕ) {left : Standing}
     → IsOneOf (map (λ n. Stands layout files n) sequences) left → (n : ℕ) × (left ≡ Stands layout files n)
-with_some layout files [] left is = absurd is
-with_some layout files (n ∷ sequences) left (inl is) = (n, is)
-with_some layout files (n ∷ sequences) left (inr is) = with_some layout files sequences left is
+with_some [] is = absurd is
+with_some (n ∷ sequences) (inl is) = (n, is)
+with_some (n ∷ sequences) (inr is) = with_some sequences is
 
 -- changes that are put on the disk as one group, in which it may fail
 module _ (old new : TotalsPart) (is : IsSettled old.totals old.left) where
@@ -93,12 +93,10 @@ module _ (old new : TotalsPart) (is : IsSettled old.totals old.left) where
         )
         by (Ready files sequence) ready =
             let around : AreAround old.totals.layout (plain files) (Some (group_of files all)) new.left =
-            λ standing one.
-            elim (rw (rw (off, ready) at left) at one) [
+            λ standing one. elim (rw (rw (off, ready) at left) at one) [
               | inl e ↦ inl (sequence, e)
               | inr e ↦
-                  let found = with_some old.totals.layout (plain (files_after_all old.totals.next files all))
-                  (next_sequences sequence) standing e in
+                  let found = with_some (next_sequences sequence) e in
                   inr (record {
                     group = group_of files all;
                     files = plain (files_after_all old.totals.next files all);
@@ -110,40 +108,40 @@ module _ (old new : TotalsPart) (is : IsSettled old.totals old.left) where
             ] in
             (rw (ready, off, failed) (record { was = tt; off = refl; around = around }), search (rules, settles))
 
-  comes_told : (P : Type 0) (changes : List TotalsChange) (result : Answer) → IsOneGroup old.totals changes
+  comes_told : (P : Type 0) {changes : List TotalsChange} {result : Answer} → IsOneGroup old.totals changes
       → new.left ≡ left_after old changes new.totals.mode → Comes P old.totals result new.totals changes
       → Told changes old (Answered result) new
-  comes_told P changes result group left (Stays transactions undone same) = search (rules, rests, kept_left)
-  comes_told P changes result group left (Groups change others transactions given (inl done)) =
+  comes_told P group left (Stays transactions undone same) = search (rules, rests, kept_left)
+  comes_told P group left (Groups change others transactions given (inl done)) =
       rw done.0 (done_told change others transactions group left given done.1)
-  comes_told P changes result group left (Groups change others transactions given (inr failed)) =
+  comes_told P group left (Groups change others transactions given (inr failed)) =
       search (rules, failed_told)
 
 files_told : (asked : FileCall) (old new : TotalsPart) (n : ℕ) (result : Answer) → IsSettled old.totals old.left
     → TotalsDo asked old n result new → Told (changes_asked old.totals n asked) old (Answered result) new
 files_told (Asks question) old new n result is h =
-    rests [] old new (Answered result) (λ some. absurd (some refl)) is (rw h.1 (same_rest old))
+    rests (Answered result) (λ some. absurd (some refl)) is (rw h.1 (same_rest old))
 files_told (Arranges arrangement) old new n result is h = search (rules, rests, arranged_rest)
 files_told Nothing old new n result is h = absurd h
 files_told asked old new n result is h =
-    comes_told old new is _ _ result h.group h.left (puts_comes asked _ old.totals n result new.totals h.does)
+    comes_told old new is _ h.group h.left (puts_comes asked _ old.totals n result new.totals h.does)
 
 -- numbered files are what they were
 pub plain_numbered : (next : ℕ) (files : List PlainFile) → plain (numbered next files) ≡ files
 plain_numbered next [] = refl
 plain_numbered next (file ∷ files) = ap (λ fs. file ∷ fs) (plain_numbered (next + 1) files)
 
-found_told : (old new : TotalsPart) (response : Response) → old.totals.mode ≡ Off → Recovered old new
+found_told : {old new : TotalsPart} (response : Response) → old.totals.mode ≡ Off → Recovered old new
     → Told [] old response new
-found_told old new response off h = search (rules, plain_numbered, settles)
+found_told response off h = search (rules, plain_numbered, settles)
 
 -- a recovery that recovers nothing leaves them
-unrecovered : (old new : TotalsPart) (result : Answer) → Recovers old result new → Rest old new
-unrecovered old new result h = grind (arith, same_rest)
+unrecovered : {old new : TotalsPart} {result : Answer} → Recovers old result new → Rest old new
+unrecovered h = grind (arith, same_rest)
 
 -- totals that are recovered are off
-pub recovers_off : (mode : Mode) → not (is_ready mode) ≡ true → mode ≡ Off
-recovers_off mode e = grind arith
+pub recovers_off : {mode : Mode} → not (is_ready mode) ≡ true → mode ≡ Off
+recovers_off e = grind arith
 
 -- ---- what leaves the files alone
 
@@ -158,45 +156,44 @@ record StepLeaves (changes : List TotalsChange) (old : Machine) (response : Resp
   pub told : IsSettled old.totals.totals old.totals.left → Told changes old.totals response new.totals
 
 beside_leaves : (changes : List TotalsChange) (old new : Machine) (response : Response)
-    → ((changes ≡ [] → ⊥) → IsUndone response) → Beside old new
-    → StepLeaves changes old response new
+    → ((changes ≡ [] → ⊥) → IsUndone response) → Beside old new → StepLeaves changes old response new
 beside_leaves changes old new response undone b = search (rules, rests)
 
 same_beside : (old new : Machine) → new ≡ old → Beside old new
 same_beside old new same = rw same (record { sound = λ s. s; rest = same_rest old.totals })
 
 -- one thing after another
-beside_then : (old mid new : Machine) → Beside old mid → Beside mid new → Beside old new
-beside_then old mid new a b = search rules
+beside_then : {old mid new : Machine} → Beside old mid → Beside mid new → Beside old new
+beside_then a b = search rules
 
-other_totals : (m : Machine) (part : TotalsPart) → IsSound m → IsSound (record m { totals = part })
-other_totals m part s = record { kinds = s.kinds; places = s.places; covers = s.covers }
+other_totals : {m : Machine} (part : TotalsPart) → IsSound m → IsSound (record m { totals = part })
+other_totals part s = record { kinds = s.kinds; places = s.places; covers = s.covers }
 
-totals_beside : (m : Machine) (part : TotalsPart) → Rest m.totals part → Beside m (record m { totals = part })
-totals_beside m part rest = record { sound = other_totals m part; rest = rest }
+totals_beside : {m : Machine} (part : TotalsPart) → Rest m.totals part → Beside m (record m { totals = part })
+totals_beside part rest = record { sound = other_totals part; rest = rest }
 
 control_beside : (m : Machine) (n : ℕ) (c : Control) → (IsSound m → HasItsDevice m.devices c)
     → Beside m (with_control m n c)
 control_beside m n c seat = record { sound = λ s. with_control_sound m n c (seat s) s; rest = same_rest m.totals }
 
-claims_beside : (m : Machine) (claims : List (Option ℕ)) → length claims ≡ length m.claims
+claims_beside : (m : Machine) {claims : List (Option ℕ)} → length claims ≡ length m.claims
     → Beside m (record m { claims = claims })
-claims_beside m claims same = search (rules, same_rest)
+claims_beside m same = search (rules, same_rest)
 
-hardware_beside : (old new : Machine) (at : Option ℕ) (Does : ℕ → Effect) → OnHardware old at Does new
+hardware_beside : {old new : Machine} {at : Option ℕ} (Does : ℕ → Effect) → OnHardware old at Does new
     → ((place : ℕ) (before : Hardware) (cs : List Control) (after : Hardware) → StandsAt old.devices at before
     → Does place old.controls before cs after
     → Keeps old.devices before old.controls after cs) → Beside old new
-hardware_beside old new at Does o keeps = search (rules, on_hardware_sound, same_rest)
+hardware_beside Does o keeps = search (rules, on_hardware_sound, same_rest)
 
 -- ---- requests that are no calls
 
-made_beside : (old new : Machine) (category : Category)
+made_beside : (old : Machine) {new : Machine} (category : Category)
     → new ≡ record (with_totals old (with_place old.totals.totals)) {
       controls =
           old.controls ++ new_control category ∷ [];
     } → Beside old new
-made_beside old new category h = rw h (record {
+made_beside old category h = rw h (record {
   sound = λ s. record {
     kinds = s.kinds;
     places =
@@ -206,15 +203,15 @@ made_beside old new category h = rw h (record {
   rest = record { layout = refl; mode = refl; left = refl };
 })
 
-attached_beside : (old new : Machine) (name : List ℕ) (hardware : Hardware) → IsAttached old name hardware new
+attached_beside : (old : Machine) {new : Machine} {name : List ℕ} {hardware : Hardware} → IsAttached old name hardware new
     → Beside old new
-attached_beside old new name hardware h =
-    record { sound = attached_sound old new name hardware h; rest = rw h.machine (same_rest old.totals) }
+attached_beside old {hardware = hardware} h =
+    record { sound = attached_sound hardware h; rest = rw h.machine (same_rest old.totals) }
 
-detached_beside : (old new : Machine) (name : List ℕ) (hardware : Hardware) → IsDetached old name hardware new
+detached_beside : (old : Machine) {new : Machine} {name : List ℕ} {hardware : Hardware} → IsDetached old name hardware new
     → Beside old new
-detached_beside old new name hardware h =
-    record { sound = detached_sound old new name hardware h; rest = rw h.machine (same_rest old.totals) }
+detached_beside old h =
+    record { sound = detached_sound old h; rest = rw h.machine (same_rest old.totals) }
 
 -- ---- calls
 
@@ -241,8 +238,7 @@ none_at_devices k at c asked R has does = grind arith
 
 -- a call of a category's own that nothing refuses is one of its control's category
 pub own_of : (m : Machine) (n : ℕ) (c : Control) (asked : Call) → is_common asked ≡ false
-    → first_refusal (refusals m n c asked) ≡ None
-    → has_call c.category asked ≡ true
+    → first_refusal (refusals m n c asked) ≡ None → has_call c.category asked ≡ true
 own_of m n c asked own none = search (rules, unless_not, none_applies, own_call)
 
 module _ (m m' : Machine) (n : ℕ) (c : Control) (r : Answer) (at : slice_get m.controls n ≡ Some c) where
@@ -264,50 +260,44 @@ module _ (m m' : Machine) (n : ℕ) (c : Control) (r : Answer) (at : slice_get m
           → StepLeaves [] m (Answered r) m'
       by false plain h = unasked (rw h.1 there)
       by true off (inl h) = record {
-        sound = λ s. subst IsSound (sym h.2) (other_totals (with_control m n now) m'.totals (there.sound s));
-        told = λ is. found_told m.totals m'.totals (Answered r)
-            (recovers_off m.totals.totals.mode
-            (and_parts (asks_recovery c p v) (not (is_ready m.totals.totals.mode)) off).1) h.1;
+        sound = λ s. subst IsSound (sym h.2) (other_totals m'.totals (there.sound s));
+        told = λ is. found_told (Answered r) (recovers_off (and_parts (asks_recovery c p v)
+            (not (is_ready m.totals.totals.mode)) off).1) h.1;
       }
       by true off (inr h) =
-          unasked (subst (Beside m) (sym h.1) (totals_beside m m'.totals (unrecovered m.totals m'.totals r h.0)))
+          unasked (subst (Beside m) (sym h.1) (totals_beside m'.totals (unrecovered h.0)))
 
   own_leaves : (device : Option OpenDevice) (own : Call) → device ≡ c.device
       → NoneApplies (own_rows device m n c own) → has_call c.category own ≡ true → DoesOwn device m n c own r m'
       → StepLeaves (changes_asked m.totals.totals n (file_call own)) m (Answered r) m'
   own_leaves (Some TheTotals) own is allowed has h = record {
-    sound = λ s. subst IsSound (sym h.1) (other_totals m m'.totals s);
+    sound = λ s. subst IsSound (sym h.1) (other_totals m'.totals s);
     told = λ is. files_told (file_call own) m.totals m'.totals n r is h.0;
   }
   own_leaves device own is allowed has h =
       beside_leaves _ m m' (Answered r)
-      (λ some. absurd (some (ap (changes_asked m.totals.totals n)
-      (none_at_devices c.category (kind_of m c) c own _ has h.does))))
-      (record {
-        sound = λ s. on_hardware_sound m m' (open_place device) _
-            (λ place before new after stands.
+      (λ some. absurd (some (ap (changes_asked m.totals.totals n) (none_at_devices c.category (kind_of m c) c own _ has
+      h.does)))) (record {
+        sound = λ s. on_hardware_sound m _ (λ place before new after stands.
             let here = subst (λ o. StandsAt m.devices (open_place o) before) is stands in
-            device_keeps c.category m own r n place c before new after at
-            (served_by m.devices c.category c.cursor.place c.device before here.kind (seated m n c s at)) allowed here)
-            h s;
+            device_keeps c.category m own r n place c before new after at (served_by m.devices c.category c.cursor.place
+            c.device before here.kind (seated m n c s at)) allowed here) h s;
         rest = rw h.machine (same_rest m.totals);
       })
 
   -- what a call leaves that nothing refuses
   does_leaves : (q : Call) → NoneApplies (refusals m n c q) → (is_common q ≡ false → has_call c.category q ≡ true)
-      → Does m n c q r m'
-      → StepLeaves (changes_asked m.totals.totals n (file_call q)) m (Answered r) m'
+      → Does m n c q r m' → StepLeaves (changes_asked m.totals.totals n (file_call q)) m (Answered r) m'
   does_leaves (Open name) none has h =
       unasked (rw h.1 (control_beside m n _ (λ s. found_open m c.category name s.kinds)))
   does_leaves Close none has h =
-      unasked (rw h.1 (beside_then m _ _ (control_beside m n (closed c) (λ s. tt))
+      unasked (rw h.1 (beside_then (control_beside m n (closed c) (λ s. tt))
       (dropped_beside c.device (with_control m n (closed c)) n)))
   does_leaves (Claim timeout) none has h = unasked (rw h.1 (claimed_beside c.device m n))
   does_leaves Release none has h =
       let after = after_release c.category c in
-      unasked (rw h.1 (beside_then m _ _
-      (control_beside m n after (λ s. released_seat m.devices c.category c (seated m n c s at)))
-      (released_beside c.device (with_control m n after) n)))
+      unasked (rw h.1 (beside_then (control_beside m n after (λ s. released_seat m.devices c.category c
+      (seated m n c s at))) (released_beside c.device (with_control m n after) n)))
   does_leaves (Set p v) none has h = search (rules, set_leaves, unless_not)
   does_leaves (Get p) none has h = unasked (same_beside m m' h.1)
   does_leaves own none has h =
@@ -323,10 +313,8 @@ step_leaves old new (Answered result) (CallOf n asked) h =
 step_leaves old new OutOfMemory (CallOf n asked) h = search (rules, matched, beside_leaves, same_beside)
 step_leaves old new r (CallOf n asked) h = absurd h
 step_leaves old new (Worked result) (WorkOn name) h =
-    beside_leaves [] old new (Worked result) (λ some. absurd (some refl))
-    (hardware_beside old new _ _ h
-    (λ place before cs after stands does. works_keep old.devices _ place
-    (Ok result) old.controls before cs after does))
+    beside_leaves [] old new (Worked result) (λ some. absurd (some refl)) (hardware_beside _ h
+    (λ place before cs after stands does. works_keep old.devices _ place (Ok result) old.controls before cs after does))
 step_leaves old new (Delivered event) (Deliver n reply) h =
     beside_leaves [] old new (Delivered event) (λ some. absurd (some refl))
     (elim (match_cases (slice_get old.controls n) _ _ h) [
@@ -348,11 +336,10 @@ step_leaves old new r q h =
       takes_keeps,
     )
 
-pub step_sound : (old new : Machine) (q : Request) (r : Response) → Step old q r new → IsSound old → IsSound new
-step_sound old new q r step = (step_leaves old new r q step).sound
+pub step_sound : {old new : Machine} (q : Request) (r : Response) → Step old q r new → IsSound old → IsSound new
+step_sound {old = old} {new = new} q r step = (step_leaves old new r q step).sound
 
 -- where a history fits, it goes on fitting
-pub step_fits : (history : History) (old : Machine) (q : Request) (r : Response) (new : Machine)
-    → Fits history old.totals → Step old q r new
-    → Fits (history_with history old q r new) new.totals
-step_fits history old q r new fits step = search (rules, step_leaves, fits_next)
+pub step_fits : {history : History} (old : Machine) (q : Request) (r : Response) (new : Machine)
+    → Fits history old.totals → Step old q r new → Fits (history_with history old q r new) new.totals
+step_fits old q r new fits step = search (rules, step_leaves, fits_next)

@@ -10,8 +10,7 @@ use Rattle.pos_counter.proofs.LiftLemmas.{decided_step}
 use Rattle.pos_counter.proofs.ServiceLemmas.{OnlyNow, quiet_serves}
 
 module _ (m : Machine) (n : ℕ) (c : Control) (asked : Call) (own : is_common asked ≡ false)
-    (found : slice_get m.controls n ≡ Some c)
-    (is : c.device ≡ Some TheTotals) (lets : IsLet m n c asked) where
+    (found : slice_get m.controls n ≡ Some c) (is : c.device ≡ Some TheTotals) (lets : IsLet m n c asked) where
   -- behind the check of an open control of Hard Totals, the totals' refusals decide
   totals_refusals : first_refusal (refusals m n c asked) ≡ first_refusal (file_rows m.totals.totals n (file_call asked))
   totals_refusals = let_refusals m n c asked own lets ∙ ap (λ d. first_refusal (own_rows d m n c asked)) is
@@ -35,21 +34,18 @@ still_ready old new turns ready = grind arith
 
 -- a call of the totals' own that its control may make
 pub files_serve : {D P : Type 0} (bound : DiskGhosts D) (peripherals : Ghosts P) (old : Counter D P)
-    (now : TotalsView D) (n : ℕ) (c : Control)
-    (asked : Call) (outcome : Result Answer NoMemory)
+    {now : TotalsView D} (n : ℕ) (c : Control) (asked : Call) (outcome : Result Answer NoMemory)
     → is_common asked ≡ false → slice_get (controls_of old.controls.items) n ≡ Some c → c.device ≡ Some TheTotals
-    → ((left : List Standing) (failures : ℕ)
-    → IsLet (machine peripherals old (part_with old.totals.totals left failures)) n c asked)
+    → ((left : List Standing) (failures : ℕ) → IsLet (machine peripherals old
+    (part_with old.totals.totals left failures)) n c asked)
     → OnlyNow bound old.totals.disk → CallsFiles bound old.totals n asked outcome now → IsCounterSound peripherals old
     → Serves bound peripherals old (CallOf n asked) (answered outcome) (record old { totals = now })
-files_serve bound peripherals old now n c asked outcome own at is lets only (inl quiet) sound =
-    quiet_serves bound peripherals old (record old { totals = now }) (CallOf n asked)
-    (answered outcome) now.totals only quiet.disk refl quiet.is_settled
-    sound sound.devices
-    (λ left failures so. called_step
-    (machine peripherals old (part_with old.totals.totals left failures)) n c asked own at is (lets left failures)
-    (part_with now.totals left failures) outcome (quiet.answer left failures so))
-files_serve bound peripherals old now n c asked outcome own found is lets only (inr puts) sound = record {
+files_serve bound peripherals old {now = now} n c asked outcome own at is lets only (inl quiet) sound =
+    quiet_serves bound peripherals old (record old { totals = now }) (CallOf n asked) (answered outcome) now.totals only
+    quiet.disk refl quiet.is_settled sound sound.devices
+    (λ left failures so. called_step (machine peripherals old (part_with old.totals.totals left failures)) n c asked own
+    at is (lets left failures) (part_with now.totals left failures) outcome (quiet.answer left failures so))
+files_serve bound peripherals old {now = now} n c asked outcome own found is lets only (inr puts) sound = record {
   step = record {
     steps = λ left leaves.
         let f = puts.steps left leaves in
@@ -60,11 +56,8 @@ files_serve bound peripherals old now n c asked outcome own found is lets only (
               (lets left (bound.state old.totals.disk).failures) (part_of bound now f.after) outcome f.answer;
           any_moment = f.any_moment;
         };
-    spared = λ left failures spares.
-        absurd (puts.uses
-        (spares_own (machine peripherals old (part_with old.totals.totals left failures)) n c asked own found is
-        (lets left
-        failures) spares));
+    spared = λ left failures spares. absurd (puts.uses (spares_own (machine peripherals old
+        (part_with old.totals.totals left failures)) n c asked own found is (lets left failures) spares));
     otherwise = λ left failures. inr (rw found (is, inl refl));
     unchanged = λ undone was ready. elim (puts.unchanged (not_done outcome undone)) [
       | inl turns ↦ absurd (still_ready old.totals.totals.mode now.totals.mode turns ready)

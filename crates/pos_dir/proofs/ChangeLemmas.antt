@@ -43,8 +43,7 @@ differs : (a b : List ℕ) → bytes_eq a b ≡ false → bytes_eq b a ≡ false
 differs a b h = grind (arith, nat_tests, bytes_eq-Decides a b, bytes_eq-Decides b a)
 
 pub are_distinct-append : (files : List File) (file : File) → are_distinct files ≡ true
-    → has_name files file.name ≡ false
-    → are_distinct (files ++ file ∷ []) ≡ true
+    → has_name files file.name ≡ false → are_distinct (files ++ file ∷ []) ≡ true
 are_distinct-append [] file distinct new = refl
 are_distinct-append (f ∷ files) file distinct new =
     grind (
@@ -69,8 +68,7 @@ are_distinct-remove (f ∷ files) (suc i) distinct =
 
 -- a file with a new name
 are_distinct-set : (files : List File) (i : ℕ) (file : File) → are_distinct files ≡ true
-    → has_name files file.name ≡ false
-    → are_distinct (set files i file) ≡ true
+    → has_name files file.name ≡ false → are_distinct (set files i file) ≡ true
 are_distinct-set [] i file distinct new = refl
 are_distinct-set (f ∷ files) zero file distinct new = grind (arith, nat_tests)
 are_distinct-set (f ∷ files) (suc i) file distinct new =
@@ -85,8 +83,7 @@ are_distinct-set (f ∷ files) (suc i) file distinct new =
 
 -- a file with the name that it had
 has_name-same : (files : List File) (i : ℕ) (old new : File) (name : List ℕ) → slice_get files i ≡ Some old
-    → new.name ≡ old.name
-    → has_name (set files i new) name ≡ has_name files name
+    → new.name ≡ old.name → has_name (set files i new) name ≡ has_name files name
 has_name-same [] i old new name at same = refl
 has_name-same (f ∷ files) zero old new name at same = cc
 has_name-same (f ∷ files) (suc i) old new name at same = cc (has_name-same files i old new name at same)
@@ -101,8 +98,7 @@ are_distinct-same (f ∷ files) (suc i) old new at same =
 -- ---- a file that keeps its size
 
 total_size-set : (files : List File) (i : ℕ) (old new : File) → slice_get files i ≡ Some old
-    → length new.bytes ≡ length old.bytes
-    → total_size (set files i new) ≡ total_size files
+    → length new.bytes ≡ length old.bytes → total_size (set files i new) ≡ total_size files
 total_size-set files i old new at same =
     let here = ap (λ (x : File). length x.bytes) (get_or_from_slice_get files i old old at) in
     omega (
@@ -119,28 +115,27 @@ total_size-remove files i old at =
 
 -- ---- each change
 
-made_directory : (limits : Limits) (files next : List File) (change : Change) → IsDirectory limits files
-    → IsChange change
-    → Makes limits files change next → IsDirectory limits next
-made_directory limits files next change was takes (Adds file good new few small e) = rw (← e) (record {
+made_directory : {limits : Limits} (files : List File) {next : List File} {change : Change} → IsDirectory limits files
+    → IsChange change → Makes limits files change next → IsDirectory limits next
+made_directory files was takes (Adds file good new few small e) = rw (← e) (record {
   count = omega (arith, length-append files (file ∷ []), few);
   size = omega (arith, sum_by_push (λ (x : File). length x.bytes) files file, small);
   named = rw list_all-append (grind (arith, nat_tests, was.named, good takes.flawless));
   distinct = are_distinct-append files file was.distinct new;
 })
-made_directory limits files next change was takes (Removes i old at e) = rw (← e) (record {
+made_directory files was takes (Removes i old at e) = rw (← e) (record {
   count = omega (arith, length-remove files i (slice_get_within files i old at), was.count);
   size = omega (arith, total_size-remove files i old at, was.size);
   named = list_all-remove (λ x. is_name x.name) files i was.named;
   distinct = are_distinct-remove files i was.distinct;
 })
-made_directory limits files next change was takes (Renames i old file at good new size e) = rw (← e) (record {
+made_directory files was takes (Renames i old file at good new size e) = rw (← e) (record {
   count = omega (arith, length-set files i file, was.count);
   size = omega (arith, total_size-set files i old file at size, was.size);
   named = list_all-set (λ x. is_name x.name) files i file was.named (good takes.flawless);
   distinct = are_distinct-set files i file was.distinct new;
 })
-made_directory limits files next change was takes (Rewrites i old file at shape e) = rw (← e) (record {
+made_directory files was takes (Rewrites i old file at shape e) = rw (← e) (record {
   count = omega (arith, length-set files i file, was.count);
   size = omega (arith, total_size-set files i old file at (ap (λ (s : Shape). s.size) shape), was.size);
   named = list_all-set (λ x. is_name x.name) files i file was.named
@@ -149,38 +144,36 @@ made_directory limits files next change was takes (Rewrites i old file at shape 
 })
 
 -- A change that a group takes and that is applicable leaves the files of a directory.
-pub changed : (limits : Limits) (files next : List File) (change : Change) → IsDirectory limits files → IsChange change
+pub changed : {limits : Limits} {files next : List File} {change : Change} → IsDirectory limits files → IsChange change
     → outcome limits files change ≡ Ok next → IsDirectory limits next
-changed limits files next change was takes h =
-    made_directory limits files next change was takes (makes limits files next change h)
+changed {files = files} {change = change} was takes h =
+    made_directory files was takes (makes change h)
 
-went_on : (r : Result (List File) DirectoryFault) (step : List File → Result (List File) DirectoryFault)
-    (next : List File)
+went_on : (r : Result (List File) DirectoryFault) {step : List File → Result (List File) DirectoryFault}
+    {next : List File}
     → and_then r step ≡ Ok next → (mid : List File) × (r ≡ Ok mid) × (step mid ≡ Ok next)
-went_on (Ok mid) step next h = (mid, refl, h)
-went_on (Err fault) step next h = absurd cc
+went_on (Ok mid) h = (mid, refl, h)
+went_on (Err fault) h = absurd cc
 
 -- So does a group.
-pub all_changed : (limits : Limits) (files next : List File) (changes : List Change) → IsDirectory limits files
+pub all_changed : {limits : Limits} (files : List File) {next : List File} (changes : List Change) → IsDirectory limits files
     → AllByRecursion IsChange changes
     → outcome_of_all limits files changes ≡ Ok next → IsDirectory limits next
-all_changed limits files next [] was each h = let e : files ≡ next = cc in rw (← e) was
-all_changed limits files next (change ∷ changes) was each h =
-    let first = went_on (outcome limits files change) (λ mid. outcome_of_all limits mid changes) next h in
-    all_changed limits first.0 next changes (changed limits files first.0 change was each.0 first.1) each.1 first.2
+all_changed files {next = next} [] was each h = let e : files ≡ next = cc in rw (← e) was
+all_changed {limits = limits} files (change ∷ changes) was each h =
+    let first = went_on (outcome limits files change) h in
+    all_changed first.0 changes (changed was each.0 first.1) each.1 first.2
 
 -- ---- how many files there are, whatever their names and sizes
 
-few_made : (limits : Limits) (files next : List File) (change : Change) → length files ≤ limits.files
-    → Makes limits files change next
-    → length next ≤ limits.files
-few_made limits files next change was made = grind (arith, length-append, length-remove, length-set, slice_get_within)
+few_made : {limits : Limits} {files next : List File} {change : Change} → length files ≤ limits.files
+    → Makes limits files change next → length next ≤ limits.files
+few_made was made = grind (arith, length-append, length-remove, length-set, slice_get_within)
 
 -- Changes that are applicable leave no more files than the limits allow.
 pub few_after_all : (limits : Limits) (files next : List File) (changes : List Change) → length files ≤ limits.files
     → outcome_of_all limits files changes ≡ Ok next → length next ≤ limits.files
 few_after_all limits files next [] was h = let e : files ≡ next = cc in rw (← e) was
 few_after_all limits files next (change ∷ changes) was h =
-    let first = went_on (outcome limits files change) (λ mid. outcome_of_all limits mid changes) next h in
-    few_after_all limits first.0 next changes
-    (few_made limits files first.0 change was (makes limits files first.0 change first.1)) first.2
+    let first = went_on (outcome limits files change) h in
+    few_after_all limits first.0 next changes (few_made was (makes change first.1)) first.2

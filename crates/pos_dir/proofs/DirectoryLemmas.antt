@@ -32,21 +32,19 @@ good_names (file ∷ files) fits =
     let (file_fits, others_fit) = fits in
     grind (arith, nat_tests, file_fits.0, good_names files others_fit)
 
-are_files : (files : List File) (limit : ℕ) → limit < 2 ^ 32 → total_size files ≤ limit
-    → list_all (λ file. is_name file.name) files ≡ true
-    → AllByRecursion IsFile files
-are_files [] limit low small named = tt
-are_files (file ∷ files) limit low small named =
+are_files : (files : List File) {limit : ℕ} → limit < 2 ^ 32 → total_size files ≤ limit
+    → list_all (λ file. is_name file.name) files ≡ true → AllByRecursion IsFile files
+are_files [] low small named = tt
+are_files (file ∷ files) low small named =
     let sum = sum_by-cons (λ (x : File). length x.bytes) file files in
     let others : list_all (λ x. is_name x.name) files ≡ true = grind (arith, nat_tests) in (
       (grind (arith, nat_tests), omega (arith, sum, small, low)),
-      are_files files limit low (omega (arith, sum, small)) others,
+      are_files files low (omega (arith, sum, small)) others,
     )
 
 -- What is read as a directory is one, and is spelled so.
 pub directory_takes : (limits : Limits) (bytes : List ℕ) (files : List File) → IsBytes bytes
-    → directory_at limits bytes ≡ Some files
-    → IsDirectory limits files × (bytes ≡ spelling files)
+    → directory_at limits bytes ≡ Some files → IsDirectory limits files × (bytes ≡ spelling files)
 unfolding directory_at
 directory_takes limits bytes files fits e =
     let t = counted_take file_reads (λ x. is_sound limits x.0 && is_end x.1)
@@ -67,12 +65,11 @@ pub directory_again : (limits : Limits) (files : List File) → AreWritable limi
 unfolding directory_at
 directory_again limits files writable h =
     counted_again file_reads (λ x. is_sound limits x.0 && is_end x.1) files (omega (arith, h.count, writable.files))
-    (are_files files limits.bytes writable.bytes h.size h.named) (grind (arith, nat_tests, h.count, h.size, h.distinct))
+    (are_files files writable.bytes h.size h.named) (grind (arith, nat_tests, h.count, h.size, h.distinct))
 
 -- No two directories are spelled alike.
 pub one_spelling : (limits : Limits) (files others : List File) → AreWritable limits → IsDirectory limits files
-    → IsDirectory limits others
-    → spelling files ≡ spelling others → files ≡ others
+    → IsDirectory limits others → spelling files ≡ spelling others → files ≡ others
 one_spelling limits files others writable h g same =
     cc (
       directory_again limits files writable h,
@@ -100,9 +97,9 @@ length_files (file ∷ files) named =
     )
 
 -- the spelling of a directory is no longer than a body may be
-pub length-spelling : (limits : Limits) (files : List File) → IsDirectory limits files
+pub length-spelling : {limits : Limits} {files : List File} → IsDirectory limits files
     → length (spelling files) ≤ body_limit limits
-length-spelling limits files h = omega (arith, length_files files h.named, h.count, h.size)
+length-spelling {files = files} h = omega (arith, length_files files h.named, h.count, h.size)
 
 -- the widths hold the limits of both layouts
 pub layout_1_writable : AreWritable LAYOUT_1
@@ -113,7 +110,6 @@ layout_2_writable = record { files = lit< tt; bytes = lit< tt }
 
 -- what spells no directory
 pub no_body : (limits : Limits) (bytes : List ℕ) (files : List File) → AreWritable limits
-    → directory_at limits bytes ≡ None
-    → IsDirectory limits files → bytes ≡ spelling files → ⊥
+    → directory_at limits bytes ≡ None → IsDirectory limits files → bytes ≡ spelling files → ⊥
 no_body limits bytes files writable none h same =
     cc (ap (directory_at limits) same, directory_again limits files writable h)

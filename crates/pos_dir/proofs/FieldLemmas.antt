@@ -22,18 +22,18 @@ IsBytes-take n bytes h i =
     ]
 
 -- the value of a step that read something
-pub bind_some : {A B : Type 0} (o : Option A) (f : A → Option B) (y : B) → (o >>= f) ≡ Some y
+pub bind_some : {A B : Type 0} (o : Option A) {f : A → Option B} {y : B} → (o >>= f) ≡ Some y
     → (x : A) × (o ≡ Some x) × (f x ≡ Some y)
-bind_some None f y e = absurd cc
-bind_some (Some x) f y e = (x, refl, e)
+bind_some None e = absurd cc
+bind_some (Some x) e = (x, refl, e)
 
 -- what is there is there once
 pub some_is : {A : Type 0} (x y : A) → Some x ≡ Some y → x ≡ y
 some_is x y e = cc
 
 -- a test that let a value through
-pub passed : {A : Type 0} (b : Bool) (x y : A) → cond b (Some x) None ≡ Some y → (b ≡ true) × (x ≡ y)
-passed b x y e = grind (arith, nat_tests)
+pub passed : {A : Type 0} {b : Bool} {x y : A} → cond b (Some x) None ≡ Some y → (b ≡ true) × (x ≡ y)
+passed e = grind (arith, nat_tests)
 
 -- A reader finds what is spelled at the front, and nothing else.
 pub record IsReader {A : Type 0} (read : List ℕ → Option (A × List ℕ)) (spell : A → List ℕ)
@@ -55,10 +55,10 @@ pub record Step {A B : Type 0} (spell : A → List ℕ) (Fits : A → Type 0) (b
 -- what is read behind it is proved of its value and of the bytes that it left
 pub step : {A B G : Type 0} {read : List ℕ → Option (A × List ℕ)} {spell : A → List ℕ} {Fits : A
     → Type 0} {next : A × List ℕ → Option B} {y : B}
-    → IsReader read spell Fits → (bytes : List ℕ) → IsBytes bytes → (read bytes >>= next) ≡ Some y
+    → IsReader read spell Fits → {bytes : List ℕ} → IsBytes bytes → (read bytes >>= next) ≡ Some y
     → (Step spell Fits bytes next y → G) → G
-step {spell = spell} {next = next} {y = y} reads bytes fits e proved =
-    let (found, is_read, on) = bind_some _ next y e in
+step {spell = spell} reads {bytes = bytes} fits e proved =
+    let (found, is_read, on) = bind_some _ e in
     let (x, rest) = found in
     let (parts, fit) = reads.takes bytes x rest fits is_read in
     proved (record {
@@ -76,10 +76,10 @@ step {spell = spell} {next = next} {y = y} reads bytes fits e proved =
 abbrev pub byte_spelling : ℕ → List ℕ
 byte_spelling byte = byte ∷ []
 
-byte_takes : (bytes : List ℕ) (x : ℕ) (rest : List ℕ) → IsBytes bytes → byte_at bytes ≡ Some (x, rest)
+byte_takes : (bytes : List ℕ) {x : ℕ} {rest : List ℕ} → IsBytes bytes → byte_at bytes ≡ Some (x, rest)
     → (bytes ≡ byte_spelling x ++ rest) × (x < 256)
-byte_takes [] x rest fits e = absurd cc
-byte_takes (byte ∷ bytes) x rest fits e = (grind arith, grind (arith, fits 0))
+byte_takes [] fits e = absurd cc
+byte_takes (byte ∷ bytes) fits e = (grind arith, grind (arith, fits 0))
 
 -- a byte is read as it is spelled
 pub byte_reads : IsReader byte_at byte_spelling (λ byte. byte < 256)
@@ -103,7 +103,7 @@ pub record IsWide (w : Width) (limit : ℕ) : Type 0 where
   pub below : (bytes : List ℕ) → IsBytes bytes → from_be_bytes w bytes < limit
 
 number_reads : {w : Width} {limit : ℕ} → IsWide w limit → IsReader (number_at w) (to_be_bytes w) (λ n. n < limit)
-number_reads {w = w} {limit = limit} wide = record {
+number_reads {w = w} wide = record {
   takes = λ bytes n rest fits e.
       let front = take (byte_len w) bytes in
       let front_fits = IsBytes-take (byte_len w) bytes fits in
@@ -151,7 +151,7 @@ name_takes : (bytes x rest : List ℕ) → IsBytes bytes → name_at bytes ≡ S
     → (bytes ≡ name_spelling x ++ rest) × (is_name x ≡ true)
 unfolding name_at
 name_takes bytes x rest fits e =
-    step byte_reads bytes fits e (λ size. step (part_reads size.x) size.rest size.bytes_left size.on (λ name. (
+    step byte_reads fits e (λ size. step (part_reads size.x) size.bytes_left size.on (λ name. (
       grind (arith, nat_tests),
       grind (arith, nat_tests),
     )))
@@ -168,7 +168,7 @@ name_reads = record {
 text_takes : (bytes x rest : List ℕ) → IsBytes bytes → text_at bytes ≡ Some (x, rest)
     → (bytes ≡ text_spelling x ++ rest) × (length x < 2 ^ 32)
 unfolding text_at
-text_takes bytes x rest fits e = step u32_reads bytes fits e (λ size.
+text_takes bytes x rest fits e = step u32_reads fits e (λ size.
     let text = (part_reads size.x).takes size.rest x rest size.bytes_left size.on in
     (cc (append_assoc (to_be_bytes w32 (length x)) x rest), omega (arith, size.fits, text.1)))
 
@@ -189,19 +189,17 @@ abbrev pub both : {A B C : Type 0} → (List ℕ → Option (A × List ℕ)) →
     → List ℕ → Option (C × List ℕ)
 both first second make bytes = first bytes >>= λ a. second a.1 >>= λ b. Some (make a.0 b.0, b.1)
 
-module _ {A B C : Type 0} {read_a : List ℕ → Option (A × List ℕ)} {spell_a : A → List ℕ} {FitsA : A
-    → Type 0} {read_b : List ℕ → Option (B × List ℕ)}
-    {spell_b : B → List ℕ} {FitsB : B → Type 0} (make : A → B → C) (reads_a : IsReader read_a spell_a FitsA)
-    (reads_b : IsReader read_b spell_b FitsB) where
+module _ {A B C : Type 0} {read_a : List ℕ → Option (A × List ℕ)} {spell_a : A → List ℕ} {FitsA : A → Type 0}
+    {read_b : List ℕ → Option (B × List ℕ)} {spell_b : B → List ℕ} {FitsB : B → Type 0} (make : A → B → C)
+    (reads_a : IsReader read_a spell_a FitsA) (reads_b : IsReader read_b spell_b FitsB) where
   -- what was made of two things that were read one behind the other is spelled as they are, behind a front that both
   -- have
   pub both_take : (front : List ℕ) (spell : C → List ℕ) (Fits : C → Type 0)
       → ((a : A) (b : B) → spell (make a b) ≡ front ++ (spell_a a ++ spell_b b))
       → ((a : A) (b : B) → FitsA a → FitsB b → Fits (make a b)) → (bytes : List ℕ) (x : C) (rest : List ℕ)
-      → IsBytes bytes
-      → both read_a read_b make bytes ≡ Some (x, rest) → (front ++ bytes ≡ spell x ++ rest) × Fits x
+      → IsBytes bytes → both read_a read_b make bytes ≡ Some (x, rest) → (front ++ bytes ≡ spell x ++ rest) × Fits x
   both_take front spell Fits spelled fit bytes x rest fits e =
-      step reads_a bytes fits e (λ a. step reads_b a.rest a.bytes_left a.on (λ b.
+      step reads_a fits e (λ a. step reads_b a.bytes_left a.on (λ b.
       let made : make a.x b.x ≡ x = grind arith in
       let left : b.rest ≡ rest = grind arith in (
         cc (

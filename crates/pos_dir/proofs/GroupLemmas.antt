@@ -24,7 +24,7 @@ create_takes = both_take Create name_reads u32_reads (1 ∷ []) change_spelling 
 delete_takes : (bytes : List ℕ) (x : Change) (rest : List ℕ) → IsBytes bytes → delete_at bytes ≡ Some (x, rest)
     → IsFound 2 bytes x rest
 unfolding delete_at
-delete_takes bytes x rest fits e = step u16_reads bytes fits e (λ index.
+delete_takes bytes x rest fits e = step u16_reads fits e (λ index.
     subst (λ (y : Change × List ℕ). IsFound 2 bytes y.0 y.1) (some_is (Delete index.x, index.rest) (x, rest) index.on)
     (cc (index.parts), record { widths = index.fits; flawless = refl }))
 
@@ -38,9 +38,9 @@ write_takes : (bytes : List ℕ) (x : Change) (rest : List ℕ) → IsBytes byte
     → IsFound 4 bytes x rest
 unfolding write_at
 write_takes bytes x rest fits e =
-    step u16_reads bytes fits e (λ index. step u32_reads index.rest index.bytes_left index.on (λ offset.
-    step text_reads offset.rest offset.bytes_left offset.on (λ text.
-    let g = passed (nat_le (length text.x) write_limit) (Write index.x offset.x text.x, text.rest) (x, rest) text.on in
+    step u16_reads fits e (λ index. step u32_reads index.bytes_left index.on (λ offset.
+    step text_reads offset.bytes_left offset.on (λ text.
+    let g = passed text.on in
     let inner = append_assoc (to_be_bytes w32 offset.x) (text_spelling text.x) text.rest in
     let outer = append_assoc (to_be_bytes w16 index.x) (to_be_bytes w32 offset.x ++ text_spelling text.x) text.rest in
     subst (λ (y : Change × List ℕ). IsFound 4 bytes y.0 y.1) g.1 (
@@ -56,10 +56,10 @@ set_all_takes = both_take SetAll u16_reads byte_reads (5 ∷ []) change_spelling
 
 -- ---- the fields behind a tag
 
-fields_take : (tag : ℕ) (bytes : List ℕ) (x : Change) (rest : List ℕ) → IsBytes bytes
+fields_take : {tag : ℕ} (bytes : List ℕ) (x : Change) (rest : List ℕ) → IsBytes bytes
     → fields_at tag bytes ≡ Some (x, rest) → IsFound tag bytes x rest
 unfolding fields_at
-fields_take tag bytes x rest fits e = grind (
+fields_take bytes x rest fits e = grind (
   arith,
   nat_tests,
   create_takes bytes x rest fits,
@@ -69,11 +69,11 @@ fields_take tag bytes x rest fits e = grind (
   set_all_takes bytes x rest fits,
 )
 
-change_takes : (bytes : List ℕ) (x : Change) (rest : List ℕ) → IsBytes bytes → change_at bytes ≡ Some (x, rest)
+change_takes : (bytes : List ℕ) {x : Change} {rest : List ℕ} → IsBytes bytes → change_at bytes ≡ Some (x, rest)
     → (bytes ≡ change_spelling x ++ rest) × IsChange x
 unfolding change_at
-change_takes [] x rest fits e = absurd cc
-change_takes (tag ∷ bytes) x rest fits e = fields_take tag bytes x rest (λ i. fits (suc i)) e
+change_takes [] fits e = absurd cc
+change_takes (tag ∷ bytes) {x = x} {rest = rest} fits e = fields_take bytes x rest (λ i. fits (suc i)) e
 
 -- ---- what is spelled is read
 

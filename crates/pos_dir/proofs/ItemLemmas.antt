@@ -25,8 +25,8 @@ module _ {A : Type 0} {read : List ℕ → Option (A × List ℕ)} {spell : A �
   items_take zero bytes xs rest fits e =
       let none : [] ≡ xs = grind arith in
       rw (← none) (grind arith, refl, tt)
-  items_take (suc count) bytes xs rest fits e = step reads bytes fits e (λ first.
-      let (items, is_read, joined) = bind_some (items_at read count first.rest) _ (xs, rest) first.on in
+  items_take (suc count) bytes xs rest fits e = step reads fits e (λ first.
+      let (items, is_read, joined) = bind_some (items_at read count first.rest) first.on in
       let (others, left) = items in
       let (spelled, counted, fit) = items_take count first.rest others left first.bytes_left is_read in
       let all : first.x ∷ others ≡ xs = grind (arith, joined) in
@@ -60,18 +60,16 @@ counted read keeps bytes = number_at w16 bytes >>= λ count. items_at read count
     (Some x.0) None
 
 module _ {A : Type 0} {read : List ℕ → Option (A × List ℕ)} {spell : A → List ℕ} {Fits : A → Type 0}
-    (reads : IsReader read spell Fits)
-    (keeps : List A × List ℕ → Bool) where
+    (reads : IsReader read spell Fits) (keeps : List A × List ℕ → Bool) where
   -- are spelled so, where the test wants no bytes behind them
   pub counted_take : ((x : List A × List ℕ) → keeps x ≡ true → is_end x.1 ≡ true) → (bytes : List ℕ) (xs : List A)
-      → IsBytes bytes
-      → counted read keeps bytes ≡ Some xs
+      → IsBytes bytes → counted read keeps bytes ≡ Some xs
       → (keeps (xs, []) ≡ true) × AllByRecursion Fits xs × (length xs < 2 ^ 16)
       × (bytes ≡ to_be_bytes w16 (length xs) ++ flat_map spell xs)
-  counted_take ends bytes xs fits e = step u16_reads bytes fits e (λ count.
-      let (items, is_read, tested) = bind_some (items_at read count.x count.rest) _ xs count.on in
+  counted_take ends bytes xs fits e = step u16_reads fits e (λ count.
+      let (items, is_read, tested) = bind_some (items_at read count.x count.rest) count.on in
       let (found, left) = items in
-      let (is_kept, same) = passed (keeps items) found xs tested in
+      let (is_kept, same) = passed tested in
       let none = ended left (ends items is_kept) in
       let (spelled, counted, fit) = items_take reads count.x count.rest found left count.bytes_left is_read in
       rw (← same) (
@@ -89,20 +87,20 @@ module _ {A : Type 0} {read : List ℕ → Option (A × List ℕ)} {spell : A �
       rw (u16_reads.again (length xs) (flat_map spell xs) short, all, kept) refl
 
 -- as many items are read as were asked for
-pub length_items : {A : Type 0} (read : List ℕ → Option (A × List ℕ)) (count : ℕ) (bytes : List ℕ) (x : List A × List ℕ)
+pub length_items : {A : Type 0} (read : List ℕ → Option (A × List ℕ)) (count : ℕ) (bytes : List ℕ) {x : List A × List ℕ}
     → items_at read count bytes ≡ Some x → length x.0 ≡ count
 unfolding items_at
-length_items read zero bytes x e = grind arith
-length_items read (suc count) bytes x e = grind (arith, length_items read count)
+length_items read zero bytes e = grind arith
+length_items read (suc count) bytes e = grind (arith, length_items read count)
 
 -- one more item behind those that were read
-pub items_push : {A : Type 0} (read : List ℕ → Option (A × List ℕ)) (count : ℕ) (bytes : List ℕ) (xs : List A)
-    (rest : List ℕ) (x : A) (after : List ℕ)
+pub items_push : {A : Type 0} (read : List ℕ → Option (A × List ℕ)) (count : ℕ) (bytes : List ℕ) {xs : List A}
+    {rest : List ℕ} {x : A} {after : List ℕ}
     → items_at read count bytes ≡ Some (xs, rest) → read rest ≡ Some (x, after)
     → items_at read (suc count) bytes ≡ Some (xs ++ x ∷ [], after)
 unfolding items_at
-items_push read zero bytes xs rest x after e more = grind arith
-items_push read (suc count) bytes xs rest x after e more = grind (arith, items_push read count)
+items_push read zero bytes e more = grind arith
+items_push read (suc count) bytes e more = grind (arith, items_push read count)
 
 -- where the bytes behind items are told, some items were read
 pub some_read : {A : Type 0} (read : Option (List A × List ℕ)) (end : List ℕ) → Some end ≡ option_map (λ x. x.1) read

@@ -9,10 +9,10 @@ use Rattle.pos_dir.proofs.FieldLemmas.{some_is}
 use Rattle.pos_dir.specs.declared.change.Change.TheVariants.{Create, Delete, Rename, SetAll, Write}
 
 -- the file that a lookup that led to Ok found
-found : (o : Option File) (f : File → Result (List File) DirectoryFault) (y : List File) → with_file o f ≡ Ok y
+found : (o : Option File) {f : File → Result (List File) DirectoryFault} {y : List File} → with_file o f ≡ Ok y
     → (x : File) × (o ≡ Some x) × (f x ≡ Ok y)
-found None f y h = absurd cc
-found (Some x) f y h = (x, refl, h)
+found None h = absurd cc
+found (Some x) h = (x, refl, h)
 
 -- ---- a change of the bytes of one file
 
@@ -53,8 +53,7 @@ KeepsShapes files (Ok _) expected =
 KeepsShapes files (Err fault) expected = expected ≡ Err fault
 
 same_shapes : (files : List File) (i : ℕ) (old new : File) → slice_get files i ≡ Some old
-    → shape_of_file new ≡ shape_of_file old
-    → map shape_of_file (set files i new) ≡ map shape_of_file files
+    → shape_of_file new ≡ shape_of_file old → map shape_of_file (set files i new) ≡ map shape_of_file files
 same_shapes [] i old new at same = refl
 same_shapes (f ∷ files) zero old new at same = cc
 same_shapes (f ∷ files) (suc i) old new at same = cc (same_shapes files i old new at same)
@@ -87,33 +86,30 @@ pub data Makes (limits : Limits) (files : List File) (change : Change) (next : L
       → has_name files new.name ≡ false → length new.bytes ≡ length old.bytes → set files i new ≡ next
       → Makes limits files change next
   Rewrites : (i : ℕ) (old new : File) → slice_get files i ≡ Some old → shape_of_file new ≡ shape_of_file old
-      → set files i new ≡ next
-      → Makes limits files change next
+      → set files i new ≡ next → Makes limits files change next
 
-rewrites : (limits : Limits) (files next : List File) (change : Change) (place : ℕ × ℕ)
-    → Some place ≡ least_size_of change
-    → outcome limits files change ≡ Ok next → Makes limits files change next
-rewrites limits files next change place e h =
+rewrites : (limits : Limits) (files : List File) {next : List File} (change : Change) (place : ℕ × ℕ)
+    → Some place ≡ least_size_of change → outcome limits files change ≡ Ok next → Makes limits files change next
+rewrites limits files change place e h =
     let it = in_file change place e in
-    let at = found (slice_get files place.0) (with_new files place it.new_of) next (sym (it.made limits files) ∙ h) in
+    let at = found (slice_get files place.0) (sym (it.made limits files) ∙ h) in
     Rewrites place.0 at.0 (it.new_of at.0) at.1 (it.shape at.0 (grind (arith, nat_tests, at.2)))
     (grind (arith, nat_tests, at.2))
 
-pub makes : (limits : Limits) (files next : List File) (change : Change) → outcome limits files change ≡ Ok next
+pub makes : {limits : Limits} {files next : List File} (change : Change) → outcome limits files change ≡ Ok next
     → Makes limits files change next
-makes limits files next (Create name size) h =
+makes (Create name size) h =
     Adds (record { name = name; bytes = replicate size 0 }) (λ flawless. grind (arith, nat_tests))
     (grind (arith, nat_tests)) (grind (arith, nat_tests))
     (grind (arith, nat_tests, length-replicate {A = ℕ} size 0)) (grind (arith, nat_tests))
-makes limits files next (Delete index) h =
-    let at = found (slice_get files index) (λ file. Ok (remove files index)) next h in
+makes {files = files} (Delete index) h =
+    let at = found (slice_get files index) h in
     Removes index at.0 at.1 (cc (at.2))
-makes limits files next (Rename index name) h =
-    let at = found (slice_get files index) _ next h in
+makes {files = files} (Rename index name) h =
+    let at = found (slice_get files index) h in
     Renames index at.0 (record at.0 { name = name }) at.1 (λ flawless. grind (arith, nat_tests))
-    (grind (arith, nat_tests, at.2)) refl
-    (grind (arith, nat_tests, at.2))
-makes limits files next other h = rewrites limits files next other _ refl h
+    (grind (arith, nat_tests, at.2)) refl (grind (arith, nat_tests, at.2))
+makes {limits = limits} {files = files} other h = rewrites limits files other _ refl h
 
 -- want of memory is no fault of a change
 pub never_one : (limits : Limits) (files : List File) (change : Change) → outcome limits files change ≡ Err NoMemory → ⊥

@@ -82,8 +82,7 @@ IsStage limits outlines rest total =
     × (outcome_of_all limits files rest ≡ total)
 
 module _ (limits : Limits) (outlines : List Outline) (changes : List Change) (i : ℕ) (change : Change)
-    (total : Result (List File) DirectoryFault)
-    (lt : i < length changes) (at : change ≡ get_or changes i change)
+    (total : Result (List File) DirectoryFault) (lt : i < length changes) (at : change ≡ get_or changes i change)
     (stage : IsStage limits outlines (drop i changes) total) where
   -- the changes from one on: it, and then the rest
   split : and_then (outcome limits stage.0 change) (λ files. outcome_of_all limits files (drop (i + 1) changes)) ≡ total
@@ -95,7 +94,7 @@ module _ (limits : Limits) (outlines : List Outline) (changes : List Change) (i 
       → IsStage limits next (drop (i + 1) changes) total
   stage_on next takes made =
       let one = made stage.0 stage.2 in
-      (one.0, changed limits stage.0 one.0 change stage.1 takes one.1, one.2, rw one.1 at split)
+      (one.0, changed stage.1 takes one.1, one.2, rw one.1 at split)
 
   -- a change that is refused is the end
   pub stage_stops : (fault : DirectoryFault)
@@ -104,10 +103,10 @@ module _ (limits : Limits) (outlines : List Outline) (changes : List Change) (i 
   stage_stops fault stopped = ap result_err (rw (stopped stage.0 stage.2) at split)
 
 -- at each stage the sizes fit
-pub stage_room : (limits : Limits) (outlines : List Outline) (rest : List Change)
-    (total : Result (List File) DirectoryFault)
+pub stage_room : {limits : Limits} (outlines : List Outline) (rest : List Change)
+    {total : Result (List File) DirectoryFault}
     → IsStage limits outlines rest total → sum_by (λ outline. outline.size) outlines ≤ limits.bytes
-stage_room limits outlines rest total stage = omega (arith, same_total outlines stage.0 stage.2, stage.1.size)
+stage_room outlines rest stage = omega (arith, same_total outlines stage.0 stage.2, stage.1.size)
 
 -- what outlines tell of the files
 pub ruleset outlining = (same_name, same_count, same_total, nat_tests)

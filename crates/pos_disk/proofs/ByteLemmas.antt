@@ -14,21 +14,18 @@ length-splice old new at fits = grind (arith, common_steps)
 
 -- within its range stand the new ones
 pub spliced_within : {A : Type 0} (d : A) (old new : List A) (at i : ℕ) → at + length new ≤ length old
-    → InRange at (length new) i
-    → get_or (splice old at new) i d ≡ get_or new (i - at) d
+    → InRange at (length new) i → get_or (splice old at new) i d ≡ get_or new (i - at) d
 spliced_within d old new at i fits inside = grind (arith, common_steps, get_or-append_right, get_or_append_left)
 
 -- and everywhere else the old ones
 pub spliced_elsewhere : {A : Type 0} (d : A) (old new : List A) (at i : ℕ) → at + length new ≤ length old
-    → ¬ (InRange at (length new) i)
-    → get_or (splice old at new) i d ≡ get_or old i d
+    → ¬ (InRange at (length new) i) → get_or (splice old at new) i d ≡ get_or old i d
 spliced_elsewhere d old new at i fits outside =
     grind (arith, common_steps, get_or-append_right, get_or_append_left, in_range at (length new) i)
 
 -- the same of bytes, as a read gives them
 pub splice_elsewhere : (old bytes : List ℕ) (at i : ℕ) → at + length bytes ≤ length old
-    → ¬ (InRange at (length bytes) i)
-    → get_or (splice old at bytes) i 0 ≡ get_or old i 0
+    → ¬ (InRange at (length bytes) i) → get_or (splice old at bytes) i 0 ≡ get_or old i 0
 splice_elsewhere old bytes at i fits outside = spliced_elsewhere 0 old bytes at i fits outside
 
 -- the bytes that were written
@@ -46,10 +43,9 @@ pub get_or-part : (at n : ℕ) (bytes : List ℕ) (i place : ℕ) → place ≡ 
 get_or-part at n bytes i place is inside = grind (arith, common_steps)
 
 -- two lists that agree in a range have the same part there
-pub same_part : (xs ys : List ℕ) (at n : ℕ) → at + n ≤ length xs → length xs ≡ length ys
-    → ((i : ℕ) → InRange at n i → get_or xs i 0 ≡ get_or ys i 0)
-    → part at n xs ≡ part at n ys
-same_part xs ys at n fits long agree = grind (arith, common_steps, elements, agree)
+pub same_part : (xs ys : List ℕ) {at : ℕ} (n : ℕ) → at + n ≤ length xs → length xs ≡ length ys
+    → ((i : ℕ) → InRange at n i → get_or xs i 0 ≡ get_or ys i 0) → part at n xs ≡ part at n ys
+same_part xs ys n fits long agree = grind (arith, common_steps, elements, agree)
 
 -- a part of a part
 pub part-part : (at n from m place : ℕ) (bytes : List ℕ) → place ≡ at + from → from + m ≤ n → at + n ≤ length bytes

@@ -22,9 +22,9 @@ module _ (past : List Moment) (present next : Moment) where
       → LeftSince (past ++ present ∷ []) next t c
   keeps t c le left = grind (arith, longer, earlier, length, latest)
 
-  nothing_else : (t : ℕ) (c : List ℕ) → LeftSince (past ++ present ∷ []) next t c
+  nothing_else : {t : ℕ} {c : List ℕ} → LeftSince (past ++ present ∷ []) next t c
       → LeftSince past present t c ⊎ LeftAt next c
-  nothing_else t c left = grind (arith, cases_lt, length, earlier, longer, latest)
+  nothing_else left = grind (arith, cases_lt, length, earlier, longer, latest)
 
 -- a disk in memory keeps its moment before each change
 pub elapsed : (disk : Memory) (next : Moment) (settled : List ℕ)
@@ -33,7 +33,7 @@ pub elapsed : (disk : Memory) (next : Moment) (settled : List ℕ)
 elapsed disk next settled = record {
   later = omega (arith, longer disk.past disk.present next);
   keeps = keeps disk.past disk.present next;
-  nothing_else = λ t c le left. ⊎_elim inl (λ now. inr assumption) (nothing_else disk.past disk.present next t c left);
+  nothing_else = λ t c le left. ⊎_elim inl (λ now. inr assumption) (nothing_else disk.past disk.present next left);
 }
 
 no_failure : {T : Type 0} (old new : Memory) (x : T) → HasCause (state_of old) (state_of new) (Ok x)
@@ -48,8 +48,7 @@ writes disk at bytes long fits =
     let marked = length-replicate (length bytes) true in
     let room : at + length marks ≤ length disk.present.loose = omega (arith, long, marked) in
     let hit : (i : ℕ) → InRange at (length bytes) i → get_or (splice disk.present.loose at marks) i false ≡ true =
-    λ i inside.
-    grind (arith, common_steps, spliced_within false disk.present.loose marks at i room) in
+    λ i inside. grind (arith, common_steps, spliced_within false disk.present.loose marks at i room) in
     let missed : (i : ℕ) → ¬ (InRange at (length bytes) i)
     → get_or (splice disk.present.loose at marks) i false ≡ get_or disk.present.loose i false = λ i outside.
     grind (arith, marked, spliced_elsewhere false disk.present.loose marks at i room) in

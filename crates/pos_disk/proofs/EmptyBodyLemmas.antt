@@ -129,8 +129,7 @@ module _ {n : ℕ} where
     pub stated : (𝓜 : Model 𝓤 𝓛.H) (𝓡 : Running 𝓤 𝓛.H 𝓜) (key : Callee) (function : Fn)
         → let t = tables 𝓤 𝓛.H 𝓜 𝓡 𝓡.env in Closed 𝓤 𝓛.H t.C t.Λ key function
         → ((κs : Lfts n) (qs : Shares n) (bounds : AllOutlive n [] κs) (a : Denots (types_at (slots ps) κs))
-        (g : (c κs a).ghost) → AreTyped κs ps a
-        → ent 𝓤 (on_entry 𝓛 T.signature κs qs a (values ps κs a))
+        (g : (c κs a).ghost) → AreTyped κs ps a → ent 𝓤 (on_entry 𝓛 T.signature κs qs a (values ps κs a))
         (WpFn 𝓤 𝓛.H t.C t.Λ function (flat (types_at (slots ps) κs) (values ps κs a))
         ((walk_of 𝓛 T (stays ps) c).post ((κs, qs, bounds, a, values ps κs a), g))))
         → Triple 𝓤 (t.C key) (triple_of 𝓛 T.signature (closing 𝓛 T c))

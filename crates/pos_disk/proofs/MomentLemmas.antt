@@ -13,8 +13,7 @@ started disk P here = grind arith
 
 -- one call more, after which a crash leaves what has P
 pub goes_on : (old mid new : DiskState) (P : List ℕ → Type 0) → LeavesOnly old mid P → Elapses mid new
-    → ((c : List ℕ) → MayLeave new c → P c)
-    → LeavesOnly old new P
+    → ((c : List ℕ) → MayLeave new c → P c) → LeavesOnly old new P
 goes_on old mid new P so_far time here = grind arith
 
 -- one run after another
@@ -33,8 +32,7 @@ rest_leaves disk bytes rest may = ext_get_or 0 bytes disk.reading may.same_lengt
 
 -- what a disk that was only looked at may leave, it might have left before
 pub seen_before : (old new : DiskState) (bytes : List ℕ) → new.reading ≡ old.reading
-    → ((i : ℕ) → new.loose i → old.loose i) → MayLeave new bytes
-    → MayLeave old bytes
+    → ((i : ℕ) → new.loose i → old.loose i) → MayLeave new bytes → MayLeave old bytes
 seen_before old new bytes same loose may = grind arith
 
 module _ {T : Type 0} (old new : DiskState) (only : (c : List ℕ) → old.left_since old.moment c → MayLeave old c)

@@ -30,7 +30,7 @@ spliced_same old bytes at fits = grind (arith, length-splice, splice_elsewhere)
 -- a part outside the range is as it was
 pub kept_part : {was bytes : List ℕ} {at n : ℕ} → SameBut at n was bytes → (place m : ℕ) → place + m ≤ length was
     → ((i : ℕ) → InRange place m i → ¬ (InRange at n i)) → part place m bytes ≡ part place m was
-kept_part {was = was} {bytes = bytes} same place m fits outside = grind (arith, same_part)
+kept_part same place m fits outside = grind (arith, same_part)
 
 -- a run begins where only places within the range are loose, as none at rest
 pub within_here : {disk : DiskState} {at n : ℕ} → ((i : ℕ) → disk.loose i → InRange at n i)

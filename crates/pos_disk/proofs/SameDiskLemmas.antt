@@ -28,6 +28,6 @@ pub leaves_after : (old mid new : DiskState) (P : List ℕ → Type 0) → IsSam
 leaves_after old mid new P same run = grind arith
 
 -- two such steps are one
-pub keeps_on : {D : Type 0} (bound : Ghosts D) (old mid new : D) → KeepsState bound old mid → KeepsState bound mid new
+pub keeps_on : {D : Type 0} {bound : Ghosts D} {old mid new : D} → KeepsState bound old mid → KeepsState bound mid new
     → KeepsState bound old new
-keeps_on bound old mid new first second = grind (arith, same_on)
+keeps_on first second = grind (arith, same_on)

@@ -41,8 +41,7 @@ module _ (bytes saved stamps : List ℕ) (stamp : ℕ) (long : length stamps ≡
 
 -- a crash may leave whatever is chosen at the loose places
 pub choose_left : (moment : Moment) (xs : List ℕ) → length moment.loose ≡ length moment.reading
-    → length xs ≡ length moment.reading
-    → LeftAt moment (choose moment.loose xs moment.reading)
+    → length xs ≡ length moment.reading → LeftAt moment (choose moment.loose xs moment.reading)
 choose_left moment xs long same = grind (arith, length-choose, choose_at)
 
 -- where each place has been saved
@@ -52,8 +51,7 @@ module _ (bytes stamps old new : List ℕ) (stamp : ℕ) (long : length stamps �
   pub saved_all : IsSaved stamps stamp bytes 0 (length bytes) old new → new ≡ choose (loose_by stamp stamps) old bytes
   saved_all saved =
       ext_get_or 0 new _ (omega (arith, saved.same_length, same, length_settled bytes old stamps stamp long same))
-      (λ i inside.
-      grind (arith, nat_tests, settled_at bytes old stamps stamp long same i, saved))
+      (λ i inside. grind (arith, nat_tests, settled_at bytes old stamps stamp long same i, saved))
 
 -- a byte is chosen from either of two equal lists
 pub choose_same : (loose : List Bool) (ys : List ℕ) → length loose ≡ length ys → choose loose ys ys ≡ ys
@@ -61,21 +59,20 @@ choose_same loose ys long = ext_get_or 0 _ ys (length-choose loose ys ys long re
     (λ i inside. grind (arith, choose_at loose ys ys i long refl))
 
 -- no place bears a later stamp
-pub none_bear : (stamp : ℕ) (stamps : List ℕ) → ((i : ℕ) → get_or stamps i 0 < stamp)
+pub none_bear : {stamp : ℕ} (stamps : List ℕ) → ((i : ℕ) → get_or stamps i 0 < stamp)
     → loose_by stamp stamps ≡ replicate (length stamps) false
-none_bear stamp [] earlier = refl
-none_bear stamp (s ∷ stamps) earlier =
+none_bear [] earlier = refl
+none_bear {stamp = stamp} (s ∷ stamps) earlier =
     let other : (s == stamp) ≡ false = let below : s < stamp = earlier 0 in grind (arith, nat_tests) in
     ap (λ (b : Bool). b ∷ loose_by stamp stamps) other
-    ∙ ap (λ (l : List Bool). false ∷ l) (none_bear stamp stamps (λ i. earlier (suc i)))
+    ∙ ap (λ (l : List Bool). false ∷ l) (none_bear stamps (λ i. earlier (suc i)))
 
 -- under a stamp that no place bears, the disk is at rest
-pub memory_fresh : (bytes saved stamps : List ℕ) (stamp : ℕ) (past : List Moment) → length saved ≡ length bytes
-    → length stamps ≡ length bytes
-    → ((i : ℕ) → get_or stamps i 0 < stamp)
+pub memory_fresh : {bytes : List ℕ} (saved stamps : List ℕ) {stamp : ℕ} (past : List Moment)
+    → length saved ≡ length bytes → length stamps ≡ length bytes → ((i : ℕ) → get_or stamps i 0 < stamp)
     → memory_of bytes saved stamps stamp past ≡ record (fresh bytes) { past = past }
-memory_fresh bytes saved stamps stamp past saved_long long earlier =
-    let none : loose_by stamp stamps ≡ replicate (length bytes) false = rw (← long) (none_bear stamp stamps earlier) in
+memory_fresh {bytes = bytes} saved stamps {stamp = stamp} past saved_long long earlier =
+    let none : loose_by stamp stamps ≡ replicate (length bytes) false = rw (← long) (none_bear stamps earlier) in
     let size = length_settled bytes saved stamps stamp long saved_long in
     let settled : choose (loose_by stamp stamps) saved bytes ≡ bytes = ext_get_or 0 _ bytes size (λ i inside.
     grind (arith, nat_tests, earlier i, settled_at bytes saved stamps stamp long saved_long i (omega (arith, size)))) in

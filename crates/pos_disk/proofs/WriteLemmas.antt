@@ -77,12 +77,11 @@ module _ (bytes saved stamps : List ℕ) (stamp at n : ℕ) (kept : IsKept bytes
   is_written past = rw (stays_settled, loose_splice stamp at n stamps, long)
 
 -- where no place of a range bears the stamp, the bytes of the range are saved all at once
-pub saved_at_once : (stamps : List ℕ) (stamp : ℕ) (bytes : List ℕ) (at n : ℕ) (old : List ℕ) → at + n ≤ length stamps
-    → at + n ≤ length bytes
-    → at + n ≤ length old
+pub saved_at_once : {stamps : List ℕ} {stamp : ℕ} {bytes : List ℕ} (at : ℕ) {n : ℕ} {old : List ℕ}
+    → at + n ≤ length stamps → at + n ≤ length bytes → at + n ≤ length old
     → list_any (λ s. s == stamp) (part at n stamps) ≡ false
     → IsSaved stamps stamp bytes at n old (splice old at (part at n bytes))
-saved_at_once stamps stamp bytes at n old stamps_fit bytes_fit old_fit none =
+saved_at_once {stamps = stamps} {stamp = stamp} {bytes = bytes} at {n = n} {old = old} stamps_fit bytes_fit old_fit none =
     let new = part at n bytes in
     let long : length new ≡ n = length-part at n bytes bytes_fit in
     let fits : at + length new ≤ length old = omega (arith, long) in

@@ -20,19 +20,18 @@ use Rattle.pos_escpos.specs.DisplayBytes.{row_start, rows_bytes, same_size}
 use Rattle.pos_escpos.specs.Screens.{IsShowing, Make, Screen, screen_after, takes}
 
 -- a row is written, and the rows behind it are left
-pub row_written : (is : DisplayProtocol) (columns y n left : ℕ) (old new : List DisplayCell) (out next whole : List ℕ)
+pub row_written : (is : DisplayProtocol) (columns y : ℕ) {n left : ℕ} (old new : List DisplayCell) (out : List ℕ) {next whole : List ℕ}
     → n ≡ suc left → next ≡ out ++ row_bytes is y (take columns old) (take columns new)
     → out ++ rows_bytes is columns y n old new ≡ whole
     → next ++ rows_bytes is columns (y + 1) left (drop columns old) (drop columns new) ≡ whole
-row_written is columns y n left old new out next whole more wrote h =
+row_written is columns y {left = left} old new out more wrote h =
     let rest = rows_bytes is columns (y + 1) left (drop columns old) (drop columns new) in
-    ap (λ bytes. bytes ++ rest) wrote
-    ∙ append_assoc out (row_bytes is y (take columns old) (take columns new)) rest
+    ap (λ bytes. bytes ++ rest) wrote ∙ append_assoc out (row_bytes is y (take columns old) (take columns new)) rest
     ∙ ap (λ (k : ℕ). out ++ rows_bytes is columns y k old new) (sym more) ∙ h
 
 -- the cells of the rows that are left
-pub left_length : (rest columns n left : ℕ) → n ≡ suc left → rest + columns ≡ n * columns → rest ≡ left * columns
-left_length rest columns n left more h =
+pub left_length : (rest columns : ℕ) {n left : ℕ} → n ≡ suc left → rest + columns ≡ n * columns → rest ≡ left * columns
+left_length rest columns {left = left} more h =
     let whole : rest + columns ≡ suc left * columns = h ∙ ap (λ k. k * columns) more in omega arith
 
 -- a display of this size
@@ -85,16 +84,16 @@ abbrev are_characters : List ℕ → Bool
 are_characters bytes = list_all (λ b. nat_le 32 b && nat_le b 126) bytes
 
 -- the characters of a row are shown, up to its last column
-takes_row : (is : DisplayProtocol) (rows columns row column : ℕ) (front old new back : List ℕ)
+takes_row : (is : DisplayProtocol) (rows : ℕ) {columns : ℕ} (row column : ℕ) (front old new back : List ℕ)
     → length old ≡ length new → column + length new ≡ columns → length front ≡ row * columns + column
     → are_characters new ≡ true
     → screen_after (make_by is rows columns) (shown (front ++ (old ++ back)) (cursor_in columns row column)) new
     ≡ shown (front ++ (new ++ back)) (cursor_in columns row columns)
-takes_row is rows columns row column front [] [] back same room at fit =
+takes_row is rows {columns = columns} row column front [] [] back same room at fit =
     ap (λ k. shown (front ++ back) (cursor_in columns row k)) (omega arith)
-takes_row is rows columns row column front [] (b ∷ new) back same room at fit = let bad : ⊥ = omega arith in absurd bad
-takes_row is rows columns row column front (o ∷ old) [] back same room at fit = let bad : ⊥ = omega arith in absurd bad
-takes_row is rows columns row column front (o ∷ old) (b ∷ new) back same room at fit =
+takes_row is rows row column front [] (b ∷ new) back same room at fit = let bad : ⊥ = omega arith in absurd bad
+takes_row is rows row column front (o ∷ old) [] back same room at fit = let bad : ⊥ = omega arith in absurd bad
+takes_row is rows {columns = columns} row column front (o ∷ old) (b ∷ new) back same room at fit =
     let make = make_by is rows columns in
     let parts = and_parts (nat_le 32 b && nat_le b 126) (are_characters new) fit in
     let le = leb-true 32 b (and_parts (nat_le 32 b) (nat_le b 126) parts.0).0 in
@@ -104,7 +103,7 @@ takes_row is rows columns row column front (o ∷ old) (b ∷ new) back same roo
     ∙ ap (λ s. fold (takes make) s new) (takes_character is rows columns row column b (front ++ ((o ∷ old) ++ back)) le)
     ∙ ap (λ characters. fold (takes make) (shown characters (cursor_in columns row (column + 1))) new)
     (set_at front o (old ++ back) b (row * columns + column) at ∙ sym (append_assoc front (b ∷ []) (old ++ back)))
-    ∙ takes_row is rows columns row (column + 1) (front ++ b ∷ []) old new back (omega arith) (omega arith)
+    ∙ takes_row is rows row (column + 1) (front ++ b ∷ []) old new back (omega arith) (omega arith)
     (simp length-append (omega arith)) parts.1
     ∙ ap (λ characters. shown characters (cursor_in columns row columns)) (append_assoc front (b ∷ []) (new ++ back))
 
@@ -131,15 +130,13 @@ takes_one is rows columns row front back old new cursor some within at old_size 
     rw (ne_eqb 0 columns (λ e. omega arith)) refl in
     record {
       cursor = cursor_in columns row columns;
-      is = rw changed
-          (fold-append (takes make) (shown was cursor) (row_start is (row + 1)) (characters_of new)
-          ∙ ap (λ s. fold (takes make) s (characters_of new)) (takes_start is rows columns row was cursor some within)
-          ∙ ap (λ c. fold (takes make) (shown was c) (characters_of new)) (sym zero_column)
-          ∙ takes_row is rows columns row 0 front (characters_of old) (characters_of new) back
-          (simp length-map (old_size ∙ sym new_size)) (simp length-map (omega arith)) (omega arith)
-          (list_all-map (λ b. nat_le 32 b && nat_le b 126) (λ (cell : DisplayCell). cell.character) new ∙ fit));
-    })
-    (cases_Bool (bytes_eq (characters_of old) (characters_of new)))
+      is = rw changed (fold-append (takes make) (shown was cursor) (row_start is (row + 1)) (characters_of new) ∙ ap
+          (λ s. fold (takes make) s (characters_of new)) (takes_start is rows columns row was cursor some within) ∙ ap
+          (λ c. fold (takes make) (shown was c) (characters_of new)) (sym zero_column) ∙ takes_row is rows row 0 front
+          (characters_of old) (characters_of new) back (simp length-map (old_size ∙ sym new_size))
+          (simp length-map (omega arith)) (omega arith) (list_all-map (λ b. nat_le 32 b && nat_le b 126)
+          (λ (cell : DisplayCell). cell.character) new ∙ fit));
+    }) (cases_Bool (bytes_eq (characters_of old) (characters_of new)))
 
 -- cells in two parts
 in_parts : (columns : ℕ) (cells : List DisplayCell)
@@ -168,28 +165,23 @@ takes_rows is rows columns (suc n) row front old new cursor some within at old_s
     let fits = and_parts (list_all is_character first_new) (list_all is_character rest_new)
     (sym (list_all-append is_character first_new rest_new) ∙ ap (list_all is_character) (take-append-drop columns new)
     ∙ fit) in
-    let one = takes_one is rows columns row front (characters_of rest_old) first_old first_new cursor some
-    (omega arith) at
-    (length-take-le columns old (omega arith)) (length-take-le columns new (omega arith)) fits.0 in
-    let next = takes_rows is rows columns n (row + 1)
-    (front ++ characters_of first_new) rest_old rest_new one.cursor some (omega arith)
-    (simp (length-append, length-map) (omega (arith, length-take-le columns new (omega arith))))
+    let one = takes_one is rows columns row front (characters_of rest_old) first_old first_new cursor some (omega arith)
+    at (length-take-le columns old (omega arith)) (length-take-le columns new (omega arith)) fits.0 in
+    let next = takes_rows is rows columns n (row + 1) (front ++ characters_of first_new) rest_old rest_new one.cursor
+    some (omega arith) (simp (length-append, length-map) (omega (arith, length-take-le columns new (omega arith))))
     (simp length-drop (omega arith)) (simp length-drop (omega arith)) fits.1 in
     let rest_bytes = rows_bytes is columns (row + 1 + 1) n rest_old rest_new in
     record {
       cursor = next.cursor;
       is =
-          ap (λ cs. screen_after make (shown (front ++ cs) cursor)
-          (row_bytes is (row + 1) first_old first_new ++ rest_bytes)) (in_parts columns old)
-          ∙ fold-append (takes make) (shown (front ++ (characters_of first_old ++ characters_of rest_old)) cursor)
-          (row_bytes is (row + 1) first_old first_new) rest_bytes
-          ∙ ap (λ s. fold (takes make) s rest_bytes) one.is
-          ∙ ap (λ cs. fold (takes make) (shown cs one.cursor) rest_bytes)
-          (sym (append_assoc front (characters_of first_new) (characters_of rest_old)))
-          ∙ next.is
-          ∙ ap (λ cs. shown cs next.cursor)
-          (append_assoc front (characters_of first_new) (characters_of rest_new)
-          ∙ ap (λ cs. front ++ cs) (sym (in_parts columns new)));
+          ap (λ cs. screen_after make (shown (front ++ cs) cursor) (row_bytes is (row + 1) first_old first_new
+          ++ rest_bytes)) (in_parts columns old) ∙ fold-append (takes make)
+          (shown (front ++ (characters_of first_old ++ characters_of rest_old)) cursor)
+          (row_bytes is (row + 1) first_old first_new) rest_bytes ∙ ap (λ s. fold (takes make) s rest_bytes) one.is ∙ ap
+          (λ cs. fold (takes make) (shown cs one.cursor) rest_bytes) (sym (append_assoc front (characters_of first_new)
+          (characters_of rest_old))) ∙ next.is ∙ ap (λ cs. shown cs next.cursor)
+          (append_assoc front (characters_of first_new) (characters_of rest_new) ∙ ap (λ cs. front ++ cs)
+          (sym (in_parts columns new)));
     }
 
 -- what a whole display has
@@ -225,15 +217,13 @@ becomes is old new can screen showing =
     new_count.0 (omega arith) (omega arith) old_size new_count.1 new_count.2 in
     let begins : screen ≡ shown (characters_of old.cells) screen.cursor =
     ap (λ cs. record { characters = cs; cursor = screen.cursor; is_known = screen.is_known; begun = screen.begun })
-    showing.shown
-    ∙ ap (λ known. record {
+    showing.shown ∙ ap (λ known. record {
       characters = characters_of old.cells;
       cursor = screen.cursor;
       is_known = known;
       begun =
           screen.begun;
-    }) showing.known
-    ∙ ap (λ begun. record {
+    }) showing.known ∙ ap (λ begun. record {
       characters = characters_of old.cells;
       cursor = screen.cursor;
       is_known = true;
@@ -241,9 +231,8 @@ becomes is old new can screen showing =
           begun;
     }) showing.whole in
     let bytes = rows_bytes is new.columns 1 new.rows old.cells new.cells in
-    subst (λ (s : Screen). IsShowing (characters_of new.cells) s)
-    (sym (ap (λ s. screen_after (make_of is new) s bytes) begins ∙ all.is))
-    (record { shown = refl; known = refl; whole = refl })
+    subst (λ (s : Screen). IsShowing (characters_of new.cells) s) (sym (ap (λ s. screen_after (make_of is new) s bytes)
+    begins ∙ all.is)) (record { shown = refl; known = refl; whole = refl })
 
 -- blanks are spaces
 blank_characters : (n : ℕ) → characters_of (replicate n blank) ≡ replicate n 32
@@ -253,8 +242,7 @@ blank_characters (suc n) = ap (λ characters. 32 ∷ characters) (blank_characte
 -- a display that was initialized and cleared shows blanks
 cleared_at_start : (is : DisplayProtocol) (rows columns : ℕ) (characters : List ℕ) (cursor : Option Place)
     (known : Bool)
-    → IsShowing (replicate (rows * columns) 32)
-    (screen_after (make_by is rows columns)
+    → IsShowing (replicate (rows * columns) 32) (screen_after (make_by is rows columns)
     (record { characters = characters; cursor = cursor; is_known = known; begun = [] }) (27 ∷ 64 ∷ 12 ∷ []))
 cleared_at_start protocol.Cd5220 rows columns characters cursor known =
     record { shown = refl; known = refl; whole = refl }
@@ -279,7 +267,6 @@ starts_blank make screen whole =
           begun;
     }) whole in
     subst (λ (characters : List ℕ). IsShowing characters (screen_after make screen (27 ∷ 64 ∷ 12 ∷ [])))
-    (sym (blank_characters (make.rows * make.columns)))
-    (subst (λ (s : Screen). IsShowing (replicate (make.rows * make.columns) 32)
-    (screen_after make s (27 ∷ 64 ∷ 12 ∷ []))) (sym start)
+    (sym (blank_characters (make.rows * make.columns))) (subst (λ (s : Screen). IsShowing
+    (replicate (make.rows * make.columns) 32) (screen_after make s (27 ∷ 64 ∷ 12 ∷ []))) (sym start)
     (cleared_at_start make.protocol make.rows make.columns screen.characters screen.cursor screen.is_known))

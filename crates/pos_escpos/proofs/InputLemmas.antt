@@ -22,26 +22,26 @@ use Rattle.pos_escpos.specs.Inputs.{printer_signs_after, printer_table}
 abbrev pub on : Mechanism → Plant
 on its = record { powered = true; mechanism = its }
 
-is_on : (its : Mechanism) (plant : Plant) → (plant.powered ≡ true) × (plant.mechanism ≡ its) → plant ≡ on its
-is_on its plant (powered, is) =
+is_on : {its : Mechanism} {plant : Plant} → (plant.powered ≡ true) × (plant.mechanism ≡ its) → plant ≡ on its
+is_on {plant = plant} (powered, is) =
     ap (λ powered. record { powered = powered; mechanism = plant.mechanism }) powered ∙ ap on is
 
 -- power is on then
-power_taken : (powered : Bool) (its : Mechanism) (new : Plant)
+power_taken : (powered : Bool) {its : Mechanism} {new : Plant}
     → TakesMaybe (power_input powered) (record { powered = powered; mechanism = its }) new → new ≡ on its
-power_taken true its new h = h
-power_taken false its new h = h
+power_taken true h = h
+power_taken false h = h
 
 -- the cover is as it was told then
-cover_taken : (shown : Bool) (r : Printer) (told : Option Bool) (new : Plant)
+cover_taken : (shown : Bool) (r : Printer) (told : Option Bool) {new : Plant}
     → TakesMaybe (moved_input input.CoverMoved shown told)
     (on (mechanism.Printer (record r { is_cover_open = shown }))) new
     → new ≡ on (mechanism.Printer (record r { is_cover_open = unwrap_or told shown }))
-cover_taken shown r None new h = h
-cover_taken true r (Some true) new h = h
-cover_taken true r (Some false) new h = is_on (mechanism.Printer (record r { is_cover_open = false })) new h
-cover_taken false r (Some true) new h = is_on (mechanism.Printer (record r { is_cover_open = true })) new h
-cover_taken false r (Some false) new h = h
+cover_taken shown r None h = h
+cover_taken true r (Some true) h = h
+cover_taken true r (Some false) h = is_on h
+cover_taken false r (Some true) h = is_on h
+cover_taken false r (Some false) h = h
 
 -- the lines for a level are of that level
 lines_show : (sensors : SensorSettings) (level : PaperLevel)
@@ -49,9 +49,12 @@ lines_show : (sensors : SensorSettings) (level : PaperLevel)
 lines_show sensors paper.Good =
     rw (ne_eqb sensors.lines 0 (λ e. omega (arith, sensors.more)), lt-leb sensors.lines sensors.near sensors.more) refl
 lines_show sensors paper.NearEnd = ⊎_elim
-    (λ (none : (sensors.near == 0) ≡ true).
-    rw (none, ne_eqb sensors.lines 0 (λ e. omega (arith, sensors.more)), lt-leb sensors.lines sensors.near sensors.more)
-    refl)
+    (λ (none : (sensors.near == 0) ≡ true). rw (
+      none,
+      ne_eqb sensors.lines 0 (λ e. omega (arith, sensors.more)),
+      lt-leb
+          sensors.lines sensors.near sensors.more,
+    ) refl)
     (λ (some : (sensors.near == 0) ≡ false). rw (some, some, le-leb sensors.near sensors.near (omega arith)) refl)
     (cases_Bool (sensors.near == 0))
 lines_show sensors paper.Empty = refl
@@ -63,61 +66,61 @@ pub record HasPaper (near : ℕ) (r : Printer) (shown : PaperLevel) (new : Plant
   pub level : paper_level near lines ≡ shown
 
 -- paper that is loaded shows its level
-loaded : (sensors : SensorSettings) (r : Printer) (level : PaperLevel) (new : Plant)
+loaded : (sensors : SensorSettings) {r : Printer} {level : PaperLevel} {new : Plant}
     → paper_level sensors.near (lines_for sensors level) ≡ level
     → (new.powered ≡ true) × (new.mechanism ≡ mechanism.Printer (record r { left = lines_for sensors level }))
     → HasPaper sensors.near r level new
-loaded sensors r level new shows h = record {
+loaded sensors {level = level} shows h = record {
   lines = lines_for sensors level;
-  plant = is_on (mechanism.Printer (record r { left = lines_for sensors level })) new h;
+  plant = is_on h;
   level = shows;
 }
 
 -- a printer that shows the level is left alone
-left_alone : (sensors : SensorSettings) (r : Printer) (level : PaperLevel) (new : Plant)
+left_alone : (sensors : SensorSettings) (r : Printer) {level : PaperLevel} {new : Plant}
     → paper_level sensors.near r.left ≡ level → new ≡ on (mechanism.Printer r) → HasPaper sensors.near r level new
-left_alone sensors r level new shows h = record { lines = r.left; plant = h; level = shows }
+left_alone sensors r {level = level} shows h = record { lines = r.left; plant = h; level = shows }
 
-level_taken : (sensors : SensorSettings) (r : Printer) (shown level : PaperLevel) (new : Plant)
+level_taken : (sensors : SensorSettings) {r : Printer} (shown level : PaperLevel) {new : Plant}
     → paper_level sensors.near r.left ≡ shown → paper_level sensors.near (lines_for sensors level) ≡ level
     → TakesMaybe (level_input sensors shown level) (on (mechanism.Printer r)) new → HasPaper sensors.near r level new
-level_taken sensors r paper.Good paper.Good new is shows h = left_alone sensors r paper.Good new is h
-level_taken sensors r paper.Good paper.NearEnd new is shows h = loaded sensors r paper.NearEnd new shows h
-level_taken sensors r paper.Good paper.Empty new is shows h = loaded sensors r paper.Empty new shows h
-level_taken sensors r paper.NearEnd paper.Good new is shows h = loaded sensors r paper.Good new shows h
-level_taken sensors r paper.NearEnd paper.NearEnd new is shows h = left_alone sensors r paper.NearEnd new is h
-level_taken sensors r paper.NearEnd paper.Empty new is shows h = loaded sensors r paper.Empty new shows h
-level_taken sensors r paper.Empty paper.Good new is shows h = loaded sensors r paper.Good new shows h
-level_taken sensors r paper.Empty paper.NearEnd new is shows h = loaded sensors r paper.NearEnd new shows h
-level_taken sensors r paper.Empty paper.Empty new is shows h = left_alone sensors r paper.Empty new is h
+level_taken sensors {r = r} paper.Good paper.Good is shows h = left_alone sensors r is h
+level_taken sensors paper.Good paper.NearEnd is shows h = loaded sensors shows h
+level_taken sensors paper.Good paper.Empty is shows h = loaded sensors shows h
+level_taken sensors paper.NearEnd paper.Good is shows h = loaded sensors shows h
+level_taken sensors {r = r} paper.NearEnd paper.NearEnd is shows h = left_alone sensors r is h
+level_taken sensors paper.NearEnd paper.Empty is shows h = loaded sensors shows h
+level_taken sensors paper.Empty paper.Good is shows h = loaded sensors shows h
+level_taken sensors paper.Empty paper.NearEnd is shows h = loaded sensors shows h
+level_taken sensors {r = r} paper.Empty paper.Empty is shows h = left_alone sensors r is h
 
-paper_taken : (sensors : SensorSettings) (r : Printer) (told : Option PaperLevel) (new : Plant)
+paper_taken : (sensors : SensorSettings) (r : Printer) (told : Option PaperLevel) {new : Plant}
     → TakesMaybe (paper_input sensors (paper_level sensors.near r.left) told) (on (mechanism.Printer r)) new
     → HasPaper sensors.near r (level_after sensors.near (paper_level sensors.near r.left) told) new
-paper_taken sensors r None new h = left_alone sensors r (paper_level sensors.near r.left) new refl h
-paper_taken sensors r (Some level) new h =
-    level_taken sensors r (paper_level sensors.near r.left) (level_shown sensors.near level) new refl
+paper_taken sensors r None h = left_alone sensors r refl h
+paper_taken sensors r (Some level) h =
+    level_taken sensors (paper_level sensors.near r.left) (level_shown sensors.near level) refl
     (lines_show sensors level) h
 
 -- a printer shows what its sensors tell
-printer_shows : (sensors : SensorSettings) (chars : ℕ) (powered : Bool) (r : Printer) (status : Status) (new : Plant)
+printer_shows : (sensors : SensorSettings) (chars : ℕ) (powered : Bool) (r : Printer) (status : Status) {new : Plant}
     → let is = kind.Printer chars sensors.near in let signs = signs_by powered is (mechanism.Printer r) in
     TakesAll (printer_table sensors signs status) (record { powered = powered; mechanism = mechanism.Printer r }) new
     → signs_of is new ≡ printer_signs_after sensors signs status
-printer_shows sensors chars powered r status new (turned_on, powers, (opened, moves, (filled, loads, last))) =
+printer_shows sensors chars powered r status (turned_on, powers, (opened, moves, (filled, loads, last))) =
     let is = kind.Printer chars sensors.near in
-    let one = power_taken powered (mechanism.Printer r) turned_on powers in
+    let one = power_taken powered powers in
     let cover = unwrap_or status.is_cover_open r.is_cover_open in
     let moved = record r { is_cover_open = cover } in
-    let two = cover_taken r.is_cover_open r status.is_cover_open opened (rw one at moves) in
-    let three = paper_taken sensors moved status.paper filled (rw two at loads) in
+    let two = cover_taken r.is_cover_open r status.is_cover_open (rw one at moves) in
+    let three = paper_taken sensors moved status.paper (rw two at loads) in
     ap (signs_of is) (last ∙ three.plant)
     ∙ ap (λ level. record { powered = true; drawer_open = false; cover_open = cover; paper = level }) three.level
 
-pub printer_told : (sensors : SensorSettings) (chars : ℕ) (old : Plant) (signs : Signs) (status : Status) (new : Plant)
+pub printer_told : (sensors : SensorSettings) (chars : ℕ) (old : Plant) {signs : Signs} (status : Status) (new : Plant)
     → let is = kind.Printer chars sensors.near in IsPlantOf is old → signs_of is old ≡ signs
     → TakesAll (printer_table sensors signs status) old new → signs_of is new ≡ printer_signs_after sensors signs status
-printer_told sensors chars old signs status new fits is h =
+printer_told sensors chars old {signs = signs} status new fits is h =
     let kind_is = kind.Printer chars sensors.near in
     (elim old.mechanism as (λ its. IsPlantOf kind_is (record { powered = old.powered; mechanism = its })
     → signs_by old.powered kind_is its ≡ signs
@@ -126,49 +129,43 @@ printer_told sensors chars old signs status new fits is h =
       | mechanism.Drawer b ↦ (λ bad. absurd bad)
       | mechanism.Scanner ↦ (λ bad. absurd bad)
       | mechanism.Display d ↦ (λ bad. absurd bad)
-      | mechanism.Printer r ↦ (λ _ e taken.
-          subst (λ (s : Signs). TakesAll (printer_table sensors s status)
-          (record { powered = old.powered; mechanism = mechanism.Printer r }) new
-          → signs_of kind_is new ≡ printer_signs_after sensors s status) e
-          (printer_shows sensors chars old.powered r status new) taken)
-    ])
-    fits is h
+      | mechanism.Printer r ↦ (λ _ e taken. subst (λ (s : Signs). TakesAll (printer_table sensors s status)
+          (record { powered = old.powered; mechanism = mechanism.Printer r }) new → signs_of kind_is new
+          ≡ printer_signs_after sensors s status) e (printer_shows sensors chars old.powered r status) taken)
+    ]) fits is h
 
 -- a drawer is as it was told then
-drawer_taken : (shown : Bool) (told : Option Bool) (new : Plant)
+drawer_taken : (shown : Bool) (told : Option Bool) {new : Plant}
     → TakesMaybe (moved_input input.DrawerMoved shown told) (on (mechanism.Drawer shown)) new
     → new ≡ on (mechanism.Drawer (unwrap_or told shown))
-drawer_taken shown None new h = h
-drawer_taken true (Some true) new h = h
-drawer_taken true (Some false) new h = is_on (mechanism.Drawer false) new h
-drawer_taken false (Some true) new h = is_on (mechanism.Drawer true) new h
-drawer_taken false (Some false) new h = h
+drawer_taken shown None h = h
+drawer_taken true (Some true) h = h
+drawer_taken true (Some false) h = is_on h
+drawer_taken false (Some true) h = is_on h
+drawer_taken false (Some false) h = h
 
-drawer_shows : (sensors : SensorSettings) (powered was : Bool) (status : Status) (new : Plant)
+drawer_shows : (sensors : SensorSettings) (powered was : Bool) (status : Status) {new : Plant}
     → let signs = signs_by powered kind.Drawer (mechanism.Drawer was) in
     TakesAll (drawer_table sensors signs status) (record { powered = powered; mechanism = mechanism.Drawer was }) new
     → signs_of kind.Drawer new ≡ drawer_signs_after sensors signs status
-drawer_shows sensors powered was status new (turned_on, powers, (moved, moves, last)) =
-    let one = power_taken powered (mechanism.Drawer was) turned_on powers in
-    let two = drawer_taken was (open_told sensors status.is_pin_high) moved (rw one at moves) in
+drawer_shows sensors powered was status (turned_on, powers, (moved, moves, last)) =
+    let one = power_taken powered powers in
+    let two = drawer_taken was (open_told sensors status.is_pin_high) (rw one at moves) in
     ap (signs_of kind.Drawer) (last ∙ two)
 
-pub drawer_told : (sensors : SensorSettings) (old : Plant) (signs : Signs) (status : Status) (new : Plant)
+pub drawer_told : (sensors : SensorSettings) (old : Plant) {signs : Signs} (status : Status) (new : Plant)
     → IsPlantOf kind.Drawer old → signs_of kind.Drawer old ≡ signs
     → TakesAll (drawer_table sensors signs status) old new
     → signs_of kind.Drawer new ≡ drawer_signs_after sensors signs status
-drawer_told sensors old signs status new fits is h =
+drawer_told sensors old {signs = signs} status new fits is h =
     (elim old.mechanism as (λ its. IsPlantOf kind.Drawer (record { powered = old.powered; mechanism = its })
     → signs_by old.powered kind.Drawer its ≡ signs
     → TakesAll (drawer_table sensors signs status) (record { powered = old.powered; mechanism = its }) new
     → signs_of kind.Drawer new ≡ drawer_signs_after sensors signs status) [
-      | mechanism.Drawer was ↦ (λ _ e taken.
-          subst (λ (s : Signs). TakesAll (drawer_table sensors s status)
-          (record { powered = old.powered; mechanism = mechanism.Drawer was }) new
-          → signs_of kind.Drawer new ≡ drawer_signs_after sensors s status) e
-          (drawer_shows sensors old.powered was status new) taken)
+      | mechanism.Drawer was ↦ (λ _ e taken. subst (λ (s : Signs). TakesAll (drawer_table sensors s status)
+          (record { powered = old.powered; mechanism = mechanism.Drawer was }) new → signs_of kind.Drawer new
+          ≡ drawer_signs_after sensors s status) e (drawer_shows sensors old.powered was status) taken)
       | mechanism.Scanner ↦ (λ bad. absurd bad)
       | mechanism.Display d ↦ (λ bad. absurd bad)
       | mechanism.Printer r ↦ (λ bad. absurd bad)
-    ])
-    fits is h
+    ]) fits is h

@@ -30,9 +30,7 @@ after_joined step x y =
       skipped = step.received.skipped + (x.skipped + y.skipped);
       reader =
           y.reader;
-    })
-    (before_append step.received.reply x.replies y.replies)
-    ∙ ap (λ k. record {
+    }) (before_append step.received.reply x.replies y.replies) ∙ ap (λ k. record {
       replies = replies_before step.received.reply x.replies ++ y.replies;
       skipped = k;
       reader =
@@ -102,8 +100,7 @@ size_told first bytes = elim (begins_job first) as (λ is_job. length bytes ≡ 
 
 continued_accounts : (begun : List ℕ) (first b : ℕ) (reader : Reader)
     → Accounts (length begun) (continued begun first b reader)
-continued_accounts begun first b reader = ⊎_elim
-    (λ (whole : (length begun + 1 == reply_size first) ≡ true).
+continued_accounts begun first b reader = ⊎_elim (λ (whole : (length begun + 1 == reply_size first) ≡ true).
     let size = size_told first (begun ++ b ∷ [])
     (simp length-append (eqb-true (length begun + 1) (reply_size first) whole)) in
     rw whole (omega (arith, size, length-append begun (b ∷ []))))
@@ -143,8 +140,7 @@ before_bytes (Some one) replies = refl
 
 pub counts_all : (reader : Reader) (bytes : List ℕ)
     → (reading_of reader bytes).skipped + bytes_of_replies (reading_of reader bytes).replies + length
-    (reading_of reader bytes).reader.begun
-    ≡ length reader.begun + length bytes
+    (reading_of reader bytes).reader.begun ≡ length reader.begun + length bytes
 counts_all reader [] = omega arith
 counts_all reader (b ∷ bytes) =
     let step = byte_received reader b in
@@ -171,26 +167,27 @@ not_first b h = elim (is_first b) as (λ t. not t ≡ true → t ≡ false) [ tr
 
 -- no reply comes of bytes that begin none and are too few to end what has begun
 no_reply : (begun : List ℕ) (reader : Reader) (bytes : List ℕ) → reader.asked_in_order ≡ None → none_first bytes ≡ true
-    → IsShort begun bytes
-    → (reading_of (with_begun begun reader) bytes).replies ≡ []
+    → IsShort begun bytes → (reading_of (with_begun begun reader) bytes).replies ≡ []
 no_reply begun reader [] none firsts short = refl
 no_reply [] reader (b ∷ bytes) none firsts short =
     let parts = and_parts (not (is_first b)) (none_first bytes) firsts in
     ap (λ r. r.replies) (first_step (with_begun [] reader) b bytes (reads_none 1 [] reader)
-    (rw (not_first b parts.0, none) refl))
-    ∙ no_reply [] reader bytes none parts.1 tt
+    (rw (not_first b parts.0, none) refl)) ∙ no_reply [] reader bytes none parts.1 tt
 no_reply (first ∷ more) reader (b ∷ bytes) none firsts short =
     let parts = and_parts (not (is_first b)) (none_first bytes) firsts in
     let begun = first ∷ more in
     ⊎_elim
-    (λ (goes : goes_on first (length begun) b ≡ true).
-    ap (λ r. r.replies) (first_step (with_begun begun reader) b bytes (reads_none 0 (begun ++ b ∷ []) reader)
-    (rw (not_first b parts.0, goes, ne_eqb (length begun + 1) (reply_size first) (λ e. omega arith)) refl))
-    ∙ no_reply (begun ++ b ∷ []) reader bytes none parts.1 (omega (arith, length-append more (b ∷ []))))
-    (λ (ends : goes_on first (length begun) b ≡ false).
-    ap (λ r. r.replies) (first_step (with_begun begun reader) b bytes (reads_none (length begun + 1) [] reader)
-    (rw (not_first b parts.0, ends) refl))
-    ∙ no_reply [] reader bytes none parts.1 tt)
+    (λ (goes : goes_on first (length begun) b ≡ true). ap (λ r. r.replies) (first_step (with_begun begun reader) b bytes
+    (reads_none 0 (begun ++ b ∷ []) reader) (rw (
+      not_first b parts.0,
+      goes,
+      ne_eqb (length begun + 1) (reply_size first)
+          (λ e. omega arith),
+    ) refl)) ∙ no_reply (begun ++ b ∷ []) reader bytes none parts.1
+    (omega (arith, length-append more (b ∷ []))))
+    (λ (ends : goes_on first (length begun) b ≡ false). ap (λ r. r.replies)
+    (first_step (with_begun begun reader) b bytes (reads_none (length begun + 1) [] reader)
+    (rw (not_first b parts.0, ends) refl)) ∙ no_reply [] reader bytes none parts.1 tt)
     (cases_Bool (goes_on first (length begun) b))
 
 -- what comes of bytes is no more than they are
@@ -216,8 +213,7 @@ long_first b h = ⊎_elim
     (λ (other : begins_status b ≡ false).
     let job : begins_job b ≡ true = rw other at h in
     let is : b ≡ 55 = eqb-true b 55 job in
-    rw is refl)
-    (cases_Bool (begins_status b))
+    rw is refl) (cases_Bool (begins_status b))
 
 -- no reply comes of a long reply of which bytes were lost, but not its first, whatever had begun before it
 pub begun_gives_none : (reader : Reader) (sent : List ℕ) (which : List Bool) → reader.asked_in_order ≡ None
@@ -229,16 +225,13 @@ begun_gives_none reader (first ∷ more) which none long lost =
     (none_first more) long in
     let ends = and_parts (begins_status first || begins_job first) (length more + 1 == reply_size first) parts.0 in
     let size = eqb-true (length more + 1) (reply_size first) ends.1 in
-    ap (λ r. r.replies) (first_step reader first (kept which more)
-    (reads_none (length reader.begun) (first ∷ []) reader)
-    (rw (long_first first ends.0, ends.0) refl))
-    ∙ no_reply (first ∷ []) reader (kept which more) none (kept_none_first which more parts.1)
-    (omega (arith, kept_le which more))
+    ap (λ r. r.replies) (first_step reader first (kept which more) (reads_none (length reader.begun) (first ∷ [])
+    reader) (rw (long_first first ends.0, ends.0) refl)) ∙ no_reply (first ∷ []) reader (kept which more) none
+    (kept_none_first which more parts.1) (omega (arith, kept_le which more))
 
 -- no reply comes of a long reply of which bytes were lost
 pub lost_gives_none : (reader : Reader) (sent : List ℕ) (which : List Bool) → reader.asked_in_order ≡ None
-    → reader.begun ≡ []
-    → is_long_reply sent ≡ true → length (kept which sent) ≢ length sent
+    → reader.begun ≡ [] → is_long_reply sent ≡ true → length (kept which sent) ≢ length sent
     → (reading_of reader (kept which sent)).replies ≡ []
 lost_gives_none reader [] [] none idle long lost = refl
 lost_gives_none reader [] (here ∷ which) none idle long lost = refl

@@ -59,10 +59,8 @@ numbered_plain digits letters =
 
 sequence_plain : (bytes : List ℕ) → are_plain (sequence_pieces bytes) ≡ true
 sequence_plain bytes =
-    either (bytes_eq bytes (codes "bC")) _ _ refl
-    (either (bytes_eq bytes (codes "cA")) _ _ refl
-    (either (bytes_eq bytes (codes "rA")) _ _ refl
-    (either (bytes_eq bytes (codes "N")) _ _ refl
+    either (bytes_eq bytes (codes "bC")) _ _ refl (either (bytes_eq bytes (codes "cA")) _ _ refl
+    (either (bytes_eq bytes (codes "rA")) _ _ refl (either (bytes_eq bytes (codes "N")) _ _ refl
     (numbered_plain (take (prefix_len is_digit bytes) bytes) (drop (prefix_len is_digit bytes) bytes)))))
 
 escape_plain : (bs : List ℕ) → are_plain (escape_sequence bs).pieces ≡ true
@@ -76,9 +74,8 @@ escape_plain bs =
 
 after_escape_plain : (bs : List ℕ) → are_plain (reading_after_escape bs).pieces ≡ true
 after_escape_plain [] = refl
-after_escape_plain (b ∷ bs) = elim
-    (b == 124) as (λ bar. are_plain
-    (cond {A = Reading} bar (escape_sequence bs) (record { pieces = []; more = 0 })).pieces ≡ true) [
+after_escape_plain (b ∷ bs) = elim (b == 124) as (λ bar. are_plain (cond {A = Reading} bar (escape_sequence bs)
+    (record { pieces = []; more = 0 })).pieces ≡ true) [
       | true ↦ escape_plain bs
       | false ↦ refl
     ]
@@ -94,10 +91,7 @@ byte_plain b bs ok = ⊎_elim
     rw (no_esc, no_feed, return) (either (starts_with (λ next. next == 10) bs) [] (piece.Return ∷ []) refl refl))
     (λ (no_return : (b == 13) ≡ false).
     let within : (nat_le 32 b && nat_le b 126) ≡ true = rw (no_feed, no_return, no_esc) at ok in
-    rw (no_esc, no_feed, no_return, within) refl)
-    (cases_Bool (b == 13)))
-    (cases_Bool (b == 10)))
-    (cases_Bool (b == 27))
+    rw (no_esc, no_feed, no_return, within) refl) (cases_Bool (b == 13))) (cases_Bool (b == 10))) (cases_Bool (b == 27))
 
 -- what a text stands for is plain
 pub text_plain : (n : ℕ) (bytes : List ℕ) → list_all is_printable_byte bytes ≡ true
@@ -122,10 +116,9 @@ both_fit : (columns : ℕ) (xs ys : List Item) → all_fit columns xs ≡ true �
     → all_fit columns (xs ++ ys) ≡ true
 both_fit columns xs ys first second = list_all-append (item_fits columns) xs ys ∙ rw (first, second) refl
 
-line_fits : (columns : ℕ) (a : Alignment) (cs : List PrintedCharacter) → list_all is_character cs ≡ true
-    → length cs ≤ columns
-    → all_fit columns (Line a cs ∷ []) ≡ true
-line_fits columns a cs fine short = rw (le-leb (length cs) columns short, fine) refl
+line_fits : {columns : ℕ} (a : Alignment) (cs : List PrintedCharacter) → list_all is_character cs ≡ true
+    → length cs ≤ columns → all_fit columns (Line a cs ∷ []) ≡ true
+line_fits {columns = columns} a cs fine short = rw (le-leb (length cs) columns short, fine) refl
 
 characters_plain : (segment : List SegmentCharacter) → is_plain_segment segment ≡ true
     → list_all is_character (characters_of segment) ≡ true
@@ -141,8 +134,7 @@ parts_plain n segment fine =
     ∙ fine)
 
 chunks_fit : (most chars columns : ℕ) (segment : List SegmentCharacter) → length segment ≤ most → 1 ≤ chars
-    → chars ≤ columns
-    → is_plain_segment segment ≡ true → FitsChunks chars columns (in_chunks most chars segment)
+    → chars ≤ columns → is_plain_segment segment ≡ true → FitsChunks chars columns (in_chunks most chars segment)
 chunks_fit zero chars columns segment most some within fine = record {
   fits = record { items = refl; buffer = characters_plain segment fine };
   short = simp length-map (omega arith);
@@ -151,8 +143,7 @@ chunks_fit (suc most) chars columns segment le some within fine = ⊎_elim
     (λ (all : nat_le (length segment) chars ≡ true). rw all (record {
       fits = record { items = refl; buffer = characters_plain segment fine };
       short = simp length-map (leb-true (length segment) chars all);
-    }))
-    (λ (more : nat_le (length segment) chars ≡ false).
+    })) (λ (more : nat_le (length segment) chars ≡ false).
     let parts = parts_plain chars segment fine in
     let rest = chunks_fit most chars columns (drop chars segment)
     (simp length-drop (omega arith)) some within parts.1 in
@@ -161,32 +152,30 @@ chunks_fit (suc most) chars columns segment le some within fine = ⊎_elim
     rw more (record {
       fits = record {
         items = both_fit columns (Line a front ∷ []) (in_chunks most chars (drop chars segment)).items
-            (line_fits columns a front (characters_plain (take chars segment) parts.0)
-            (simp (length-map, length-take) (omega arith)))
-            rest.fits.items;
+            (line_fits a front (characters_plain (take chars segment) parts.0)
+            (simp (length-map, length-take) (omega arith))) rest.fits.items;
         buffer = rest.fits.buffer;
       };
       short = rest.short;
-    }))
-    (cases_Bool (nat_le (length segment) chars))
+    })) (cases_Bool (nat_le (length segment) chars))
 
-lines_fit : (chars columns : ℕ) (at_end : Alignment) (segment : List SegmentCharacter) → 1 ≤ chars → chars ≤ columns
+lines_fit : (chars : ℕ) {columns : ℕ} (at_end : Alignment) (segment : List SegmentCharacter) → 1 ≤ chars → chars ≤ columns
     → is_plain_segment segment ≡ true → all_fit columns (lines_of chars at_end segment) ≡ true
-lines_fit chars columns at_end segment some within fine =
+lines_fit chars {columns = columns} at_end segment some within fine =
     let chunks = chunks_fit (length segment) chars columns segment (omega arith) some within fine in
     both_fit columns (chunks_of chars segment).items
     (Line at_end (chunks_of chars segment).buffer ∷ []) chunks.fits.items
-    (line_fits columns at_end (chunks_of chars segment).buffer chunks.fits.buffer (omega (arith, chunks.short)))
+    (line_fits at_end (chunks_of chars segment).buffer chunks.fits.buffer (omega (arith, chunks.short)))
 
-begun_fit : (chars columns : ℕ) (at_end : Alignment) (segment : List SegmentCharacter) → 1 ≤ chars → chars ≤ columns
+begun_fit : {chars columns : ℕ} (at_end : Alignment) (segment : List SegmentCharacter) → 1 ≤ chars → chars ≤ columns
     → is_plain_segment segment ≡ true → all_fit columns (lines_if_begun chars at_end segment) ≡ true
-begun_fit chars columns at_end [] some within fine = refl
-begun_fit chars columns at_end (s ∷ segment) some within fine =
-    lines_fit chars columns at_end (s ∷ segment) some within fine
+begun_fit at_end [] some within fine = refl
+begun_fit {chars = chars} at_end (s ∷ segment) some within fine =
+    lines_fit chars at_end (s ∷ segment) some within fine
 
-after_fit : (columns : ℕ) (items : List Item) (made : Printout) → all_fit columns items ≡ true
+after_fit : {columns : ℕ} (items : List Item) {made : Printout} → all_fit columns items ≡ true
     → FitsPrinter columns made → FitsPrinter columns (after_items items made)
-after_fit columns items made fit h = record { items = both_fit columns items made.items fit h.items; buffer = h.buffer }
+after_fit {columns = columns} items {made = made} fit h = record { items = both_fit columns items made.items fit h.items; buffer = h.buffer }
 
 segment_push : (style : Style) (segment : List SegmentCharacter) (byte : ℕ) → is_plain_segment segment ≡ true
     → (nat_le 32 byte && nat_le byte 126) ≡ true → is_plain_segment (segment ++ in_style style byte ∷ []) ≡ true
@@ -199,42 +188,39 @@ abbrev neutral : Style
 neutral = plain
 
 -- what plain pieces make fits
-pub pieces_fit : (chars columns : ℕ) (style : Style) (segment : List SegmentCharacter) (ps : List Piece) → 1 ≤ chars
+pub pieces_fit : {chars columns : ℕ} (style : Style) (segment : List SegmentCharacter) (ps : List Piece) → 1 ≤ chars
     → chars ≤ columns
     → is_plain_segment segment ≡ true → are_plain ps ≡ true → FitsPrinter columns (printed_from chars style segment ps)
-pieces_fit chars columns style segment [] some within fine ok =
+pieces_fit {chars = chars} {columns = columns} style segment [] some within fine ok =
     (chunks_fit (length segment) chars columns segment (omega arith) some within fine).fits
-pieces_fit chars columns style segment (piece.Character byte ∷ ps) some within fine ok =
+pieces_fit style segment (piece.Character byte ∷ ps) some within fine ok =
     let parts = and_parts (nat_le 32 byte && nat_le byte 126) (are_plain ps) ok in
-    pieces_fit chars columns style (segment ++ in_style style byte ∷ []) ps some within
+    pieces_fit style (segment ++ in_style style byte ∷ []) ps some within
     (segment_push style segment byte fine parts.0) parts.1
-pieces_fit chars columns style segment (piece.LineEnd ∷ ps) some within fine ok =
-    after_fit columns (lines_of chars style.alignment segment) (printed_from chars style [] ps)
-    (lines_fit chars columns style.alignment segment some within fine)
-    (pieces_fit chars columns style [] ps some within refl ok)
-pieces_fit chars columns style segment (piece.Return ∷ ps) some within fine ok =
-    after_fit columns (lines_if_begun chars style.alignment segment) (printed_from chars style [] ps)
-    (begun_fit chars columns style.alignment segment some within fine)
-    (pieces_fit chars columns style [] ps some within refl ok)
-pieces_fit chars columns style segment (piece.Cut n ∷ ps) some within fine ok =
-    after_fit columns (lines_if_begun chars style.alignment segment ++ CutAt n ∷ []) (printed_from chars style [] ps)
+pieces_fit {chars = chars} style segment (piece.LineEnd ∷ ps) some within fine ok =
+    after_fit (lines_of chars style.alignment segment) (lines_fit chars style.alignment segment some within fine)
+    (pieces_fit style [] ps some within refl ok)
+pieces_fit {chars = chars} style segment (piece.Return ∷ ps) some within fine ok =
+    after_fit (lines_if_begun chars style.alignment segment) (begun_fit style.alignment segment some within fine)
+    (pieces_fit style [] ps some within refl ok)
+pieces_fit {chars = chars} {columns = columns} style segment (piece.Cut n ∷ ps) some within fine ok =
+    after_fit (lines_if_begun chars style.alignment segment ++ CutAt n ∷ [])
     (both_fit columns (lines_if_begun chars style.alignment segment) (CutAt n ∷ [])
-    (begun_fit chars columns style.alignment segment some within fine) refl)
-    (pieces_fit chars columns style [] ps some within refl ok)
-pieces_fit chars columns style segment (piece.Bold ∷ ps) some within fine ok =
-    pieces_fit chars columns (record style { is_bold = true }) segment ps some within fine ok
-pieces_fit chars columns style segment (piece.Align to ∷ ps) some within fine ok =
-    pieces_fit chars columns (record style { alignment = to }) segment ps some within fine ok
-pieces_fit chars columns style segment (piece.Normal ∷ ps) some within fine ok =
-    pieces_fit chars columns neutral segment ps some within fine ok
-pieces_fit chars columns style segment (piece.OutOfRange ∷ ps) some within fine ok =
-    pieces_fit chars columns style segment ps some within fine ok
+    (begun_fit style.alignment segment some within fine) refl) (pieces_fit style [] ps some within refl ok)
+pieces_fit style segment (piece.Bold ∷ ps) some within fine ok =
+    pieces_fit (record style { is_bold = true }) segment ps some within fine ok
+pieces_fit style segment (piece.Align to ∷ ps) some within fine ok =
+    pieces_fit (record style { alignment = to }) segment ps some within fine ok
+pieces_fit style segment (piece.Normal ∷ ps) some within fine ok =
+    pieces_fit neutral segment ps some within fine ok
+pieces_fit style segment (piece.OutOfRange ∷ ps) some within fine ok =
+    pieces_fit style segment ps some within fine ok
 
 -- what plain pieces make behind a line buffer of characters fits
-pub request_fits : (chars columns : ℕ) (buffer : List PrintedCharacter) (ps : List Piece) → 1 ≤ chars → chars ≤ columns
+pub request_fits : {chars columns : ℕ} (buffer : List PrintedCharacter) (ps : List Piece) → 1 ≤ chars → chars ≤ columns
     → list_all is_character buffer ≡ true → are_plain ps ≡ true → FitsPrinter columns (printed_by chars buffer ps)
-request_fits chars columns buffer ps some within fine ok =
-    pieces_fit chars columns neutral (begun_segment buffer) ps some within
+request_fits buffer ps some within fine ok =
+    pieces_fit neutral (begun_segment buffer) ps some within
     (list_all-map (λ (s : SegmentCharacter). is_character s.character)
     (λ (c : PrintedCharacter). record { character = c; alignment = alignment.Left }) buffer ∙ fine) ok
 
@@ -246,9 +232,9 @@ text_fits chars columns buffer bytes some within characters ok =
     let parts = and_parts (nat_le (length bytes) 4096 && list_all is_printable_byte bytes)
     (list_all is_in_range (pieces bytes)) ok in
     let printable = and_parts (nat_le (length bytes) 4096) (list_all is_printable_byte bytes) parts.0 in
-    request_fits chars columns buffer (pieces bytes) some within characters (text_plain 0 bytes printable.1)
+    request_fits buffer (pieces bytes) some within characters (text_plain 0 bytes printable.1)
 
 pub cut_fits : (chars columns : ℕ) (buffer : List PrintedCharacter) (n : ℕ) → 1 ≤ chars → chars ≤ columns
     → list_all is_character buffer ≡ true → FitsPrinter columns (printed_by chars buffer (cut_pieces n))
 cut_fits chars columns buffer n some within characters =
-    request_fits chars columns buffer (cut_pieces n) some within characters (cut_plain n)
+    request_fits buffer (cut_pieces n) some within characters (cut_plain n)

@@ -59,13 +59,11 @@ takes_run width press paper line a was (c ∷ cs) fit room =
     let parts = and_parts (is_character c) (list_all is_character cs) fit in
     let bounds = and_parts (nat_le 32 c.byte) (nat_le c.byte 126) parts.0 in
     fold-append (takes width) (at_line press paper line a was) (bold_bytes was c.is_bold)
-    (c.byte ∷ run_bytes c.is_bold cs)
-    ∙ ap (λ p. fold (takes width) p (c.byte ∷ run_bytes c.is_bold cs))
-    (takes_bold width press paper line a was c.is_bold)
-    ∙ ap (λ p. fold (takes width) p (run_bytes c.is_bold cs))
-    (takes_character width c.byte press paper line a c.is_bold (leb-true 32 c.byte bounds.0) (omega arith))
-    ∙ takes_run width press paper (line ++ c ∷ []) a c.is_bold cs parts.1 (simp length-append (omega arith))
-    ∙ ap (λ l. at_line press paper l a false) (append_assoc line (c ∷ []) cs)
+    (c.byte ∷ run_bytes c.is_bold cs) ∙ ap (λ p. fold (takes width) p (c.byte ∷ run_bytes c.is_bold cs))
+    (takes_bold width press paper line a was c.is_bold) ∙ ap (λ p. fold (takes width) p (run_bytes c.is_bold cs))
+    (takes_character width c.byte press paper line a c.is_bold (leb-true 32 c.byte bounds.0) (omega arith)) ∙ takes_run
+    width press paper (line ++ c ∷ []) a c.is_bold cs parts.1 (simp length-append (omega arith)) ∙ ap
+    (λ l. at_line press paper l a false) (append_assoc line (c ∷ []) cs)
 
 -- the alignment is set at the beginning of the line
 takes_alignment : (width : ℕ) (press : Press) (paper : List OnPaper) (before a : Alignment)
@@ -104,17 +102,17 @@ alignment_after now (Line a cs) = a
 alignment_after now (CutAt n) = now
 
 -- an item is on the paper then
-takes_item : (width columns : ℕ) (press : Press) (paper : List OnPaper) (now : Alignment) (cut : CutSettings)
+takes_item : (width : ℕ) {columns : ℕ} (press : Press) (paper : List OnPaper) (now : Alignment) (cut : CutSettings)
     (item : Item)
     → columns ≤ width → item_fits columns item ≡ true
     → press_after width (at_line press paper [] now false) (item_bytes cut item)
     ≡ at_line press (paper ++ on_paper cut item ∷ []) [] (alignment_after now item) false
 unfolding alignment_after
-takes_item width columns press paper now cut (Line a cs) within fit =
+takes_item width {columns = columns} press paper now cut (Line a cs) within fit =
     let parts = and_parts (nat_le (length cs) columns) (list_all is_character cs) fit in
     let most = leb-true (length cs) columns parts.0 in
     takes_line width press paper now a cs parts.1 (omega arith)
-takes_item width columns press paper now cut (CutAt n) within fit =
+takes_item width press paper now cut (CutAt n) within fit =
     takes_cut width press paper now cut.cutter cut.feed n
 
 -- the alignment in force after items
@@ -123,40 +121,36 @@ alignment_at_end now [] = now
 alignment_at_end now (item ∷ items) = alignment_at_end (alignment_after now item) items
 
 -- all items are on the paper then
-takes_items : (width columns : ℕ) (press : Press) (paper : List OnPaper) (now : Alignment) (cut : CutSettings)
+takes_items : {width columns : ℕ} (press : Press) (paper : List OnPaper) (now : Alignment) (cut : CutSettings)
     (items : List Item)
     → columns ≤ width → all_fit columns items ≡ true
     → press_after width (at_line press paper [] now false) (items_bytes cut items)
     ≡ at_line press (paper ++ all_on_paper cut items) [] (alignment_at_end now items) false
 unfolding alignment_at_end
-takes_items width columns press paper now cut [] within fit =
+takes_items press paper now cut [] within fit =
     ap (λ p. at_line press p [] now false) (sym (append-nil paper))
-takes_items width columns press paper now cut (item ∷ items) within fit =
+takes_items {width = width} {columns = columns} press paper now cut (item ∷ items) within fit =
     let parts = and_parts (item_fits columns item) (all_fit columns items) fit in
-    ap (press_after width (at_line press paper [] now false)) (flat_map-cons (item_bytes cut) item items)
-    ∙ fold-append (takes width) (at_line press paper [] now false) (item_bytes cut item) (items_bytes cut items)
-    ∙ ap (λ p. fold (takes width) p (items_bytes cut items))
-    (takes_item width columns press paper now cut item within parts.0)
-    ∙ takes_items width columns press (paper ++ on_paper cut item ∷ [])
-    (alignment_after now item) cut items within parts.1
-    ∙ ap (λ p. at_line press p [] (alignment_at_end (alignment_after now item) items) false)
+    ap (press_after width (at_line press paper [] now false)) (flat_map-cons (item_bytes cut) item items) ∙ fold-append
+    (takes width) (at_line press paper [] now false) (item_bytes cut item) (items_bytes cut items) ∙ ap
+    (λ p. fold (takes width) p (items_bytes cut items)) (takes_item width press paper now cut item within parts.0)
+    ∙ takes_items press (paper ++ on_paper cut item ∷ []) (alignment_after now item) cut items within parts.1 ∙ ap
+    (λ p. at_line press p [] (alignment_at_end (alignment_after now item) items) false)
     (append_assoc paper (on_paper cut item ∷ []) (all_on_paper cut items))
 
 -- a ready printer is at the beginning of a line
 pub at_start : (press : Press) → IsReady press → press ≡ at_line press press.paper [] press.alignment false
 at_start press ready =
-    ap (λ begun. record press { begun = begun }) ready.whole
-    ∙ ap (λ bold. record press { is_bold = bold; begun = [] }) ready.not_bold
-    ∙ ap (λ line. record press { line = line; is_bold = false; begun = [] }) ready.line
+    ap (λ begun. record press { begun = begun }) ready.whole ∙ ap (λ bold. record press { is_bold = bold; begun = [] })
+    ready.not_bold ∙ ap (λ line. record press { line = line; is_bold = false; begun = [] }) ready.line
 
 -- from a ready printer all items are printed, and nothing else is done
-pub prints_items : (width columns : ℕ) (cut : CutSettings) (items : List Item)
-    → columns ≤ width → all_fit columns items ≡ true
-    → (press : Press) → IsReady press
+pub prints_items : (width : ℕ) {columns : ℕ} (cut : CutSettings) (items : List Item) → columns ≤ width
+    → all_fit columns items ≡ true → (press : Press) → IsReady press
     → PrintsOnly press (all_on_paper cut items) (press_after width press (items_bytes cut items))
-prints_items width columns cut items within fit press ready =
+prints_items width cut items within fit press ready =
     let is = ap (λ p. press_after width p (items_bytes cut items)) (at_start press ready)
-    ∙ takes_items width columns press press.paper press.alignment cut items within fit in
+    ∙ takes_items press press.paper press.alignment cut items within fit in
     subst (λ (p : Press). PrintsOnly press (all_on_paper cut items) p) (sym is) (record {
       paper = refl;
       ready = record { line = refl; not_bold = refl; whole = refl };

@@ -16,23 +16,23 @@ drop_taken (suc n) [] = refl
 drop_taken (suc n) (c ∷ cs) = drop_taken n cs
 
 -- the items behind those that were sent, in the two flat lists
-pub items_behind : (marks : List Mark) (characters : List PrintedCharacter) (before added : List Item)
+pub items_behind : (marks : List Mark) (characters : List PrintedCharacter) (before : List Item) {added : List Item}
     → items_from marks characters ≡ before ++ added
     → items_from (drop (length before) marks) (drop (line_characters before) characters) ≡ added
-items_behind marks characters [] added is = is
-items_behind [] characters (item ∷ before) added is = let bad : ⊥ = cc in absurd bad
-items_behind (mark.Line a n ∷ marks) characters (Line b line ∷ before) added is =
+items_behind marks characters [] is = is
+items_behind [] characters (item ∷ before) is = let bad : ⊥ = cc in absurd bad
+items_behind (mark.Line a n ∷ marks) characters (Line b line ∷ before) {added = added} is =
     let same : line ≡ take n characters = cc in
     let rest : items_from marks (drop n characters) ≡ before ++ added = cc in
     let dropped : drop (length line + line_characters before) characters ≡ drop (line_characters before)
     (drop n characters) =
     sym (drop-drop (line_characters before) (length line) characters)
     ∙ ap (drop (line_characters before)) (ap (λ l. drop (length l) characters) same ∙ drop_taken n characters) in
-    ap (items_from (drop (length before) marks)) dropped ∙ items_behind marks (drop n characters) before added rest
-items_behind (mark.Line a n ∷ marks) characters (CutAt m ∷ before) added is = let bad : ⊥ = cc in absurd bad
-items_behind (mark.Cut n ∷ marks) characters (Line b line ∷ before) added is = let bad : ⊥ = cc in absurd bad
-items_behind (mark.Cut n ∷ marks) characters (CutAt m ∷ before) added is =
-    items_behind marks characters before added cc
+    ap (items_from (drop (length before) marks)) dropped ∙ items_behind marks (drop n characters) before rest
+items_behind (mark.Line a n ∷ marks) characters (CutAt m ∷ before) is = let bad : ⊥ = cc in absurd bad
+items_behind (mark.Cut n ∷ marks) characters (Line b line ∷ before) is = let bad : ⊥ = cc in absurd bad
+items_behind (mark.Cut n ∷ marks) characters (CutAt m ∷ before) is =
+    items_behind marks characters before cc
 
 -- as many items as marks
 pub as_many : (marks : List Mark) (characters : List PrintedCharacter)
@@ -63,9 +63,9 @@ pub record Behind (marks : List Mark) (characters : List PrintedCharacter) (sent
   pub characters_within : sent.characters ≤ length characters
   pub items : items_from (drop sent.marks marks) (drop sent.characters characters) ≡ added
 
-pub behind : (marks : List Mark) (characters : List PrintedCharacter) (sent : SentReceipt) (added : List Item)
+pub behind : (marks : List Mark) (characters : List PrintedCharacter) {sent : SentReceipt} (added : List Item)
     → Added (items_from marks characters) sent added → Behind marks characters sent added
-behind marks characters sent added h =
+behind marks characters {sent = sent} added h =
     let before = h.before in
     let many = ap length h.all in
     let chars = ap line_characters h.all in
@@ -80,16 +80,15 @@ behind marks characters sent added h =
       );
       items = ap (λ k. items_from (drop k marks) (drop sent.characters characters)) h.counted.marks
           ∙ ap (λ k. items_from (drop (length before) marks) (drop k characters)) h.counted.characters
-          ∙ items_behind marks characters before added h.all;
+          ∙ items_behind marks characters before h.all;
     }
 
 -- more was sent
-pub sent_more : (before : List Item) (marks : List Mark) (characters : List PrintedCharacter) (sent next : SentReceipt)
-    → IsSent before sent
-    → next.marks ≡ sent.marks + length marks
+pub sent_more : (before : List Item) (marks : List Mark) (characters : List PrintedCharacter) {sent next : SentReceipt}
+    → IsSent before sent → next.marks ≡ sent.marks + length marks
     → next.characters ≡ sent.characters + line_characters (items_from marks characters)
     → IsSent (before ++ items_from marks characters) next
-sent_more before marks characters sent next h more_marks more_characters = record {
+sent_more before marks characters h more_marks more_characters = record {
   marks = omega (
     arith,
     h.marks,

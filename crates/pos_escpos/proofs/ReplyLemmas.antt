@@ -69,9 +69,9 @@ status_fourth : (reader : Reader) (a b c d : ℕ) → begins_status a ≡ true �
 status_fourth reader a b c d begins plain = rw (plain_not_first d plain, status_not_job a begins, plain) refl
 
 -- one reply behind so many bytes that were none
-one_reply : (reader next : Reader) (told : PrinterReply) (skipped : ℕ) → skipped ≡ length reader.begun
+one_reply : (reader next : Reader) (told : PrinterReply) {skipped : ℕ} → skipped ≡ length reader.begun
     → ReadsOne reader told next (record { replies = told ∷ []; skipped = skipped; reader = with_begun [] next })
-one_reply reader next told skipped is =
+one_reply reader next told {skipped = skipped} is =
     ap (λ k. record { replies = told ∷ []; skipped = k; reader = with_begun [] next }) is
 
 -- a whole automatic status is read
@@ -83,15 +83,12 @@ reads_automatic reader a b c d begins second third fourth =
     let one = reads_none (length reader.begun) (a ∷ []) reader in
     let two = reads_none 0 (a ∷ b ∷ []) reader in
     let three = reads_none 0 (a ∷ b ∷ c ∷ []) reader in
-    first_step reader a (b ∷ c ∷ d ∷ []) one (status_begins reader a begins)
-    ∙ ap (after_step one)
-    (first_step (with_begun (a ∷ []) reader) b (c ∷ d ∷ []) two (status_second reader a b begins second)
-    ∙ ap (after_step two)
-    (first_step (with_begun (a ∷ b ∷ []) reader) c (d ∷ []) three (status_third reader a b c begins third)
-    ∙ ap (after_step three)
-    (first_step (with_begun (a ∷ b ∷ c ∷ []) reader) d [] (reads_reply 0 told reader)
-    (status_fourth reader a b c d begins fourth))))
-    ∙ one_reply reader reader told (length reader.begun + 0) (omega arith)
+    first_step reader a (b ∷ c ∷ d ∷ []) one (status_begins reader a begins) ∙ ap (after_step one)
+    (first_step (with_begun (a ∷ []) reader) b (c ∷ d ∷ []) two (status_second reader a b begins second) ∙ ap
+    (after_step two) (first_step (with_begun (a ∷ b ∷ []) reader) c (d ∷ []) three
+    (status_third reader a b c begins third) ∙ ap (after_step three) (first_step (with_begun (a ∷ b ∷ c ∷ []) reader) d
+    [] (reads_reply 0 told reader) (status_fourth reader a b c d begins fourth)))) ∙ one_reply reader reader told
+    (omega arith)
 
 -- a reply to DLE EOT is read, where one was asked for
 pub reads_now : (reader : Reader) (asked : NowStatus) (b : ℕ) → reader.asked_now ≡ Some asked → answers_now b ≡ true
@@ -102,7 +99,7 @@ reads_now reader asked b is answers =
     let next = record reader { asked_now = None } in
     first_step reader b [] (reads_reply (length reader.begun) told next)
     (rw (now_is_first b answers, now_not_status b answers, now_not_job b answers, answers, is) refl)
-    ∙ one_reply reader next told (length reader.begun + 0) (omega arith)
+    ∙ one_reply reader next told (omega arith)
 
 -- a reply to GS r is read, where one was asked for
 pub reads_in_order : (reader : Reader) (asked : OrderStatus) (b : ℕ) → reader.asked_in_order ≡ Some asked
@@ -113,7 +110,7 @@ reads_in_order reader asked b is none plain =
     let told = reply.InOrder asked (order_status asked b) in
     let next = record reader { asked_in_order = None } in
     first_step reader b [] (reads_reply 0 told next) (rw (plain_not_first b plain, none, is, plain) refl)
-    ∙ one_reply reader next told 0 (rw none refl)
+    ∙ one_reply reader next told (rw none refl)
 
 -- a character of a job's number: it begins no reply
 unfoldable pub IsCharacter : ℕ → Type 0
@@ -137,15 +134,12 @@ reads_characters reader a b c d first second third fourth =
     let four = reads_none 0 (55 ∷ 34 ∷ a ∷ b ∷ []) reader in
     let five = reads_none 0 (55 ∷ 34 ∷ a ∷ b ∷ c ∷ []) reader in
     let six = reads_none 0 (55 ∷ 34 ∷ a ∷ b ∷ c ∷ d ∷ []) reader in
-    ap (after_step one) (ap (after_step two)
-    (first_step (with_begun (55 ∷ 34 ∷ []) reader) a (b ∷ c ∷ d ∷ 0 ∷ []) three (rw (first.0, first.1) refl)
-    ∙ ap (after_step three)
-    (first_step (with_begun (55 ∷ 34 ∷ a ∷ []) reader) b (c ∷ d ∷ 0 ∷ []) four (rw (second.0, second.1) refl)
-    ∙ ap (after_step four)
-    (first_step (with_begun (55 ∷ 34 ∷ a ∷ b ∷ []) reader) c (d ∷ 0 ∷ []) five (rw (third.0, third.1) refl)
-    ∙ ap (after_step five)
-    (first_step (with_begun (55 ∷ 34 ∷ a ∷ b ∷ c ∷ []) reader) d (0 ∷ []) six (rw (fourth.0, fourth.1) refl))))))
-    ∙ one_reply reader reader told (length reader.begun + 0) (omega arith)
+    ap (after_step one) (ap (after_step two) (first_step (with_begun (55 ∷ 34 ∷ []) reader) a (b ∷ c ∷ d ∷ 0 ∷ []) three
+    (rw (first.0, first.1) refl) ∙ ap (after_step three) (first_step (with_begun (55 ∷ 34 ∷ a ∷ []) reader) b
+    (c ∷ d ∷ 0 ∷ []) four (rw (second.0, second.1) refl) ∙ ap (after_step four)
+    (first_step (with_begun (55 ∷ 34 ∷ a ∷ b ∷ []) reader) c (d ∷ 0 ∷ []) five (rw (third.0, third.1) refl) ∙ ap
+    (after_step five) (first_step (with_begun (55 ∷ 34 ∷ a ∷ b ∷ c ∷ []) reader) d (0 ∷ []) six
+    (rw (fourth.0, fourth.1) refl)))))) ∙ one_reply reader reader told (omega arith)
 
 pub reads_job : (reader : Reader) (number : ℕ) → number < 65536
     → ReadsOne reader (reply.JobDone number) reader (reading_of reader (job_reply number))
@@ -154,6 +148,5 @@ reads_job reader number less =
     ≡ number = omega arith in
     reads_characters reader (64 + number / 4096) (64 + number / 256 % 16) (64 + number / 16 % 16) (64 + number % 16)
     (job_character (number / 4096) (omega arith)) (job_character (number / 256 % 16) (omega arith))
-    (job_character (number / 16 % 16) (omega arith)) (job_character (number % 16) (omega arith))
-    ∙ ap (λ n. record { replies = reply.JobDone n ∷ []; skipped = length reader.begun; reader = with_begun [] reader })
-    same
+    (job_character (number / 16 % 16) (omega arith)) (job_character (number % 16) (omega arith)) ∙ ap
+    (λ n. record { replies = reply.JobDone n ∷ []; skipped = length reader.begun; reader = with_begun [] reader }) same

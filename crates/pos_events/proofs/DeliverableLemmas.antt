@@ -20,8 +20,7 @@ with_input_data_there (event ∷ events) = grind arith
 
 -- an event that doesn't wait may be delivered
 pub told_there : (data_enabled input_data in_error : Bool) (scans : List Scan) (immediate : List PlacedEvent)
-    → 0 < length immediate
-    → is_there data_enabled (events_in input_data (waiting_in scans in_error) immediate) ≡ true
+    → 0 < length immediate → is_there data_enabled (events_in input_data (waiting_in scans in_error) immediate) ≡ true
 told_there data_enabled input_data in_error scans [] some = grind arith
 told_there false input_data in_error scans (placed ∷ immediate) some = grind (arith, deliverable_told)
 told_there true input_data in_error scans (placed ∷ immediate) some =
@@ -35,8 +34,7 @@ told_there true input_data in_error scans (placed ∷ immediate) some =
 
 -- events that wait may not, while data events aren't enabled
 pub waiting_there : (input_data in_error : Bool) (scans : List Scan) (immediate : List PlacedEvent)
-    → length immediate ≡ 0
-    → is_there false (events_in input_data (waiting_in scans in_error) immediate) ≡ false
+    → length immediate ≡ 0 → is_there false (events_in input_data (waiting_in scans in_error) immediate) ≡ false
 waiting_there input_data in_error scans [] none = grind (arith, deliverable_told)
 waiting_there input_data in_error scans (placed ∷ immediate) none = grind arith
 

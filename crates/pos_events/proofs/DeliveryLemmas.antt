@@ -52,9 +52,8 @@ left_with_input_data (event ∷ events) = grind (arith, left_with_input_data eve
 
 -- the waiting events before an event and those before them, as one part
 pub regroup : (waiting : List Enqueued) (immediate : List PlacedEvent) (count before : ℕ) (event : Enqueued)
-    → take count waiting ++ (take before (drop count waiting) ++ event ∷ weave
-    (drop before (drop count waiting)) immediate)
-    ≡ take (count + before) waiting ++ event ∷ weave (drop (count + before) waiting) immediate
+    → take count waiting ++ (take before (drop count waiting) ++ event ∷ weave (drop before (drop count waiting))
+    immediate) ≡ take (count + before) waiting ++ event ∷ weave (drop (count + before) waiting) immediate
 regroup waiting immediate count before event =
     rw (take-add count before waiting, ← drop-drop before count waiting, append_assoc)
 
@@ -104,8 +103,7 @@ told_stays (event ∷ events) answer list = grind (arith, told_stays events answ
 
 -- where something waits before the others, it is the first
 first_waits : (event : Enqueued) (waiting : List Enqueued) (immediate : List PlacedEvent) (behind : ℕ)
-    → 0 < before_first immediate behind
-    → weave (event ∷ waiting) immediate ≡ event ∷ weave waiting (one_less immediate)
+    → 0 < before_first immediate behind → weave (event ∷ waiting) immediate ≡ event ∷ weave waiting (one_less immediate)
 first_waits event waiting [] behind some = refl
 first_waits event waiting (placed ∷ immediate) behind some =
     let next : placed.before ≡ suc (placed.before - 1) = omega arith in
@@ -143,7 +141,6 @@ delivered_told data_enabled frozen answer list f d = grind (arith, told_stays)
 
 -- the first of some scans is there
 pub popped_scan : (popped : Option Scan) (scans rest : List Scan) → IsSome popped
-    → scans ≡ option_to_list popped ++ rest
-    → (scan : Scan) × (popped ≡ Some scan) × (scans ≡ scan ∷ rest)
+    → scans ≡ option_to_list popped ++ rest → (scan : Scan) × (popped ≡ Some scan) × (scans ≡ scan ∷ rest)
 popped_scan None scans rest some e = cc
 popped_scan (Some scan) scans rest some e = (scan, refl, e)

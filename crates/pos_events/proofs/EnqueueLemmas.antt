@@ -52,12 +52,12 @@ pub fits_push : (input_data in_error : Bool) (scans : List Scan) (immediate : Li
 fits_push input_data in_error scans immediate behind event fits = grind (arith, all_before-append)
 
 -- one more scan, outside the input error state
-pub one_more_scan : (input_data in_error : Bool) (scans : List Scan) (immediate : List PlacedEvent) (behind : ℕ)
+pub one_more_scan : {input_data in_error : Bool} {scans : List Scan} {immediate : List PlacedEvent} {behind : ℕ}
     (scan : Scan)
     → Fits input_data in_error scans immediate behind → in_error ≡ false
     → list_of input_data in_error (scans ++ scan ∷ []) immediate ≡ scanned scan
     (list_of input_data in_error scans immediate)
-one_more_scan input_data in_error scans immediate behind scan fits none =
+one_more_scan {scans = scans} {immediate = immediate} scan fits none =
     grind (
       arith,
       map-append Data scans (scan ∷ []),
@@ -73,10 +73,9 @@ no_place (placed ∷ immediate) = grind (arith, take-nil, drop-nil, no_place imm
 
 -- an input error: EL_INPUT_DATA is held where there is a scan
 failed : (input_data some : Bool) (scans : List Scan) (immediate : List PlacedEvent) (behind : ℕ)
-    → Fits input_data false scans immediate behind
-    → some ≡ not (length scans == 0)
-    → events_in some (map Data scans ++ input_error locus.Input ∷ []) immediate
-    ≡ with_input_data (events_in input_data (map Data scans) immediate) ++ input_error locus.Input ∷ []
+    → Fits input_data false scans immediate behind → some ≡ not (length scans == 0)
+    → events_in some (map Data scans ++ input_error locus.Input ∷ []) immediate ≡ with_input_data
+    (events_in input_data (map Data scans) immediate) ++ input_error locus.Input ∷ []
 failed input_data some [] immediate behind fits e =
     grind (arith, no_place, weave_more [] immediate (input_error locus.Input), fits.error)
 failed input_data some (scan ∷ scans) immediate behind fits e =
@@ -90,10 +89,10 @@ failed input_data some (scan ∷ scans) immediate behind fits e =
       fits.error,
     )
 
-pub one_more_error : (input_data in_error no_scans : Bool) (count : ℕ) (scans : List Scan)
-    (immediate : List PlacedEvent) (behind : ℕ)
+pub one_more_error : (input_data : Bool) {in_error no_scans : Bool} {count : ℕ} {scans : List Scan}
+    {immediate : List PlacedEvent} {behind : ℕ}
     → Fits input_data in_error scans immediate behind → in_error ≡ false → no_scans ≡ (count == 0)
     → count ≡ length scans
     → list_of (not no_scans) true scans immediate ≡ input_failed (list_of input_data in_error scans immediate)
-one_more_error input_data in_error no_scans count scans immediate behind fits none e n =
+one_more_error input_data {no_scans = no_scans} {scans = scans} {immediate = immediate} {behind = behind} fits none e n =
     grind (arith, failed input_data (not no_scans) scans immediate behind)

@@ -25,8 +25,7 @@ tolds_set immediate i d placed lt e =
 
 -- one more before which nothing waits
 pub none_more : (immediate : List PlacedEvent) (i : ℕ) (placed : PlacedEvent) → i < length immediate → placed.before ≡ 0
-    → all_before (take i immediate) ≡ 0
-    → all_before (take (i + 1) (set immediate i placed)) ≡ 0
+    → all_before (take i immediate) ≡ 0 → all_before (take (i + 1) (set immediate i placed)) ≡ 0
 none_more immediate i placed lt e none = grind (arith, take_more_set, all_before-append)
 
 -- Of the others, some are still to be looked at, and those that stay stand behind them; so many waiting events are
@@ -38,11 +37,10 @@ pub record Removing (start rest : List PlacedEvent) (carried : ℕ) (now : List 
   pub counted : all_before done + carried + all_before rest ≡ all_before start
 
 -- the next stays
-pub removing_kept : (start rest now more : List PlacedEvent) (first placed : PlacedEvent) (carried : ℕ)
-    → Removing start (first ∷ rest) carried now
-    → now ≡ placed ∷ more → is_error placed.event ≡ false
+pub removing_kept : {start rest now more : List PlacedEvent} {first placed : PlacedEvent} (carried : ℕ)
+    → Removing start (first ∷ rest) carried now → now ≡ placed ∷ more → is_error placed.event ≡ false
     → Removing start rest 0 (more ++ record { before = carried + placed.before; event = placed.event } ∷ [])
-removing_kept start rest now more first placed carried r e stays =
+removing_kept {placed = placed} carried r e stays =
     let kept : PlacedEvent = record { before = carried + placed.before; event = placed.event } in
     record {
       done = r.done ++ kept ∷ [];
@@ -52,13 +50,13 @@ removing_kept start rest now more first placed carried r e stays =
     }
 
 -- the next is deleted
-pub removing_error : (start rest now more : List PlacedEvent) (first placed : PlacedEvent) (carried : ℕ)
+pub removing_error : {start rest now more : List PlacedEvent} {first placed : PlacedEvent} {carried : ℕ}
     → Removing start (first ∷ rest) carried now
     → now ≡ placed ∷ more → is_error placed.event ≡ true → Removing start rest (carried + placed.before) more
-removing_error start rest now more first placed carried r e goes =
+removing_error r e goes =
     record { done = r.done; parts = grind arith; same = grind arith; counted = grind arith }
 
 -- while some are to be looked at, there are some
-pub removing_some : (start rest now : List PlacedEvent) (carried : ℕ) → Removing start rest carried now
+pub removing_some : {start rest now : List PlacedEvent} {carried : ℕ} → Removing start rest carried now
     → length rest ≤ length now
-removing_some start rest now carried r = omega (arith, ap length r.parts, length-append rest r.done)
+removing_some {rest = rest} r = omega (arith, ap length r.parts, length-append rest r.done)

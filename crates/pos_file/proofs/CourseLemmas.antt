@@ -25,16 +25,14 @@ parted (call ∷ done) rest old new made =
     (mid, (first, one, before), after)
 
 put_is_one : (whole : Bool) (at : ℕ) (bytes : List ℕ) (old new other : Memory) → whole ≡ true
-    → PutsDown whole at bytes old new
-    → PutsDown whole at bytes old other → new ≡ other
+    → PutsDown whole at bytes old new → PutsDown whole at bytes old other → new ≡ other
 put_is_one true at bytes old new other is a b = cc
 put_is_one false at bytes old new other is a b = cc
 
 -- a call whose bytes were all taken leaves one disk
 call_is_one : (kind : CallKind) (at : ℕ) (bytes : List ℕ) (answer : Option ℕ) (old new other : Memory)
     → (kind ≡ Write → is_whole (length bytes) answer ≡ true) → KindMakes kind at bytes answer old new
-    → KindMakes kind at bytes answer old other
-    → new ≡ other
+    → KindMakes kind at bytes answer old other → new ≡ other
 call_is_one Lock at bytes answer old new other takes a b = cc
 call_is_one Share at bytes answer old new other takes a b = cc
 call_is_one Measure at bytes answer old new other takes a b = cc
@@ -99,5 +97,4 @@ left calls old new bytes leaves =
     course_keeps (λ m. t ≤ length m.past) (later t) leaves.done old mid leaves.before (omega arith) in
     (course_keeps (IsLeft t bytes)
     (λ was next settled has. (later t was next settled has.0, keeps was.past was.present next t bytes has.0 has.1))
-    leaves.rest mid new leaves.after
-    (grown, inr (to_moment mid bytes leaves.left))).1
+    leaves.rest mid new leaves.after (grown, inr (to_moment mid bytes leaves.left))).1

@@ -23,8 +23,7 @@ no_fault true is = refl
 no_fault false is = cc
 
 puts : (whole : Bool) (at : ℕ) (bytes put : List ℕ) (now : Memory) → length put ≡ length bytes
-    → (whole ≡ true → put ≡ bytes)
-    → PutsDown whole at bytes now (written at put now)
+    → (whole ≡ true → put ≡ bytes) → PutsDown whole at bytes now (written at put now)
 puts true at bytes put now fits exact = ap (λ (all : List ℕ). written at all now) (exact refl)
 puts false at bytes put now fits exact = (put, fits, refl)
 
@@ -41,8 +40,7 @@ settles None now = refl
 module _ {F : Type 0} (calls : F → List Call) (before : List Call) (start now : Memory) where
   -- one call more
   one_more : (old new : F) (call : Call) (next : Memory) → Follows calls before start old now
-      → Asks calls old new (call ∷ []) → CallMakes call now next
-      → Follows calls before start new next
+      → Asks calls old new (call ∷ []) → CallMakes call now next → Follows calls before start new next
   one_more old new call next follows asks makes = record {
     since = follows.since ++ call ∷ [];
     asked = asks ∙ ap (λ (all : List Call). all ++ call ∷ []) follows.asked

@@ -16,9 +16,8 @@ ready bound images large counted sound =
 
 -- the image that was put into a slot
 pub placed : (bytes body : List ℕ) (slot : Slot) (sequence : ℕ) → length body ≤ longest (layout_of slot)
-    → is_open bytes (start slot) ≡ false
-    → get_or bytes (start slot + log_place (layout_of slot)) 0 ≡ 0 → HasFields bytes (start slot) sequence body
-    → IsPrepared bytes slot body sequence
+    → is_open bytes (start slot) ≡ false → get_or bytes (start slot + log_place (layout_of slot)) 0 ≡ 0
+    → HasFields bytes (start slot) sequence body → IsPrepared bytes slot body sequence
 placed bytes body slot sequence short shut no_log fields = grind arith
 
 -- a gate that was written
@@ -33,19 +32,16 @@ opened_gate old new at fits written = let is = written_gate old new at 165 fits 
     (is.0, ap (λ (b : ℕ). nat_eq b 165) is.1)
 
 module _ {D : Type 0} (bound : Ghosts D) (old : View D) (it : Prepared) (is_next : old.prepared ≡ Some it)
-    (was : bound.honest old.disk)
-    (writable : IsWritable bound old) where
+    (was : bound.honest old.disk) (writable : IsWritable bound old) where
   pub prepared_there : HasPrepared (bound.state old.disk).reading old.slot old.sequence it
   prepared_there = rw is_next at (writable.held was).prepared
 
   -- bytes whose gate of it was opened hold it as the current image
   pub opened_current : (c : List ℕ) → SameBut (start it.slot) 1 (bound.state old.disk).reading c
-      → is_open c (start it.slot) ≡ true
-      → IsCurrent c it.slot it.body it.sequence
+      → is_open c (start it.slot) ≡ true → IsCurrent c it.slot it.body it.sequence
   opened_current c same opened = published (writable.held was).current prepared_there same opened
 
   -- with no log
   pub opened_new : (c : List ℕ) → SameBut (start it.slot) 1 (bound.state old.disk).reading c
-      → is_open c (start it.slot) ≡ true
-      → HasNewImage (layout_of it.slot) it.body it.sequence c
+      → is_open c (start it.slot) ≡ true → HasNewImage (layout_of it.slot) it.body it.sequence c
   opened_new c same opened = new_image (opened_current c same opened) (published_log prepared_there.there same)

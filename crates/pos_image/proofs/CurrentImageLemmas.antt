@@ -41,8 +41,7 @@ pub record HasBody (bytes : List ℕ) (slot : Slot) (body : List ℕ) (sequence 
 -- and an image
 pub kept_body : {old new body : List ℕ} {at n sequence : ℕ} {slot : Slot} → SameBut at n old new → 327680 ≤ length old
     → ((i : ℕ) → InRange (start slot + 1) (12 + longest (layout_of slot)) i → ¬ (InRange at n i))
-    → HasBody old slot body sequence
-    → HasBody new slot body sequence
+    → HasBody old slot body sequence → HasBody new slot body sequence
 unfolding length_at body_at
 kept_body {old = old} {new = new} {slot = slot} same whole outside has =
     let here = places slot in
@@ -90,9 +89,8 @@ OpensNone old new = (slot : Slot) → is_open new (start slot) ≡ true
 
 -- what stays away from a slot up to its log, and opens none, leaves the current image in it
 pub kept_away : {slot : Slot} {old new body : List ℕ} {sequence at n : ℕ} → IsCurrent old slot body sequence
-    → SameBut at n old new
-    → ((i : ℕ) → InRange (start slot) (log_place (layout_of slot)) i → ¬ (InRange at n i)) → OpensNone old new
-    → IsCurrent new slot body sequence
+    → SameBut at n old new → ((i : ℕ) → InRange (start slot) (log_place (layout_of slot)) i → ¬ (InRange at n i))
+    → OpensNone old new → IsCurrent new slot body sequence
 kept_away {slot = slot} {old = old} {new = new} {body = body} {sequence = sequence} current same outside opens =
     let here = places slot in
     let whole : 327680 ≤ length new = omega arith in
@@ -117,8 +115,7 @@ stage_opens {target = target} {new = new} whole stages slot opened = elim (same_
 
 -- so it leaves the current image in another slot
 pub stage_current : {slot target : Slot} {old new body : List ℕ} {sequence : ℕ} → IsApart slot target
-    → IsCurrent old slot body sequence
-    → Stages target old new → IsCurrent new slot body sequence
+    → IsCurrent old slot body sequence → Stages target old new → IsCurrent new slot body sequence
 stage_current {slot = slot} apart current stages =
     let here = places slot in
     kept_away current stages.same (omega arith) (stage_opens current.whole stages)
@@ -155,8 +152,7 @@ published {slot = slot} {it = it} {old = old} {new = new} {sequence = sequence} 
 
 -- the first gate of its log stays 0
 pub published_log : {target : Slot} {old new body : List ℕ} {sequence : ℕ} → IsPrepared old target body sequence
-    → SameBut (start target) 1 old new
-    → get_or new (start target + log_place (layout_of target)) 0 ≡ 0
+    → SameBut (start target) 1 old new → get_or new (start target + log_place (layout_of target)) 0 ≡ 0
 published_log {target = target} prepared same = let here = places target in
     same.elsewhere _ (omega arith) ∙ prepared.log
 
@@ -191,8 +187,7 @@ current_chosen {slot = slot} {bytes = bytes} current = grind arith
 pub current_stands : {slot : Slot} {bytes body : List ℕ} {sequence : ℕ} → IsCurrent bytes slot body sequence
     → ShowsImage (layout_of slot) body sequence bytes
 current_stands {slot = slot} {bytes = bytes} current =
-    chosen_stands bytes slot current.whole (current_chosen current)
-    ∙ rw (
+    chosen_stands bytes slot current.whole (current_chosen current) ∙ rw (
       le-leb (length_at bytes (start slot)) (longest (layout_of slot)) current.fits,
       current.body_is,
       current.sequence_is,
@@ -200,7 +195,6 @@ current_stands {slot = slot} {bytes = bytes} current =
 
 -- what was found, with its body
 pub found_current : {slot : Slot} {bytes body : List ℕ} {sequence size : ℕ} → 327680 ≤ length bytes
-    → IsFound bytes slot sequence size
-    → body ≡ part (start slot + 13) size bytes → IsCurrent bytes slot body sequence
+    → IsFound bytes slot sequence size → body ≡ part (start slot + 13) size bytes → IsCurrent bytes slot body sequence
 unfolding body_at
 found_current {slot = slot} {bytes = bytes} {body = body} whole found is = grind arith

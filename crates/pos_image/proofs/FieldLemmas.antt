@@ -7,8 +7,7 @@ use Rattle.std.proofs.lemmas.Nat.{from_be_bytes-to_be_bytes_4, from_be_bytes-to_
 -- a head and a body behind the gate of a slot
 pub fields : (bytes body : List ℕ) (at sequence : ℕ) → at + 13 ≤ length bytes → length body < 2 ^ 32 → sequence < 2 ^ 64
     → part (at + 1) 12 bytes ≡ big_bytes 8 sequence ++ big_bytes 4 (length body)
-    → part (at + 13) (length body) bytes ≡ body
-    → HasFields bytes at sequence body
+    → part (at + 13) (length body) bytes ≡ body → HasFields bytes at sequence body
 unfolding sequence_at length_at body_at
 fields bytes body at sequence fits short small head behind =
     let first = part-part (at + 1) 12 0 8 (at + 1) bytes (omega arith) (omega arith) (omega arith) in

@@ -155,8 +155,7 @@ beside_leaves old state now it beside held moments =
     moments
 
 pub publish_leaves : {D : Type 0} (old : View D) (state now : DiskState) (it : Prepared) → old.prepared ≡ Some it
-    → IsHeld state old → (at : ℕ)
-    → at ≡ start it.slot → LeavesOnly state now (SameAside state.loose at 1 state.reading)
+    → IsHeld state old → (at : ℕ) → at ≡ start it.slot → LeavesOnly state now (SameAside state.loose at 1 state.reading)
     → LeavesOnly state now (HasEither old (span_of old state) (next_of old))
 publish_leaves old state now it is_next held at at_is moments =
     let next_is : next_of old ≡ it = ap (prepared_or (image_of old.slot old.body old.sequence)) is_next in

@@ -15,8 +15,7 @@ stays_closed old new at place same shut was = grind (arith, same.elsewhere place
 module _ (closed mid new : List ℕ) (large : 327680 ≤ length closed)
     (gates : (k : ℕ) → k < 6 → get_or closed (get_or GATES k 0) 0 ≡ 0)
     (image : mid ≡ splice closed 1 (0 ∷ 0 ∷ 0 ∷ 0 ∷ 0 ∷ 0 ∷ 0 ∷ 1 ∷ 0 ∷ 0 ∷ 0 ∷ 2 ∷ 0 ∷ 0 ∷ []))
-    (same : SameBut 1 14 closed mid)
-    (gate : new ≡ splice mid 0 (165 ∷ [])) where
+    (same : SameBut 1 14 closed mid) (gate : new ≡ splice mid 0 (165 ∷ [])) where
   long : 327680 ≤ length mid
   long = omega (arith, same.same_length, large)
 

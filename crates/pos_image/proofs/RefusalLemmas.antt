@@ -35,8 +35,7 @@ module _ {bytes : List ℕ} {layout : Layout} {first second : Head} (heads : Has
 
   -- the first slot has too long a body
   pub first_long : first.gate ≡ true → (second.gate ≡ true → second.sequence < first.sequence)
-      → longest (layout_of (first_of layout)) < first.length
-      → image_on bytes ≡ DamagedImage
+      → longest (layout_of (first_of layout)) < first.length → image_on bytes ≡ DamagedImage
   first_long opened lesser over = grind (arith, long_found)
 
   -- or the second one

@@ -87,8 +87,7 @@ module _ {slot : Slot} {bytes body : List ℕ} {sequence : ℕ} (current : IsCur
       → part (start slot + at) n bytes ≡ part (at - log_place (layout_of slot)) n (log_of bytes)
   span_part at n from to =
       let here = places slot in
-      rw (log_here current)
-      (part-part (log_start slot) (log_size (layout_of slot)) (at - log_place (layout_of slot)) n
+      rw (log_here current) (part-part (log_start slot) (log_size (layout_of slot)) (at - log_place (layout_of slot)) n
       (start slot + at) bytes (omega arith) (omega arith) span_fits)
 
 -- spans agree where the disks do
@@ -116,8 +115,7 @@ pub record WritesLog {D T : Type 0} (images : View D) (old new : DiskState) (at 
 
 -- a write leaves all else of the disk
 pub writes_only : {T : Type 0} {old new : DiskState} {at : ℕ} {bytes : List ℕ} {result : Result T DiskFault}
-    → Writes old new at bytes result
-    → WritesOnly at (length bytes) old new
+    → Writes old new at bytes result → WritesOnly at (length bytes) old new
 writes_only writes = record {
   same = record { same_length = writes.same_length; elsewhere = writes.elsewhere };
   loose = λ i. (writes.loose i, writes.reached i);
@@ -244,15 +242,13 @@ shown_layout layout body sequence bytes shows whole = grind (arith, le-ltb (leng
 
 -- behind an image there is a whole span
 pub image_length : (layout : Layout) (body : List ℕ) (sequence : ℕ) (bytes : List ℕ)
-    → ShowsImage layout body sequence bytes
-    → length (log_of bytes) ≡ log_size layout
+    → ShowsImage layout body sequence bytes → length (log_of bytes) ≡ log_size layout
 unfolding log_of
 image_length layout body sequence bytes shows = grind (arith, cases_lt, short_stands, places, length-part, shown_layout)
 
 -- writable images stay writable where all that is known of the disk is as it was
 pub same_writable : {D : Type 0} (bound : Ghosts D) (images : View D) (disk : D) → KeepsState bound images.disk disk
-    → IsWritable bound images
-    → IsWritable bound (record images { disk = disk })
+    → IsWritable bound images → IsWritable bound (record images { disk = disk })
 same_writable bound images disk keeps was =
     writable bound (record images { disk = disk }) (omega (arith, was.large, keeps.size)) was.counted (λ now.
     let before = keeps.honest.1 now in
@@ -263,8 +259,7 @@ same_writable bound images disk keeps was =
 
 -- and ready ones ready
 pub same_ready : {D : Type 0} (bound : Ghosts D) (images : View D) (disk : D) → KeepsState bound images.disk disk
-    → IsReady bound images
-    → IsReady bound (record images { disk = disk })
+    → IsReady bound images → IsReady bound (record images { disk = disk })
 same_ready bound images disk keeps was =
     ready bound (record images { disk = disk }) (omega (arith, was.large, keeps.size)) was.counted (λ now.
     let before = keeps.honest.1 now in

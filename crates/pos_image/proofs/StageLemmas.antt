@@ -12,8 +12,7 @@ pub fields_written : (old head body : List ℕ) (slot : Slot) (sequence : ℕ) �
     → length body ≤ longest (layout_of slot) → sequence < 2 ^ 64
     → head ≡ big_bytes 8 sequence ++ big_bytes 4 (length body)
     → HasFields (splice (splice (splice old (start slot + 1) head) (start slot + 13) body)
-    (start slot + log_place (layout_of slot)) (0 ∷ []))
-    (start slot) sequence body
+    (start slot + log_place (layout_of slot)) (0 ∷ [])) (start slot) sequence body
 fields_written old head body slot sequence whole short small head_is =
     let here = places slot in
     let at = start slot in
@@ -24,11 +23,10 @@ fields_written old head body slot sequence whole short small head_is =
     let two = spliced_same first body (at + 13) (omega arith) in
     let three = spliced_same second (0 ∷ []) (at + log_place (layout_of slot)) (omega arith) in
     let head_there : part (at + 1) 12 first ≡ head = rw (← long) (part-splice old head (at + 1) (omega arith)) in
-    fields _ body at sequence (omega arith) (omega arith) small
-    (kept_part three (at + 1) 12 (omega arith) (omega arith) ∙ kept_part two (at + 1) 12 (omega arith) (omega arith)
-    ∙ head_there ∙ head_is)
-    (kept_part three (at + 13) (length body) (omega arith) (omega arith)
-    ∙ part-splice first body (at + 13) (omega arith))
+    fields _ body at sequence (omega arith) (omega arith) small (kept_part three (at + 1) 12 (omega arith) (omega arith)
+    ∙ kept_part two (at + 1) 12 (omega arith) (omega arith) ∙ head_there ∙ head_is)
+    (kept_part three (at + 13) (length body) (omega arith) (omega arith) ∙ part-splice first body (at + 13)
+    (omega arith))
 
 -- a fact holds where a call succeeded
 pub where_ok : {T E : Type 0} (r : Result T E) (P : Type 0) → P → OnOk r P
@@ -47,8 +45,7 @@ closing_stages slot loose old c settled same = grind (arith, places slot)
 
 -- and while an image is written behind it
 pub writing_stages : (slot : Slot) (loose still : ℕ → Type 0) (old mid c : List ℕ) → ¬ (loose (start slot))
-    → ((i : ℕ) → still i → loose i)
-    → SameBut (start slot) 1 old mid → is_open mid (start slot) ≡ false
+    → ((i : ℕ) → still i → loose i) → SameBut (start slot) 1 old mid → is_open mid (start slot) ≡ false
     → SameAside still (start slot + 1) (slot_size (layout_of slot) - 1) mid c → StagesAside loose slot old c
 writing_stages slot loose still old mid c settled within first shut second = grind (arith, places slot)
 

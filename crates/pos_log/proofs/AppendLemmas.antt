@@ -16,18 +16,16 @@ use Rattle.pos_log.specs.declared.fault.LogFault.TheVariants as fault
 pub record WritesThrough {D : Type 0} (bound : Ghosts D) (images : View D) (disk : D) (at : ℕ) (bytes : List ℕ)
     (end : D) : Type 0 where
   pub moments : bound.honest disk
-      → LeavesOnly (bound.state disk) (bound.state end)
-      (KeepsSpan (layout_of images.slot) images.body images.sequence at (length bytes)
-      (log_of (bound.state disk).reading))
+      → LeavesOnly (bound.state disk) (bound.state end) (KeepsSpan (layout_of images.slot) images.body images.sequence
+      at (length bytes) (log_of (bound.state disk).reading))
   pub keeps : KeepsDisk bound disk end
 
 -- a call that answered no fault of the disk left its count
-pub never_failed : {T : Type 0} (old new : DiskState) (made : T) → CountsFaults old new (Ok made) → HasNotFailed old new
-never_failed old new made counts = ⊎_elim (λ is. absurd cc) (λ same. same) counts
+pub never_failed : {T : Type 0} (old new : DiskState) {made : T} → CountsFaults old new (Ok made) → HasNotFailed old new
+never_failed old new counts = ⊎_elim (λ is. absurd cc) (λ same. same) counts
 
 module _ {D : Type 0} (bound : Ghosts D) (images : View D) (tail : ℕ) (group : List ℕ)
-    (ready : IsLogReady bound (log_over images tail))
-    (low : log_place (layout_of images.slot) ≤ tail)
+    (ready : IsLogReady bound (log_over images tail)) (low : log_place (layout_of images.slot) ≤ tail)
     (fits : tail + 6 + length group ≤ slot_size (layout_of images.slot)) where
   abbrev old : DiskState
   old = bound.state images.disk
@@ -72,8 +70,7 @@ module _ {D : Type 0} (bound : Ghosts D) (images : View D) (tail : ℕ) (group :
     failed_put now is rises = failed disk now is first_moments puts.keeps rises
 
     module _ (put : bound.honest images.disk → PutsBytes (place + 1) (text_behind_gate group) old (bound.state disk))
-        (end : D)
-        (opens : WritesThrough bound images disk place (165 ∷ []) end) where
+        (end : D) (opens : WritesThrough bound images disk place (165 ∷ []) end) where
       few : length group < 2 ^ 32
       few = let here = places images.slot in omega arith
 
@@ -93,9 +90,8 @@ module _ {D : Type 0} (bound : Ghosts D) (images : View D) (tail : ℕ) (group :
       all_moments honest = followed_by _ (bound.state disk) _ _ (first_moments honest)
           (weaker _ _ _ _ (λ c keeps. record {
             image = keeps.image;
-            log = λ groups holds. either_more groups group holds place (place_is honest groups holds)
-                (in_span honest) few
-                (beside honest) (there honest) keeps.log;
+            log = λ groups holds. either_more groups group holds place (place_is honest groups holds) (in_span honest)
+                few (beside honest) (there honest) keeps.log;
           }) (opens.moments (puts.keeps.honest.0 honest)))
 
       both_keep : KeepsDisk bound images.disk end

@@ -11,9 +11,8 @@ pub begins : (span : List ℕ) → 0 < length span → BeginsWith [] 0 span
 begins span some = record { short = tt; end_is = refl; front = refl; inside = some }
 
 refused : (others : List (List ℕ)) (at : ℕ) (span : List ℕ) (gate : ℕ) (behind : List ℕ) → at < length span
-    → AllByRecursion IsShort others
-    → drop at span ≡ spelling others ++ gate ∷ behind → nat_eq gate 165 ≡ false → get_or span at 0 ≡ 165
-    → ((n : ℕ) → HasLength span at n → ⊥) → ⊥
+    → AllByRecursion IsShort others → drop at span ≡ spelling others ++ gate ∷ behind → nat_eq gate 165 ≡ false
+    → get_or span at 0 ≡ 165 → ((n : ℕ) → HasLength span at n → ⊥) → ⊥
 refused [] at span gate behind inside short is shut byte none = grind (arith, common_steps, nat_tests, get_or-drop)
 refused (group ∷ others) at span gate behind inside short is shut byte none =
     let two = length-append (record_spelling group ++ spelling others) (gate ∷ behind) in
@@ -35,7 +34,7 @@ none_held groups at span begins byte none (all, holds) =
     refused follow.0 at span gate _ begins.inside follow.3 follow.2 holds.behind byte none
 
 -- a span that was read whole
-pub whole_read : (read out items span : List ℕ) (n size : ℕ) → n ≡ size → length out ≡ size → length span ≡ size
+pub whole_read : {read out : List ℕ} (items : List ℕ) {span : List ℕ} {n size : ℕ} → n ≡ size → length out ≡ size → length span ≡ size
     → read ≡ take n (out ++ drop (length out) items) → out ≡ part 0 (length out) span → read ≡ span
-whole_read read out items span n size n_is out_long span_long read_is out_is =
+whole_read items n_is out_long span_long read_is out_is =
     grind (arith, common_steps, take_at, append-nil)

@@ -22,20 +22,17 @@ open_byte byte is = grind (arith, nat_tests)
 
 -- a record stands at this place
 record_here : (place : ℕ) (span group : List ℕ) → get_or span place 0 ≡ 165
-    → part (place + 1) 4 span ≡ to_be_bytes w32 (length group)
-    → part (place + 5) (length group) span ≡ group → place + 5 + length group ≤ length span
-    → part place (1 + (4 + length group)) span ≡ record_spelling group
+    → part (place + 1) 4 span ≡ to_be_bytes w32 (length group) → part (place + 5) (length group) span ≡ group
+    → place + 5 + length group ≤ length span → part place (1 + (4 + length group)) span ≡ record_spelling group
 record_here place span group byte length_is group_is fits =
     let front = drop-cons span place 0 (omega arith) in
     let gate_is : part place 1 span ≡ 165 ∷ [] = rw (front, byte) in
     rw (
       part_in_two place 1 (4 + length group) (place + 1) span refl,
-      part_in_two (place + 1) 4 (length group) (place + 5) span
-          (omega arith),
+      part_in_two (place + 1) 4 (length group) (place + 5) span (omega arith),
       gate_is,
       length_is,
-    )
-    (ap (λ (l : List ℕ). 165 ∷ (to_be_bytes w32 (length group) ++ l)) group_is)
+    ) (ap (λ (l : List ℕ). 165 ∷ (to_be_bytes w32 (length group) ++ l)) group_is)
 
 -- one record more
 pub spelling_more : (groups : List (List ℕ)) (group : List ℕ)
@@ -76,9 +73,9 @@ pub all_read : (groups : List (List ℕ)) (at : ℕ) (span : List ℕ) → Begin
 all_read groups at span begins shut = grind arith
 
 -- what changes from the gate behind the records on, while that gate is closed, leaves the records
-kept_shut : (groups : List (List ℕ)) {old new : List ℕ} {at n : ℕ} → HoldsRecords groups old → SameBut at n old new
+kept_shut : {groups : List (List ℕ)} {old new : List ℕ} {at n : ℕ} → HoldsRecords groups old → SameBut at n old new
     → length (spelling groups) ≤ at → is_open new (length (spelling groups)) ≡ false → HoldsRecords groups new
-kept_shut groups holds same behind shut = record {
+kept_shut {groups = groups} holds same behind shut = record {
   short = holds.short;
   front = kept_part same 0 (length (spelling groups)) (omega (arith, holds.inside)) (omega arith) ∙ holds.front;
   inside = omega (arith, same.same_length, holds.inside);
@@ -87,18 +84,15 @@ kept_shut groups holds same behind shut = record {
 
 -- what changes behind that gate leaves the records
 pub kept_records : (groups : List (List ℕ)) {old new : List ℕ} {at n : ℕ} → HoldsRecords groups old
-    → SameBut at n old new
-    → length (spelling groups) < at → HoldsRecords groups new
+    → SameBut at n old new → length (spelling groups) < at → HoldsRecords groups new
 kept_records groups holds same behind =
-    kept_shut groups holds same (omega arith) (kept_gate same (length (spelling groups)) (omega arith) ∙ holds.behind)
+    kept_shut holds same (omega arith) (kept_gate same (length (spelling groups)) (omega arith) ∙ holds.behind)
 
 -- a record behind an open gate, with a closed gate behind it
 module _ (groups : List (List ℕ)) (group : List ℕ) {old mid new : List ℕ} (holds : HoldsRecords groups old) (place : ℕ)
     (place_is : place ≡ length (spelling groups)) (fits : place + 6 + length group ≤ length old)
-    (few : length group < 2 ^ 32)
-    (beside : SameBut (place + 1) (5 + length group) old mid)
-    (there : part (place + 1) (5 + length group) mid ≡ text_behind_gate group)
-    (gate : SameBut place 1 mid new) where
+    (few : length group < 2 ^ 32) (beside : SameBut (place + 1) (5 + length group) old mid)
+    (there : part (place + 1) (5 + length group) mid ≡ text_behind_gate group) (gate : SameBut place 1 mid new) where
   long : length new ≡ length old
   long = gate.same_length ∙ beside.same_length
 
@@ -118,9 +112,8 @@ module _ (groups : List (List ℕ)) (group : List ℕ) {old mid new : List ℕ} 
   next_closed =
       let last : get_or (group ++ 0 ∷ []) (length group) 0 ≡ 0 = grind (arith, common_steps) in
       sym (get_or-part (place + 1) (5 + length group) new (4 + length group) (place + (5 + length group)) (omega arith)
-      (omega arith))
-      ∙ ap (λ (l : List ℕ). get_or l (4 + length group) 0) text
-      ∙ get_or-append-add (to_be_bytes w32 (length group)) (group ++ 0 ∷ []) (length group) 0 ∙ last
+      (omega arith)) ∙ ap (λ (l : List ℕ). get_or l (4 + length group) 0) text ∙ get_or-append-add
+      (to_be_bytes w32 (length group)) (group ++ 0 ∷ []) (length group) 0 ∙ last
 
   pub opened_more : is_open new place ≡ true → HoldsRecords (groups ++ group ∷ []) new
   opened_more opened =
@@ -139,12 +132,11 @@ module _ (groups : List (List ℕ)) (group : List ℕ) {old mid new : List ℕ} 
       let group_is = inner 4 (length group) (place + 5) (omega arith) (omega arith)
       ∙ take_at group (0 ∷ []) (length group) refl in
       all_read _ _ new (begins_more groups place (length group) new group begins (open_byte _ opened) has
-      (sym group_is))
-      (ap (λ (b : ℕ). nat_eq b 165) next_closed)
+      (sym group_is)) (ap (λ (b : ℕ). nat_eq b 165) next_closed)
 
   -- whatever stands in the gate, the old records are there, or one more
   pub either_more : HoldsRecords groups new ⊎ HoldsRecords (groups ++ group ∷ []) new
   either_more = elim (cases_Bool (is_open new place)) [
     | inl opened ↦ inr (opened_more opened)
-    | inr shut ↦ inl (kept_shut groups holds all (omega (arith, place_is)) (rw (← place_is) shut))
+    | inr shut ↦ inl (kept_shut holds all (omega (arith, place_is)) (rw (← place_is) shut))
   ]

@@ -15,10 +15,9 @@ use Rattle.pos_image.specs.declared.layout.Layout.{Layout}
 use Rattle.pos_log.specs.Renewing.{Replaces}
 
 -- an image was put beside the current one, and then its gate was opened: nothing else was written
-pub beside_on : (slot gate : Slot) (n : ℕ) (old mid new : DiskState) → gate ≡ slot → KeepsBeside slot n old mid
-    → Keeps (start gate) 1 mid new
-    → KeepsBeside slot n old new
-beside_on slot gate n old mid new is first second =
+pub beside_on : {slot gate : Slot} {n : ℕ} {old mid new : DiskState} → gate ≡ slot → KeepsBeside slot n old mid
+    → Keeps (start gate) 1 mid new → KeepsBeside slot n old new
+beside_on is first second =
     let same = rw is at second in
     record {
       same_length = same.same_length ∙ first.same_length;
@@ -27,8 +26,7 @@ beside_on slot gate n old mid new is first second =
 
 -- a new image has no records
 pub no_records : (layout : Layout) (body : List ℕ) (sequence : ℕ) (bytes : List ℕ)
-    → HasNewImage layout body sequence bytes
-    → HasNoRecords layout body sequence bytes
+    → HasNewImage layout body sequence bytes → HasNoRecords layout body sequence bytes
 no_records layout body sequence bytes new = grind (arith, image_length, inl, inr, log_some)
 
 -- at any moment while an image is put beside the current one, and then published

@@ -5,9 +5,9 @@ use Rattle.pos_log.proofs.Common.{length, nat_eq, nat_tests, record_spelling, re
 use Rattle.pos_log.proofs.Common.{take-append-drop, take_at, to_be_bytes, w32, ℕ, ◌++◌, ◌∙◌, ◌∷◌, ◌≡◌}
 
 -- two records that begin one text are the same
-pub same_head : (a b x y : List ℕ) → IsShort a → IsShort b → record_spelling a ++ x ≡ record_spelling b ++ y
+pub same_head : (a b : List ℕ) {x y : List ℕ} → IsShort a → IsShort b → record_spelling a ++ x ≡ record_spelling b ++ y
     → (a ≡ b) × (x ≡ y)
-same_head a b x y sa sb is =
+same_head a b {x = x} {y = y} sa sb is =
     let lens : to_be_bytes w32 (length a) ≡ to_be_bytes w32 (length b) = ap (λ (l : List ℕ). take 4 (drop 1 l)) is in
     let long : length a ≡ length b =
     sym (from_be_bytes-to_be_bytes_4 (length a) sa) ∙ ap (from_be_bytes w32) lens
@@ -33,8 +33,7 @@ others_follow (group ∷ groups) [] rest gate behind short short_all is shut =
 others_follow (group ∷ groups) (one ∷ all) rest gate behind short short_all is shut =
     let apart = sym (append_assoc (record_spelling group) (spelling groups) rest) ∙ is
     ∙ append_assoc (record_spelling one) (spelling all) (gate ∷ behind) in
-    let first = same_head group one (spelling groups ++ rest)
-    (spelling all ++ gate ∷ behind) short.0 short_all.0 apart in
+    let first = same_head group one short.0 short_all.0 apart in
     let more = others_follow groups all rest gate behind short.1 short_all.1 first.1 shut in
     (more.0, (λ i. sym first.0 i ∷ more.1 i), more.2, more.3)
 
@@ -43,10 +42,10 @@ pub span_split : (groups : List (List ℕ)) (span : List ℕ) → HoldsRecords g
     → span ≡ spelling groups ++ get_or span (length (spelling groups)) 0 ∷ drop (suc (length (spelling groups))) span
 span_split groups span holds = grind (arith, take-append-drop, drop-cons)
 
-none_follow : (groups all others : List (List ℕ)) (gate : ℕ) (rest behind : List ℕ) → all ≡ groups ++ others
+none_follow : {groups all : List (List ℕ)} (others : List (List ℕ)) {gate : ℕ} {rest : List ℕ} (behind : List ℕ) → all ≡ groups ++ others
     → gate ∷ rest ≡ spelling others ++ behind → nat_eq gate 165 ≡ false → groups ≡ all
-none_follow groups all [] gate rest behind is text shut = sym (is ∙ append-nil groups)
-none_follow groups all (one ∷ others) gate rest behind is text shut =
+none_follow {groups = groups} [] behind is text shut = sym (is ∙ append-nil groups)
+none_follow (one ∷ others) behind is text shut =
     absurd (grind (arith, nat_tests, ap (λ (l : List ℕ). get_or l 0 0) text))
 
 -- so it holds one list of records
@@ -58,4 +57,4 @@ one_log groups all span holds also =
     let follow = others_follow groups all (gate ∷ rest) (get_or span (length (spelling all)) 0)
     (drop (suc (length (spelling all))) span) holds.short also.short
     (sym (span_split groups span holds) ∙ span_split all span also) also.behind in
-    none_follow groups all follow.0 gate rest _ follow.1 follow.2 holds.behind
+    none_follow follow.0 _ follow.1 follow.2 holds.behind

@@ -22,12 +22,10 @@ module _ {D : Type 0} (bound : Ghosts D)
   follow : (old new : Mirror D) → bound.honest new.below → length new.memory.present.reading ≤ bound.size new.below
       → Elapses (bound.state old.below) (bound.state new.below) → Elapses (state_of old.memory) (state_of new.memory)
       → length new.memory.present.reading ≡ length old.memory.present.reading
-      → Covers (bound.state new.below) (state_of new.memory)
-      → (s t : ℕ) → Follows (bound.state old.below) s (mirror_state old) t
-      → Follows (bound.state new.below) s (mirror_state new) t
+      → Covers (bound.state new.below) (state_of new.memory) → (s t : ℕ)
+      → Follows (bound.state old.below) s (mirror_state old) t → Follows (bound.state new.below) s (mirror_state new) t
   follow old new honest fits below memory long covers s t follows =
-      follows_on (bound.state old.below) (bound.state new.below) (mirror_state old) (mirror_state new) s t below
-      (time_under old.failures new.failures memory) (counts_mirrored new t) long
+      follows_on below (time_under old.failures new.failures memory) (counts_mirrored new t) long
       (omega (arith, fits, whole new.below honest)) covers follows
 
   -- what holds after a call
@@ -36,13 +34,12 @@ module _ {D : Type 0} (bound : Ghosts D)
 
   -- it does where memory shows what the disk below has, and both made the call
   after : (old new : Mirror D) → IsMirror bound old → length new.memory.present.reading ≤ bound.size new.below
-      → new.failures < 2 ^ 64
-      → bound.honest old.below ↔ bound.honest new.below
+      → new.failures < 2 ^ 64 → bound.honest old.below ↔ bound.honest new.below
       → (bound.honest old.below → Shows (bound.state new.below) (state_of new.memory) new.lost)
-      → ((first : D) → Makes bound first old.below old.memory old.lost
-      → Makes bound first new.below new.memory new.lost)
-      → (bound.honest old.below → (s t : ℕ) → Follows (bound.state old.below) s (mirror_state old) t
-      → Follows (bound.state new.below) s (mirror_state new) t)
+      → ((first : D) → Makes bound first old.below old.memory old.lost → Makes bound first new.below new.memory
+      new.lost)
+      → (bound.honest old.below → (s t : ℕ) → Follows (bound.state old.below) s (mirror_state old) t → Follows
+      (bound.state new.below) s (mirror_state new) t)
       → After old new
   unfolding After
   after old new is fits last honest shows makes on = (
@@ -61,36 +58,33 @@ module _ {D : Type 0} (bound : Ghosts D)
 
   -- a write of a lost mirror
   pub lost_write : {m n : Memory} {b : D} {f at : ℕ} {bytes : List ℕ} {put : Answer}
-      → IsMirror bound (mirror_of m b f true)
-      → at + length bytes ≤ length m.present.reading → n ≡ written at bytes m
+      → IsMirror bound (mirror_of m b f true) → at + length bytes ≤ length m.present.reading → n ≡ written at bytes m
       → Writes (state_of m) (state_of n) at bytes put
-      → IsMirror bound (mirror_of n b (counted f) true)
-      × (bound.honest b → FollowsOn bound (mirror_of m b f true) (mirror_of n b (counted f) true))
+      → IsMirror bound (mirror_of n b (counted f) true) × (bound.honest b → FollowsOn bound (mirror_of m b f true)
+      (mirror_of n b (counted f) true))
   unfolding After
   lost_write {m = m} {n = n} {b = b} {f = f} {at = at} {bytes = bytes} is fits same writes =
       let old : Mirror D = mirror_of m b f true in
       let new : Mirror D = mirror_of n b (counted f) true in
       let spoils = spoils_of writes in
       let covers : bound.honest b → Covers (bound.state b) (state_of n) =
-      λ h. covers_memory (bound.state b) (state_of m) (state_of n) at (length bytes) spoils (is.shows h).covers in
+      λ h. covers_memory (bound.state b) spoils (is.shows h).covers in
       let room : length n.present.reading ≤ bound.size b = omega (arith, is.fits, spoils.same_length) in
       after old new is room (omega (arith, is.last)) (λ h. h, λ h. h)
-      (λ h. shows_lost (bound.state b) (state_of n) (covers h))
+      (λ h. shows_lost (covers h))
       (λ first makes. subst (λ k. Makes bound first b k true) (sym same) (ignored b m at bytes fits makes))
       (λ h. follow old new h room (no_time (bound.state b)) spoils.time spoils.same_length (covers h))
 
   -- a call of the disk below
   module _ {m n : Memory} {b c : D} {f : ℕ} (is : IsMirror bound (mirror_of m b f false))
-      (size : bound.size c ≡ bound.size b)
-      (honest : bound.honest b ↔ bound.honest c) where
+      (size : bound.size c ≡ bound.size b) (honest : bound.honest b ↔ bound.honest c) where
     -- a write that succeeded
     pub written_on : {at : ℕ} {bytes : List ℕ} {first put : Answer} → first ≡ Ok tt → put ≡ Ok tt
         → at + length bytes ≤ length m.present.reading
         → (bound.honest b → Writes (bound.state b) (bound.state c) at bytes first) → bound.own_write b c at bytes first
-        → n ≡ written at bytes m
-        → Writes (state_of m) (state_of n) at bytes put
-        → IsMirror bound (mirror_of n c f false)
-        × (bound.honest b → FollowsOn bound (mirror_of m b f false) (mirror_of n c f false))
+        → n ≡ written at bytes m → Writes (state_of m) (state_of n) at bytes put
+        → IsMirror bound (mirror_of n c f false) × (bound.honest b → FollowsOn bound (mirror_of m b f false)
+        (mirror_of n c f false))
     unfolding After
     written_on {at = at} {bytes = bytes} {first = first} {put = put} done did fits below own same writes =
         let old : Mirror D = mirror_of m b f false in
@@ -98,8 +92,7 @@ module _ {D : Type 0} (bound : Ghosts D)
         let spoils = spoils_of writes in
         let room : length n.present.reading ≤ bound.size c = omega (arith, is.fits, spoils.same_length, size) in
         let shows : bound.honest b → Shows (bound.state c) (state_of n) false =
-        λ h. shows_written (bound.state b) (bound.state c) (state_of m) (state_of n) at bytes first put tt tt done did
-        (omega (arith, fits, is.fits, whole b h)) fits (below h) writes (is.shows h) in
+        λ h. shows_written done did (omega (arith, fits, is.fits, whole b h)) fits (below h) writes (is.shows h) in
         after old new is room is.last honest shows
         (λ first makes. subst (λ k. Makes bound first c k false) (sym same)
         (wrote b c m at bytes fits makes (rw done at own)))
@@ -118,28 +111,25 @@ module _ {D : Type 0} (bound : Ghosts D)
         let long : length n.present.reading ≡ length m.present.reading = ap length syncs.reading in
         let room : length n.present.reading ≤ bound.size c = omega (arith, is.fits, long, size) in
         let shows : bound.honest b → Shows (bound.state c) (state_of n) false =
-        λ h. shows_synced (bound.state b) (bound.state c) (state_of m) (state_of n) (rw done at (below h).at_rest)
-        (below h).reading syncs.reading (is.shows h) in
+        λ h. shows_synced (rw done at (below h).at_rest) (below h).reading syncs.reading (is.shows h) in
         after old new is room is.last honest shows
         (λ first makes. subst (λ k. Makes bound first c k false) (sym same) (settled b c m makes (rw done at own)))
         (λ h. follow old new (honest.0 h) room (below h).time syncs.time long (shows h).covers)
 
   -- a sync that failed
   pub unsettled_on : {m : Memory} {b c : D} {f : ℕ} {first : Answer} → IsMirror bound (mirror_of m b f false)
-      → bound.size c ≡ bound.size b
-      → bound.honest b ↔ bound.honest c → first ≡ Err record {}
-      → (bound.honest b → Syncs (bound.state b) (bound.state c) first)
-      → bound.own_sync b c first
-      → IsMirror bound (mirror_of m c (counted f) true)
-      × (bound.honest b → FollowsOn bound (mirror_of m b f false) (mirror_of m c (counted f) true))
+      → bound.size c ≡ bound.size b → bound.honest b ↔ bound.honest c → first ≡ Err record {}
+      → (bound.honest b → Syncs (bound.state b) (bound.state c) first) → bound.own_sync b c first
+      → IsMirror bound (mirror_of m c (counted f) true) × (bound.honest b → FollowsOn bound (mirror_of m b f false)
+      (mirror_of m c (counted f) true))
   unfolding After
   unsettled_on {m = m} {b = b} {c = c} {f = f} {first = first} is size honest failed below own =
       let old : Mirror D = mirror_of m b f false in
       let new : Mirror D = mirror_of m c (counted f) true in
       let room : length m.present.reading ≤ bound.size c = omega (arith, is.fits, size) in
       let covers : bound.honest b → Covers (bound.state c) (state_of m) =
-      λ h. covers_sync (bound.state b) (bound.state c) (state_of m) first (below h) (is.shows h).covers in
-      after old new is room (omega (arith, is.last)) honest (λ h. shows_lost (bound.state c) (state_of m) (covers h))
+      λ h. covers_sync (state_of m) (below h) (is.shows h).covers in
+      after old new is room (omega (arith, is.last)) honest (λ h. shows_lost (covers h))
       (λ first makes. unsettled b c m makes (rw failed at own))
       (λ h. follow old new (honest.0 h) room (below h).time (no_time (state_of m)) refl (covers h))
 
@@ -151,35 +141,28 @@ module _ {D : Type 0} (bound : Ghosts D)
         → bound.own_write b mid at bytes (Err record {})
         → Makes bound first b m false → Makes bound first c n (is_fault again)
     reread_makes first (Ok u) rereads own makes =
-        subst (λ k. Makes bound first c k false) (sym rereads.shown)
-        (found b mid c m at bytes (part at (length bytes) m.present.reading) rereads.left fits rereads.same_length makes
-        own rereads.read)
+        subst (λ k. Makes bound first c k false) (sym rereads.shown) (found b mid c m at bytes
+        (part at (length bytes) m.present.reading) rereads.left fits rereads.same_length makes own rereads.read)
     reread_makes first (Err e) rereads own makes =
-        subst (λ k. Makes bound first c k true) (sym rereads.shown)
-        (unread b mid c m at bytes (part at (length bytes) m.present.reading) rereads.left fits rereads.same_length
-        makes own rereads.read)
+        subst (λ k. Makes bound first c k true) (sym rereads.shown) (unread b mid c m at bytes
+        (part at (length bytes) m.present.reading) rereads.left fits rereads.same_length makes own rereads.read)
 
     reread_shows : (first again : Answer) → Rereads bound mid c at (length bytes) m n again → bound.honest b
         → bound.honest mid
         → Writes (bound.state b) (bound.state mid) at bytes first → Shows (bound.state c) (state_of n) (is_fault again)
     reread_shows first (Ok u) rereads start then below =
-        shows_found (bound.state b) (bound.state mid) (bound.state c) (state_of m)
-        (state_of n) at bytes rereads.left first (Ok u) u refl
-        rereads.same_length (rw rereads.same_length fits) below (rereads.reads then) spoils
+        shows_found (Ok u) refl rereads.same_length (rw rereads.same_length fits) below (rereads.reads then) spoils
         (ap (λ (k : Memory). k.present.reading) rereads.shown) (is.shows start)
     reread_shows first (Err e) rereads start then below =
-        shows_lost (bound.state c) (state_of n)
-        (covers_looked (bound.state mid) (bound.state c) (state_of n) at rereads.left (Err e) (rereads.reads then)
-        (covers_both (bound.state b) (bound.state mid) (state_of m) (state_of n) at (length bytes)
-        (spoils_of below) spoils (is.shows start).covers))
+        shows_lost (covers_looked (state_of n) (rereads.reads then) (covers_both (bound.state b) (bound.state mid)
+        (state_of m) (state_of n) at (length bytes) (spoils_of below) spoils (is.shows start).covers))
 
     pub reread_on : {first again : Answer} → first ≡ Err record {} → bound.size mid ≡ bound.size b
-        → bound.size c ≡ bound.size mid
-        → bound.honest b ↔ bound.honest mid → bound.honest mid ↔ bound.honest c
+        → bound.size c ≡ bound.size mid → bound.honest b ↔ bound.honest mid → bound.honest mid ↔ bound.honest c
         → (bound.honest b → Writes (bound.state b) (bound.state mid) at bytes first)
         → bound.own_write b mid at bytes first → Rereads bound mid c at (length bytes) m n again
-        → IsMirror bound (mirror_of n c (counted f) (is_fault again))
-        × (bound.honest b → FollowsOn bound (mirror_of m b f false) (mirror_of n c (counted f) (is_fault again)))
+        → IsMirror bound (mirror_of n c (counted f) (is_fault again)) × (bound.honest b → FollowsOn bound
+        (mirror_of m b f false) (mirror_of n c (counted f) (is_fault again)))
     unfolding After
     reread_on {first = first} {again = again} failed size_mid size honest_mid honest below own rereads =
         let old : Mirror D = mirror_of m b f false in
@@ -197,15 +180,13 @@ module _ {D : Type 0} (bound : Ghosts D)
         (λ h. honest.0 (honest_mid.0 h), λ h. honest_mid.1 (honest.1 h)) shows
         (λ start makes. reread_makes start again rereads (rw failed at own) makes)
         (λ h s t follows. follow half new (honest.0 (honest_mid.0 h)) room (rereads.reads (honest_mid.0 h)).time
-        (no_time (state_of n)) refl (shows h).covers s t
-        (follow old half (honest_mid.0 h) room_mid (below h).time spoils.time spoils.same_length
-        (covers h) s t follows))
+        (no_time (state_of n)) refl (shows h).covers s t (follow old half (honest_mid.0 h) room_mid (below h).time
+        spoils.time spoils.same_length (covers h) s t follows))
 
   -- a new mirror
-  pub opened : ((disk : D) (bytes : List ℕ) → bound.honest disk
-      → (bound.state disk).left_since (bound.state disk).moment bytes
-      → MayLeave (bound.state disk) bytes) → (a b c : D) (before bytes : List ℕ) (first put : Answer) → first ≡ Ok tt
-      → put ≡ Ok tt
+  pub opened : ((disk : D) (bytes : List ℕ) → bound.honest disk → (bound.state disk).left_since
+      (bound.state disk).moment bytes → MayLeave (bound.state disk) bytes)
+      → (a b c : D) (before bytes : List ℕ) (first put : Answer) → first ≡ Ok tt → put ≡ Ok tt
       → bound.honest a ↔ bound.honest b → bound.honest b ↔ bound.honest c
       → (bound.honest a → Syncs (bound.state a) (bound.state b) first)
       → (bound.honest b → Reads (bound.state b) (bound.state c) 0 bytes put) → bound.own_read b c 0 before bytes put

@@ -19,9 +19,8 @@ heard_at place s t controls = all_listening place
 
 -- they have heard of signs that are those of the printer
 pub heard_of : (place : ℕ) (s t : PeripheralState) (a b : Signs) (old mid new : List Control)
-    → a ≡ signs_of s.kind s.plant
-    → b ≡ signs_of t.kind t.plant → mid ≡ old → new ≡ all_listening place (heard_signs a b) mid
-    → new ≡ heard_at place s t old
+    → a ≡ signs_of s.kind s.plant → b ≡ signs_of t.kind t.plant → mid ≡ old
+    → new ≡ all_listening place (heard_signs a b) mid → new ≡ heard_at place s t old
 heard_of place s t a b old mid new is_a is_b same h = rw (h, same, is_a, is_b)
 
 -- the printer has done it
@@ -35,8 +34,7 @@ ordered_done given place s t old new asked heard = record {
 }
 
 -- a printer that doesn't do an order is as it was
-same_undone : (said : Reply) → (said ≡ reply.Done → ⊥) → (given : Order) (p q : Plant) → Performs given p said q
-    → q ≡ p
+same_undone : (said : Reply) → (said ≡ reply.Done → ⊥) → (given : Order) (p q : Plant) → Performs given p said q → q ≡ p
 same_undone reply.Done undone given p q h = absurd (undone refl)
 same_undone other undone given p q h = grind arith
 

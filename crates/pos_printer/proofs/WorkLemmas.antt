@@ -39,16 +39,14 @@ of_request o id i old new control is h = grind arith
 pub completed_in : (hs : List KeptControl) (i : ℕ) (d g : KeptControl) (id : ℕ) → i < length hs
     → option_map (λ (request : ℕ × Order). request.0) (request_to_do (get_or hs i d).control.writer.output) ≡ Some id
     → g.control ≡ completed id (get_or hs i d).control
-    → MatchOption (slice_get (controls_of hs) i) ⊥
-    (λ control. MatchOption (request_to_do control.writer.output) ⊥
-    (λ request. (worked.Done id ≡ worked.Done request.0)
-    × (controls_of (set hs i g) ≡ slice_set (controls_of hs) i (completed request.0 control))))
+    → MatchOption (slice_get (controls_of hs) i) ⊥ (λ control. MatchOption (request_to_do control.writer.output) ⊥
+    (λ request. (worked.Done id ≡ worked.Done request.0) × (controls_of (set hs i g) ≡ slice_set (controls_of hs) i
+    (completed request.0 control))))
 completed_in hs i d g id lt is done =
     let within : i < length (controls_of hs) = omega (arith, length-map hs (λ (h : KeptControl). h.control)) in
     rw (slice_get-get_or (controls_of hs) i d.control within, ← control_at hs i d d.control lt)
     (of_request (request_to_do (get_or hs i d).control.writer.output) id i (controls_of hs) (controls_of (set hs i g))
-    (get_or hs i d).control is
-    (map-set (λ (h : KeptControl). h.control) hs i g ∙ ap (set (controls_of hs) i) done))
+    (get_or hs i d).control is (map-set (λ (h : KeptControl). h.control) hs i g ∙ ap (set (controls_of hs) i) done))
 
 -- The control with a number has this request to do at a place.
 pub record IsFirst (place holder : ℕ) (request : ℕ × Order) (controls : List Control) : Type 0 where
@@ -97,8 +95,7 @@ first_held place holder request hs d f =
 
 -- there is room for the event that it has then
 pub has_request : (place holder count : ℕ) (request : ℕ × Order) (hs : List KeptControl)
-    → IsFirst place holder request (controls_of hs) → 1 ≤ count
-    → All (HasRoom place count) hs → HasRequest holder hs
+    → IsFirst place holder request (controls_of hs) → 1 ≤ count → All (HasRoom place count) hs → HasRequest holder hs
 has_request place holder count request hs f most room =
     let d : KeptControl = record { control = f.control; spare = 0 } in
     let held = first_held place holder request hs d f in
@@ -121,19 +118,17 @@ first_asked place holder request hs d outcome s t f asked =
 -- what is done with the request
 pub first_done : (place holder : ℕ) (request : ℕ × Order) (mid new : List Control) (result : WorkResult)
     → IsFirst place holder request mid
-    → MatchOption (slice_get mid holder) ⊥
-    (λ control. MatchOption (request_to_do control.writer.output) ⊥
+    → MatchOption (slice_get mid holder) ⊥ (λ control. MatchOption (request_to_do control.writer.output) ⊥
     (λ r. (result ≡ worked.Done r.0) × (new ≡ slice_set mid holder (completed r.0 control))))
-    → (result ≡ worked.Done request.0)
-    × MatchOption (slice_get mid holder) ⊥ (λ control. new ≡ slice_set mid holder (completed request.0 control))
+    → (result ≡ worked.Done request.0) × MatchOption (slice_get mid holder) ⊥
+    (λ control. new ≡ slice_set mid holder (completed request.0 control))
 first_done place holder request mid new result f h =
     grind (arith, first_of (listens place f.control) (request_to_do f.control.writer.output) request f.first)
 
 -- what there is of a request to do: room for its event
 pub room_for_first : (place holder : ℕ) (old : List Control) (hs : List KeptControl)
     → is_some (option_and_then (first_request place) (slice_get old holder)) ≡ true → controls_of hs ≡ old
-    → All (HasRoom place work_events) hs
-    → HasRequest holder hs
+    → All (HasRoom place work_events) hs → HasRequest holder hs
 room_for_first place holder old hs found same room =
     let f = first_found place holder old found in
     has_request place holder work_events f.0 hs (subst (IsFirst place holder f.0) (sym same) f.1) (omega arith) room
@@ -148,8 +143,7 @@ undone_said : (said : Reply) → (said ≡ reply.Done → ⊥) → (id holder : 
 undone_said said undone id holder result old new answer changed = grind arith
 
 module _ (at : Option ℕ) (holder place : ℕ) (result : WorkResult) (old new : List Control) (hs : List KeptControl)
-    (d : KeptControl) (s t : PeripheralState)
-    (is : at ≡ Some holder) (printer : is_printer s.kind ≡ true)
+    (d : KeptControl) (s t : PeripheralState) (is : at ≡ Some holder) (printer : is_printer s.kind ≡ true)
     (found : is_some (option_and_then (first_request place) (slice_get old holder)) ≡ true)
     (same : controls_of hs ≡ old) where
   -- work on a request, by what the printer has said
@@ -165,8 +159,7 @@ module _ (at : Option ℕ) (holder place : ℕ) (result : WorkResult) (old new :
       → MatchOption (first_request place (get_or hs holder d).control) ⊥ (λ r. Asked s r.1 (Ok reply.Done) t)
       → a ≡ signs_of s.kind s.plant → b ≡ signs_of t.kind t.plant
       → mid ≡ all_listening place (heard_signs a b) (controls_of hs)
-      → MatchOption (slice_get mid holder) ⊥
-      (λ control. MatchOption (request_to_do control.writer.output) ⊥
+      → MatchOption (slice_get mid holder) ⊥ (λ control. MatchOption (request_to_do control.writer.output) ⊥
       (λ r. (result ≡ worked.Done r.0) × (new ≡ slice_set mid holder (completed r.0 control))))
       → WorksAt at place (Ok result) old (hardware_of s) new (hardware_of t)
   does mid a b asked was now said done =

@@ -15,15 +15,13 @@ abbrev both : Members → List (Option Entry)
 both root = entries_of Device root ++ entries_of Spare root
 
 faultless : (root : Members) (limit : ℕ) → is_root root ≡ true
-    → ((n : ℕ) → n < limit → is_refused (both root) n ≡ false) → (n : ℕ) → n < limit + 1
-    → is_faulty root n ≡ false
+    → ((n : ℕ) → n < limit → is_refused (both root) n ≡ false) → (n : ℕ) → n < limit + 1 → is_faulty root n ≡ false
 faultless root limit is sound n less = grind (arith, sound (n - 1))
 
 -- entries are numbered from 1
-numbered : (root : Members) (place number : ℕ) → is_root root ≡ true → number ≡ place + 1
-    → IsLowest (is_refused (both root)) place
-    → IsLowest (is_faulty root) number
-numbered root place number is from lowest = grind (arith, faultless root place is lowest.below)
+numbered : (root : Members) {place number : ℕ} → is_root root ≡ true → number ≡ place + 1
+    → IsLowest (is_refused (both root)) place → IsLowest (is_faulty root) number
+numbered root {place = place} is from lowest = grind (arith, faultless root place is lowest.below)
 
 get_front : (front back : List (Option Entry)) (n : ℕ) → n < length front
     → slice_get (front ++ back) n ≡ slice_get front n
@@ -43,8 +41,8 @@ refused_front : (front back : List (Option Entry)) (n : ℕ) → n < length fron
 refused_front front back n less = rw (get_front front back n less, take-append-le n front back (omega arith))
 
 -- a spare isn't Hard Totals
-plain_spare : (category : Category) → allowed Spare category ≡ Some category → is_totals category ≡ false
-plain_spare category is = grind arith
+plain_spare : {category : Category} → allowed Spare category ≡ Some category → is_totals category ≡ false
+plain_spare is = grind arith
 
 -- whether a spare is refused doesn't hang on what stands before it
 after_spare : (earlier others : List (Option Entry)) (value : Option Data)
@@ -94,7 +92,7 @@ module _ (root : Members) (is : is_root root ≡ true) where
   pub device_mistaken : (place : ℕ) (why : Reason) → IsFlawedList Device (values_at (key_of Device) root) place why
       → IsMistake root (mistake_at 0 Device place why)
   device_mistaken place why flawed = record {
-    lowest = numbered root place (0 + place + 1) is (omega arith)
+    lowest = numbered root is (omega arith)
         (lowest_front (entries_of Device root) (entries_of Spare root) place flawed.lowest);
     number = omega arith;
     has = rw add-one flawed.has;
@@ -112,16 +110,16 @@ module _ (root : Members) (is : is_root root ≡ true) where
         → IsFlawedList Spare (values_at (key_of Spare) root) place why
         → IsMistake root (mistake_at before Spare place why)
     spare_mistaken before place why are flawed = record {
-      lowest = numbered root (length (entries_of Device root) + place) (before + place + 1) is (omega (arith, count))
+      lowest = numbered root is (omega (arith, count))
           (lowest_back (entries_of Device root) (values_at (key_of Spare) root) place sound.sound flawed.lowest);
       number = omega (arith, values_count);
       has = rw add-one flawed.has;
     }
 
     -- the document has no mistake
-    pub document_read : (spares : List Entry) → IsSoundList Spare (values_at (key_of Spare) root) spares
+    pub document_read : {spares : List Entry} → IsSoundList Spare (values_at (key_of Spare) root) spares
         → IsRead root (record { devices = devices; spares = spares })
-    document_read spares others = record {
+    document_read {spares = spares} others = record {
       sound = λ n. faultless root n is
           (λ k _. neither (entries_of Device root) (values_at (key_of Spare) root) sound.sound others.sound k) n
           (omega arith);
@@ -130,19 +128,18 @@ module _ (root : Members) (is : is_root root ≡ true) where
     }
 
 -- a document's devices and spares make a sound profile, where no name stands twice
-pub profile_sound : (root : Members) (contents : Contents) → IsRead root contents
+pub profile_sound : {root : Members} {contents : Contents} → IsRead root contents
     → ((place : ℕ) → is_repeated (names_of contents.devices) place ≡ false) → IsSoundProfile contents
-profile_sound root contents read names =
+profile_sound {root = root} {contents = contents} read names =
     let front = entries_of Device root in
     record {
-      devices = list_sound Device (values_at (key_of Device) root) contents.devices read.devices;
-      spares = list_sound Spare (values_at (key_of Spare) root) contents.spares read.spares;
-      totals = λ place. rw (← read.devices)
-          (grind (
-            arith,
-            refused_front front (entries_of Spare root) place,
-            none_past front place,
-            read.sound (suc place),
-          ));
+      devices = list_sound (values_at (key_of Device) root) contents.devices read.devices;
+      spares = list_sound (values_at (key_of Spare) root) contents.spares read.spares;
+      totals = λ place. rw (← read.devices) (grind (
+        arith,
+        refused_front front (entries_of Spare root) place,
+        none_past front place,
+        read.sound (suc place),
+      ));
       names = names;
     }

@@ -29,9 +29,9 @@ pub none_past : (found : List (Option Entry)) (place : ℕ) → length found ≤
 none_past found place past = rw (slice_get_past found place past)
 
 -- the value at a place of a list
-pub value_at : (items : List Value) (place : ℕ) (item : Value) → place < length items → item ≡ get_or items place item
+pub value_at : (items : List Value) {place : ℕ} {item : Value} → place < length items → item ≡ get_or items place item
     → slice_get (map view items) place ≡ Some (view item)
-value_at items place item within at = grind (arith, gets, slice_get-map)
+value_at items within at = grind (arith, gets, slice_get-map)
 
 module _ (role : Role) (values : List Data) (place : ℕ) (value : Data) (at : slice_get values place ≡ Some value)
     (before : (n : ℕ) → n < place → is_refused (map (entry_of role) values) n ≡ false) where
@@ -71,10 +71,10 @@ none_passes : (test : ℕ → Bool) (count place : ℕ) → ((n : ℕ) → count
 none_passes test count place past end below n = grind (arith, below n, past n)
 
 -- all entries were read
-pub all_read : (role : Role) (values : List Data) (read : List Entry) (place : ℕ) → length values ≤ place
+pub all_read : {role : Role} {values : List Data} {read : List Entry} {place : ℕ} → length values ≤ place
     → map (λ entry. Some entry) read ≡ take place (map (entry_of role) values)
     → ((n : ℕ) → n < place → is_refused (map (entry_of role) values) n ≡ false) → IsSoundList role values read
-all_read role values read place past so_far sound =
+all_read {role = role} {values = values} {place = place} past so_far sound =
     let found = map (entry_of role) values in
     let end : length found ≤ place = omega (arith, length-map values (entry_of role)) in
     record {
@@ -99,8 +99,7 @@ module _ (lent : Bor (List ℕ)) (keys : List (Bor (List ℕ))) (names : List (L
 
 -- the name at a place of a list of entries
 pub name_at : (entries : List Entry) (place : ℕ) (entry : Entry) (name : List ℕ) → place < length entries
-    → entry ≡ get_or entries place entry
-    → name ≡ entry.name → slice_get (names_of entries) place ≡ Some name
+    → entry ≡ get_or entries place entry → name ≡ entry.name → slice_get (names_of entries) place ≡ Some name
 name_at entries place entry name within at is = grind (arith, gets, slice_get-map)
 
 -- no name past the end is repeated
@@ -109,8 +108,7 @@ none_repeated names place past = rw (slice_get_past names place past)
 
 -- no name is repeated
 pub all_single : (names : List (List ℕ)) (place : ℕ) → length names ≤ place
-    → ((n : ℕ) → n < place → is_repeated names n ≡ false) → (n : ℕ)
-    → is_repeated names n ≡ false
+    → ((n : ℕ) → n < place → is_repeated names n ≡ false) → (n : ℕ) → is_repeated names n ≡ false
 all_single names place past single =
     none_passes (is_repeated names) (length names) place (none_repeated names) past single
 

@@ -28,9 +28,9 @@ place_bound : (at : ℕ) (name : List ℕ) (names : List (List ℕ))
 place_bound at name [] = tt
 place_bound at name (first ∷ names) = grind (arith, place_bound (at + 1) name names)
 
-pub place_within : (names : List (List ℕ)) (name : List ℕ) (place : ℕ) → place_of names name ≡ Some place
+pub place_within : (names : List (List ℕ)) (name : List ℕ) {place : ℕ} → place_of names name ≡ Some place
     → place < length names
-place_within names name place found = let bound = rw found at (place_bound 0 name names) in omega (arith, bound)
+place_within names name found = let bound = rw found at (place_bound 0 name names) in omega (arith, bound)
 
 -- a name that has a place is there: it is the first one, or is among the others
 there_else : (same : Bool) (at : ℕ) (name first : List ℕ) (names : List (List ℕ)) (place : ℕ)
@@ -46,17 +46,16 @@ there_else false at name first names place same else found =
     let is = later.1 in
     (suc later.0, omega (arith, is), later.2)
 
-there_from : (at : ℕ) (name : List ℕ) (names : List (List ℕ)) (place : ℕ) → place_from at name names ≡ Some place
+there_from : (at : ℕ) {name : List ℕ} (names : List (List ℕ)) {place : ℕ} → place_from at name names ≡ Some place
     → (i : ℕ) × (place ≡ at + i) × (slice_get names i ≡ Some name)
-there_from at name [] place found = absurd cc
-there_from at name (first ∷ names) place found =
-    there_else (bytes_eq name first) at name first names place refl
-    (λ is. there_from (at + 1) name names place is) found
+there_from at [] found = absurd cc
+there_from at {name = name} (first ∷ names) {place = place} found =
+    there_else (bytes_eq name first) at name first names place refl (λ is. there_from (at + 1) names is) found
 
-pub name_there : (names : List (List ℕ)) (name : List ℕ) (place : ℕ) → place_of names name ≡ Some place
+pub name_there : (names : List (List ℕ)) {name : List ℕ} (place : ℕ) → place_of names name ≡ Some place
     → slice_get names place ≡ Some name
-name_there names name place found =
-    let there = there_from 0 name names place found in
+name_there names place found =
+    let there = there_from 0 names found in
     let is = there.1 in
     let same : place ≡ there.0 = omega (arith, is) in
     rw same there.2
@@ -80,7 +79,6 @@ lookup_more test [] key place = refl
 lookup_more test (entry ∷ entries) key place = grind (arith, lookup_more test entries key place)
 
 -- the name at a place of a plan
-pub planned_name : (plan : List Planned) (place : ℕ) (planned : Planned) → place < length plan
-    → planned ≡ get_or plan place planned
-    → slice_get (map (λ (p : Planned). p.name) plan) place ≡ Some planned.name
-planned_name plan place planned within at = grind (arith, gets, slice_get-map)
+pub planned_name : (plan : List Planned) {place : ℕ} {planned : Planned} → place < length plan
+    → planned ≡ get_or plan place planned → slice_get (map (λ (p : Planned). p.name) plan) place ≡ Some planned.name
+planned_name plan within at = grind (arith, gets, slice_get-map)

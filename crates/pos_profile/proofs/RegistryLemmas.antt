@@ -30,8 +30,7 @@ planned_more entries place entry within at =
 
 -- the device at the place of a slot
 pub device_at : {P : Type 0} (peripherals : Ghosts P) (slots : List (Slot P)) (place : ℕ) (slot : Slot P)
-    → place < length slots
-    → slot ≡ get_or slots place slot
+    → place < length slots → slot ≡ get_or slots place slot
     → slice_get (devices_of peripherals slots) place ≡ Some (device_of peripherals slot)
 device_at peripherals slots place slot within at = grind (arith, gets, slice_get-map)
 
@@ -43,9 +42,9 @@ pub names_count : (list : List Device) → length (names_of list) ≡ length lis
 names_count list = length-map list (λ (d : Device). d.name)
 
 -- the named device has its peripheral
-pub in_use : (list : List Device) (name : List ℕ) (device : Device) → IsNamed list name device
+pub in_use : {list : List Device} {name : List ℕ} {device : Device} → IsNamed list name device
     → is_some device.peripheral ≡ true → IsInUse list name
-in_use list name device named is = grind (arith, named)
+in_use named is = grind (arith, named)
 
 -- another peripheral, or none, is put into a slot
 pub devices_set : {P : Type 0} (peripherals : Ghosts P) (slots : List (Slot P)) (place : ℕ) (slot : Slot P)
@@ -61,16 +60,16 @@ pub standing_within : (list : List Device) (place : ℕ) → is_some (standing_a
 standing_within list place stands = grind (arith, slice_get_past)
 
 -- what is put at the place of a name is put into a slot of that name
-pub put_named : {P : Type 0} (peripherals : Ghosts P) (slots new : List (Slot P)) (name : List ℕ) (place : ℕ)
+pub put_named : {P : Type 0} (peripherals : Ghosts P) {slots : List (Slot P)} (new : List (Slot P)) {name : List ℕ} {place : ℕ}
     (peripheral : P)
     → place_of (names_of (devices_of peripherals slots)) name ≡ Some place → (put : IsPut slots place peripheral new)
     → put.slot.name ≡ name
-put_named peripherals slots new name place peripheral found put =
+put_named peripherals {slots = slots} new {name = name} {place = place} peripheral found put =
     let named = slice_get-map (λ (d : Device). d.name) (devices_of peripherals slots) place
     ∙ ap (option_map (λ (d : Device). d.name))
     (slice_get-map (λ s. device_of peripherals s) slots place ∙ ap (option_map (λ s. device_of peripherals s)) put.at)
     in
-    same_Some put.slot.name name (sym named ∙ name_there (names_of (devices_of peripherals slots)) name place found)
+    same_Some put.slot.name name (sym named ∙ name_there (names_of (devices_of peripherals slots)) place found)
 
 -- the names stay
 names_with : (list : List Device) (place : ℕ) (x : Option PeripheralState)
@@ -80,43 +79,43 @@ names_with (device ∷ list) zero x = refl
 names_with (device ∷ list) (suc place) x = rw (names_with list place x)
 
 -- what holds of each device holds where the changed one has it
-all_with : (Q : Device → Type 0) (list : List Device) (place : ℕ) (x : Option PeripheralState) → AllByRecursion Q list
+all_with : (Q : Device → Type 0) (list : List Device) (place : ℕ) {x : Option PeripheralState} → AllByRecursion Q list
     → ((device : Device) → slice_get list place ≡ Some device → Q device → Q (record device { peripheral = x }))
     → AllByRecursion Q (with_peripheral list place x)
-all_with Q [] place x all here = tt
-all_with Q (device ∷ list) zero x all here = (here device refl all.0, all.1)
-all_with Q (device ∷ list) (suc place) x all here = (all.0, all_with Q list place x all.1 here)
+all_with Q [] place all here = tt
+all_with Q (device ∷ list) zero all here = (here device refl all.0, all.1)
+all_with Q (device ∷ list) (suc place) all here = (all.0, all_with Q list place all.1 here)
 
 -- a registry stays sound, where the peripheral of a place is changed for a right one
-pub sound_with : {P : Type 0} (peripherals : Ghosts P) (old new : Registry P) (place : ℕ) (x : Option PeripheralState)
+pub sound_with : {P : Type 0} {peripherals : Ghosts P} {old new : Registry P} (place : ℕ) (x : Option PeripheralState)
     → IsRegistrySound peripherals old → new.places ≡ old.places
     → devices peripherals new ≡ with_peripheral (devices peripherals old) place x
     → ((device : Device) → slice_get (devices peripherals old) place ≡ Some device
     → IsServed (record device { peripheral = x }))
     → IsRegistrySound peripherals new
-sound_with peripherals old new place x sound places is here = record {
+sound_with {peripherals = peripherals} {old = old} place x sound places is here = record {
   index = λ name. rw (places, is, names_with (devices peripherals old) place x) (sound.index name);
-  kinds = rw is (all_with HasKindInRange (devices peripherals old) place x sound.kinds (λ device at kind. kind));
-  served = rw is (all_with IsServed (devices peripherals old) place x sound.served (λ device at was. here device at));
+  kinds = rw is (all_with HasKindInRange (devices peripherals old) place sound.kinds (λ device at kind. kind));
+  served = rw is (all_with IsServed (devices peripherals old) place sound.served (λ device at was. here device at));
 }
 
 -- what may serve a place is of the kind of its device
-pub same_kind : (list : List Device) (place : ℕ) (state : PeripheralState) (device : Device) → MayServe list place state
+pub same_kind : {list : List Device} {place : ℕ} {state : PeripheralState} {device : Device} → MayServe list place state
     → slice_get list place ≡ Some device → state.kind ≡ device.kind
-same_kind list place state device may at = grind arith
+same_kind may at = grind arith
 
 -- what serves a device is of its kind
-kind_here : (device : Device) (state : PeripheralState) → IsServed device → device.peripheral ≡ Some state
+kind_here : (device : Device) {state : PeripheralState} → IsServed device → device.peripheral ≡ Some state
     → state.kind ≡ device.kind
-kind_here device state served is = grind arith
+kind_here device served is = grind arith
 
-pub served_kind : (list : List Device) (place : ℕ) (device : Device) (state : PeripheralState)
+pub served_kind : (list : List Device) (place : ℕ) {device : Device} {state : PeripheralState}
     → AllByRecursion IsServed list
     → slice_get list place ≡ Some device → standing_at list place ≡ Some state → state.kind ≡ device.kind
-served_kind [] place device state served at stands = cc
-served_kind (first ∷ list) zero device state served at stands = grind (arith, kind_here)
-served_kind (first ∷ list) (suc place) device state served at stands =
-    served_kind list place device state served.1 at stands
+served_kind [] place served at stands = cc
+served_kind (first ∷ list) zero served at stands = grind (arith, kind_here)
+served_kind (first ∷ list) (suc place) served at stands =
+    served_kind list place served.1 at stands
 
 -- what is planned is sound, vacant
 served_vacant : (plan : List Planned) → AllByRecursion IsServed (map vacant plan)
@@ -137,34 +136,32 @@ kinds_planned [] sound = tt
 kinds_planned (entry ∷ entries) sound =
     kinds_more entry.name (kind_of entry) (planned_of entries) sound.0.kind (kinds_planned entries sound.1)
 
-pub sound_planned : {P : Type 0} (peripherals : Ghosts P) (registry : Registry P) (entries : List Entry)
-    (plan : List Planned)
+pub sound_planned : {P : Type 0} {peripherals : Ghosts P} {registry : Registry P} (entries : List Entry)
+    {plan : List Planned}
     → All (IsSoundEntry role.Device) entries → plan ≡ planned_of entries
     → devices peripherals registry ≡ map vacant plan
     → IsIndexOf registry.places (map (λ (p : Planned). p.name) plan) → IsRegistrySound peripherals registry
-sound_planned peripherals registry entries plan sound planned is index = record {
+sound_planned entries {plan = plan} sound planned is index = record {
   index = λ name. rw (is, map-map) (index name);
   kinds = rw (is, planned) (kinds_planned entries (recursion_from_All (IsSoundEntry role.Device) entries sound));
   served = rw is (served_vacant plan);
 }
 
 -- one more device is out of service
-pub parked_more : {P : Type 0} (peripherals : Ghosts P) (slots : List (Slot P)) (olds : List Device) (place : ℕ)
-    (old new : Slot P)
+pub parked_more : {P : Type 0} (peripherals : Ghosts P) (slots : List (Slot P)) (olds : List Device) {place : ℕ}
+    {old : Slot P} (new : Slot P)
     → place < length olds → length slots ≡ length olds
-    → devices_of peripherals slots ≡ map parked (take place olds) ++ drop place olds
-    → old ≡ get_or slots place old
+    → devices_of peripherals slots ≡ map parked (take place olds) ++ drop place olds → old ≡ get_or slots place old
     → device_of peripherals new ≡ parked (device_of peripherals old)
     → devices_of peripherals (set slots place new) ≡ map parked (take (place + 1) olds) ++ drop (place + 1) olds
-parked_more peripherals slots olds place old new within same front at parks =
-    rw (map-set (λ s. device_of peripherals s) slots place new, parks)
-    (map_over_more parked olds (devices_of peripherals slots) place (device_of peripherals old) within front
-    (grind (arith, get_or-map)))
+parked_more peripherals slots olds {place = place} {old = old} new within same front at parks =
+    rw (map-set (λ s. device_of peripherals s) slots place new, parks) (map_over_more parked olds
+    (devices_of peripherals slots) place (device_of peripherals old) within front (grind (arith, get_or-map)))
 
 -- once the place is behind the last, all are out of service
-pub parked_whole : (list olds : List Device) (place : ℕ) → length olds ≤ place
+pub parked_whole : {list : List Device} (olds : List Device) {place : ℕ} → length olds ≤ place
     → list ≡ map parked (take place olds) ++ drop place olds → list ≡ map parked olds
-parked_whole list olds place past front = grind (arith, common_steps)
+parked_whole olds past front = grind (arith, common_steps)
 
 -- what was taken out of service is out of service
 out_of_service : (o : Option PeripheralState) → IfSome (option_map parked_state o) (λ state. state.is_parked ≡ true)

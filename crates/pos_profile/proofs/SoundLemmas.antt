@@ -15,8 +15,7 @@ use Rattle.std.proofs.lemmas.List.Elements.{All-cons, All-nil}
 
 -- what holds of a value makes what is read of it hold
 then_read : {A B : Type 0} (P : B → Type 0) (Q : A → Type 0) (f : A → Option B) (o : Option A) → IfSome o Q
-    → ((x : A) → Q x → IfSome (f x) P)
-    → IfSome (option_and_then f o) P
+    → ((x : A) → Q x → IfSome (f x) P) → IfSome (option_and_then f o) P
 then_read P Q f None read then = tt
 then_read P Q f (Some x) read then = then x read
 
@@ -32,10 +31,9 @@ number_sound category table key = grind (arith, nat_tests, within)
 
 -- each number of an entry is sound for its category, and so is what its peripheral has to be
 abbrev AreSound : Category → Numbers → Type 0
-AreSound category numbers = (name : List ℕ) (variation : Variation) →
-    ((key : NumberKey) → IsInItsRange key (has_number category key)
-    (number_in (entry_with category name numbers variation) key))
-    × IfSome (kind_of (entry_with category name numbers variation)) IsInRange
+AreSound category numbers = (name : List ℕ) (variation : Variation) → ((key : NumberKey) → IsInItsRange key
+    (has_number category key) (number_in (entry_with category name numbers variation) key)) × IfSome
+    (kind_of (entry_with category name numbers variation)) IsInRange
 
 numbers_sound : (category : Category) (table : Members) → IfSome (numbers_of category table) (AreSound category)
 numbers_sound category table = grind (arith, number_sound)
@@ -62,9 +60,8 @@ flaky_sound category table = grind (arith, flaky_within)
 -- a device differs from a plain one by keys of its category alone, and its failing orders are in their range
 abbrev IsVaried : Category → Variation → Type 0
 IsVaried category variation =
-    ((name : List ℕ) (numbers : Numbers) (key : OptionalKey)
-    → differs_by (entry_with category name numbers variation) key ≡ true → has_option category key ≡ true)
-    × IfSome variation.flaky AreOrders
+    ((name : List ℕ) (numbers : Numbers) (key : OptionalKey) → differs_by (entry_with category name numbers variation)
+    key ≡ true → has_option category key ≡ true) × IfSome variation.flaky AreOrders
 
 variation_sound : (category : Category) (table : Members) → IfSome (variation_of category table) (IsVaried category)
 variation_sound category table = grind (arith, truth_sound, flaky_sound)
@@ -78,36 +75,33 @@ name_sound : (role : Role) (table : Members) → IfSome (name_for role table) (I
 name_sound role table = grind arith
 
 -- an entry of sound parts, where it is kept
-parts_sound : (role : Role) (category : Category) (name : List ℕ) (numbers : Numbers) (variation : Variation)
+parts_sound : (role : Role) {category : Category} (name : List ℕ) (numbers : Numbers) (variation : Variation)
     (only : Bool)
     → allowed role category ≡ Some category → IsNamedFor role name → AreSound category numbers
     → IsVaried category variation
     → IfSome (cond only (Some (entry_with category name numbers variation)) None) (IsSoundEntry role)
-parts_sound role category name numbers variation true fits named sound varied =
+parts_sound role name numbers variation true fits named sound varied =
     assumption (sound name variation, varied.0 name numbers)
-parts_sound role category name numbers variation false fits named sound varied = tt
+parts_sound role name numbers variation false fits named sound varied = tt
 
 table_sound : (role : Role) (found : Option Members)
     → IfSome (option_and_then (table_entry role) found) (IsSoundEntry role)
 table_sound role None = tt
 table_sound role (Some table) =
     let P = IsSoundEntry role in
-    then_read P _ _ (category_for role table) (category_sound role table) (λ category fits.
-    then_read P _ _ (name_for role table) (name_sound role table) (λ name named.
-    then_read P _ _ (numbers_of category table) (numbers_sound category table) (λ numbers sound.
-    then_read P _ _ (variation_of category table) (variation_sound category table) (λ variation varied.
-    parts_sound role category name numbers variation
+    then_read P _ _ (category_for role table) (category_sound role table) (λ category fits. then_read P _ _
+    (name_for role table) (name_sound role table) (λ name named. then_read P _ _ (numbers_of category table)
+    (numbers_sound category table) (λ numbers sound. then_read P _ _ (variation_of category table)
+    (variation_sound category table) (λ variation varied. parts_sound role name numbers variation
     (has_only (is_key (OfEntry role category)) table) fits named sound varied))))
 
 -- an entry that is read is sound
 pub entry_sound : (role : Role) (value : Data) → IfSome (entry_of role value) (IsSoundEntry role)
 entry_sound role value = table_sound role (as_table value)
 
-pub list_sound : (role : Role) (values : List Data) (entries : List Entry)
-    → map (entry_of role) values ≡ map (λ entry. Some entry) entries
-    → All (IsSoundEntry role) entries
-list_sound role values [] is = All-nil (IsSoundEntry role)
-list_sound role [] (entry ∷ entries) is = absurd cc
-list_sound role (value ∷ values) (entry ∷ entries) is =
-    All-cons (IsSoundEntry role) entry entries (grind (arith, entry_sound role value))
-    (list_sound role values entries cc)
+pub list_sound : {role : Role} (values : List Data) (entries : List Entry)
+    → map (entry_of role) values ≡ map (λ entry. Some entry) entries → All (IsSoundEntry role) entries
+list_sound {role = role} values [] is = All-nil (IsSoundEntry role)
+list_sound [] (entry ∷ entries) is = absurd cc
+list_sound {role = role} (value ∷ values) (entry ∷ entries) is =
+    All-cons (IsSoundEntry role) entry entries (grind (arith, entry_sound role value)) (list_sound values entries cc)

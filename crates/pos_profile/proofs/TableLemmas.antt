@@ -25,8 +25,7 @@ found_after order found first is = grind arith
 
 -- all pass a weaker test
 all_weaken : {A : Type 0} (test weaker : A → Bool) (xs : List A) → ((x : A) → test x ≡ true → weaker x ≡ true)
-    → list_all test xs ≡ true
-    → list_all weaker xs ≡ true
+    → list_all test xs ≡ true → list_all weaker xs ≡ true
 all_weaken test weaker [] weakens all = refl
 all_weaken test weaker (x ∷ xs) weakens all = grind (arith, weakens x, all_weaken test weaker xs weakens)
 
@@ -37,9 +36,7 @@ keys_there [] = refl
 keys_there (entry ∷ entries) =
     let first = string_bytes entry.0 in
     let same : slice_cmp nat_cmp first first ≡ Equal = tied_itself nat_list_cmp_total first in
-    rw same
-    (all_weaken (λ key. is_some (get_member (string_bytes key) (members_view entries)))
+    rw same (all_weaken (λ key. is_some (get_member (string_bytes key) (members_view entries)))
     (λ key. is_some (get_member (string_bytes key) (members_view (entry ∷ entries)))) (keys_of entries)
-    (λ key is. found_after (slice_cmp nat_cmp (string_bytes key) first)
-    (get_member (string_bytes key) (members_view entries)) (view entry.1) is)
-    (keys_there entries))
+    (λ key is. found_after (slice_cmp nat_cmp (string_bytes key) first) (get_member (string_bytes key)
+    (members_view entries)) (view entry.1) is) (keys_there entries))

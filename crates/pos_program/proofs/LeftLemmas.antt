@@ -33,9 +33,8 @@ nothing_put old at = grind (arith, common_steps, take-append-drop at old)
 loose_there : (loose : List Bool) (at : ℕ) (marks rest : List Bool)
     → get_or ((take at loose ++ true ∷ marks) ++ rest) (length (take at loose)) false ≡ true
 loose_there loose at marks rest =
-    ap (λ (all : List Bool). get_or all (length (take at loose)) false)
-    (append_assoc (take at loose) (true ∷ marks) rest)
-    ∙ get_or-append_seam (take at loose) true (marks ++ rest) false
+    ap (λ (all : List Bool). get_or all (length (take at loose)) false) (append_assoc (take at loose) (true ∷ marks)
+    rest) ∙ get_or-append_seam (take at loose) true (marks ++ rest) false
 
 -- a disk that is at rest after a write was asked to write nothing
 module _ (memory : Memory) (at : ℕ) where
@@ -46,17 +45,16 @@ module _ (memory : Memory) (at : ℕ) where
       (loose_there memory.present.loose at (replicate (length bytes) true)
       (drop (at + length (replicate (length (byte ∷ bytes)) true)) memory.present.loose)))
 
-  as_before : (bytes : List ℕ) → bytes ≡ [] → (written at bytes memory).present ≡ memory.present
-  as_before bytes nothing = rw (nothing, nothing_put memory.present.reading at, nothing_put memory.present.loose at)
-      refl
+  as_before : {bytes : List ℕ} → bytes ≡ [] → (written at bytes memory).present ≡ memory.present
+  as_before nothing = rw (nothing, nothing_put memory.present.reading at, nothing_put memory.present.loose at) refl
 
 -- So what the calls of a file made is at rest if the mirror is, and has the same bytes.
-pub same_at_rest : (asked memory : Memory) → Continues asked memory → IsAtRest (state_of memory)
+pub same_at_rest : {asked memory : Memory} → Continues asked memory → IsAtRest (state_of memory)
     → asked.present ≡ memory.present
-same_at_rest asked _ no_more rest = refl
-same_at_rest asked _ (and_write memory at bytes so_far) rest =
-    let same = as_before memory at bytes (wrote_nothing memory at bytes rest) in
-    same_at_rest asked memory so_far
+same_at_rest no_more rest = refl
+same_at_rest (and_write memory at bytes so_far) rest =
+    let same = as_before memory at (wrote_nothing memory at bytes rest) in
+    same_at_rest so_far
     (λ i loose. rest i (subst (λ (now : Moment). get_or now.loose i false ≡ true) (sym same) loose)) ∙ sym same
 
 -- no place of a new mirror is loose
@@ -67,8 +65,7 @@ module _ {F : Type 0} {calls : F → List Call} (totals after : Mirror (FileDisk
     (mirrored : IsMirrored calls after) where
   rests : IsAtRest (mirror_state totals)
   rests i loose =
-      none_loose (length totals.memory.present.reading) i
-      (subst (λ (all : List Bool). get_or all i false ≡ true)
+      none_loose (length totals.memory.present.reading) i (subst (λ (all : List Bool). get_or all i false ≡ true)
       (ap (λ (m : Mirror (FileDisk F)). m.memory.present.loose) new) loose)
 
   -- a new mirror begins time
@@ -82,23 +79,20 @@ module _ {F : Type 0} {calls : F → List Call} (totals after : Mirror (FileDisk
 
   -- what a crash leaves of the disk that the calls make, it leaves of the mirror, if that is at rest
   may_after : (is : IsMirrored calls after) → IsAtRest (mirror_state after) → (bytes : List ℕ)
-      → MayLeave (state_of is.asked) bytes
-      → MayLeave (mirror_state after) bytes
+      → MayLeave (state_of is.asked) bytes → MayLeave (mirror_state after) bytes
   may_after is rest bytes may =
       may_under (state_of after.memory) after.failures bytes (from_moment after.memory bytes
-      (subst (λ (now : Moment). LeftAt now bytes) (same_at_rest is.asked after.memory is.continues rest)
-      (to_moment is.asked bytes may)))
+      (subst (λ (now : Moment). LeftAt now bytes) (same_at_rest is.continues rest) (to_moment is.asked bytes may)))
 
   rest_after : (is : IsMirrored calls after) → IsAtRest (mirror_state after) → IsAtRest (state_of is.asked)
   rest_after is rest i loose =
-      rest i (subst (λ (now : Moment). get_or now.loose i false ≡ true)
-      (same_at_rest is.asked after.memory is.continues rest) loose)
+      rest i (subst (λ (now : Moment). get_or now.loose i false ≡ true) (same_at_rest is.continues rest) loose)
 
   formatted_asked : IsFormatted (mirror_state totals) (mirror_state after) → (is : IsMirrored calls after)
       → IsFormatted (mirror_state totals) (state_of is.asked)
   formatted_asked formatted is =
       let same : is.asked.present.reading ≡ after.memory.present.reading =
-      ap (λ (now : Moment). now.reading) (same_at_rest is.asked after.memory is.continues formatted.at_rest) in
+      ap (λ (now : Moment). now.reading) (same_at_rest is.continues formatted.at_rest) in
       record {
         unmarked = formatted.unmarked;
         at_rest = rest_after is formatted.at_rest;
@@ -145,8 +139,7 @@ module _ {F : Type 0} {calls : F → List Call} (totals after : Mirror (FileDisk
 
   -- totals were moved, or not
   pub leaves_moved : (outcome : Result (Unit {0}) StoreFault)
-      → MovesAny (mirror_state totals) (mirror_state after) outcome
-      → LeavesMoved calls totals after outcome
+      → MovesAny (mirror_state totals) (mirror_state after) outcome → LeavesMoved calls totals after outcome
   leaves_moved outcome moves = record {
     file = mirrored;
     moves = moves;

@@ -23,8 +23,7 @@ new_store disk = record { disk = disk; layout = Layout1; state = Off; tail = 0 }
 
 -- one of the candidates is among them
 among : (candidates : List Standing) (standing : Standing) (bytes : List ℕ) → IsOneOf candidates standing
-    → StandsFor standing bytes
-    → StandsForOneOf candidates bytes
+    → StandsFor standing bytes → StandsForOneOf candidates bytes
 among [] standing bytes is stands = absurd is
 among (candidate ∷ candidates) standing bytes is stands =
     ⊎_elim (λ this. inl (rw this at stands)) (λ rest. inr (among candidates standing bytes rest stands)) is
@@ -36,11 +35,15 @@ one_moved [] standing is = absurd is
 one_moved (candidate ∷ candidates) standing is =
     ⊎_elim (λ this. inl (ap moved this)) (λ rest. inr (one_moved candidates standing rest)) is
 
-module _ {D : Type 0} (bound : Ghosts D) (disk : D) where
+module _ {D : Type 0} {bound : Ghosts D} {disk : D} where
   module _ (mid : D) (layout : Layout) (files : List File) (sequence tail : ℕ)
-      (recovers : Recovers bound (new_store disk) (Ok tt)
-      (record { disk = mid; layout = layout; state = Ready files sequence; tail = tail }))
-      (honest : bound.honest disk) (candidates : List Standing)
+      (recovers : Recovers bound (new_store disk) (Ok tt) (record {
+        disk = mid;
+        layout = layout;
+        state = Ready files
+            sequence;
+        tail = tail;
+      })) (honest : bound.honest disk) (candidates : List Standing)
       (leaves : LeavesOneOf candidates (bound.state disk)) where
     one : RecoversOneOf candidates (bound.state disk) (bound.state mid) (Ok tt) layout (Ready files sequence)
     one = recovers.one_of honest candidates leaves
@@ -116,8 +119,7 @@ module _ {D : Type 0} (bound : Ghosts D) (disk : D) where
         → MovesOneOf candidates (bound.state disk) (bound.state new.disk) (Err fault.Device)
     fails new off passes rises =
         ends new.disk (Err fault.Device) (Stands layout files sequence ∷ Stands Layout2 files 1 ∷ []) (λ bytes is. is)
-        (rw off at passes)
-        (subst (λ n. Rises n (bound.state new.disk).failures)
+        (rw off at passes) (subst (λ n. Rises n (bound.state new.disk).failures)
         (⊎_elim (λ no. absurd cc) (λ same. same) (recovers.counts honest)) rises)
 
     -- what a migration of what was found answers, by its layout
@@ -141,33 +143,30 @@ module _ {D : Type 0} (bound : Ghosts D) (disk : D) where
         ))
 
   -- a disk of which files were found, or not, and what became of them
-  pub migrated_moves : (mid : D) (layout : Layout) (state : StoreState) (tail : ℕ)
+  pub migrated_moves : {mid : D} {layout : Layout} (state : StoreState) {tail : ℕ}
       → Recovers bound (new_store disk) (Ok tt) (record { disk = mid; layout = layout; state = state; tail = tail })
-      → (result : Result (Unit {0}) StoreFault) (new : StoreView D)
+      → {result : Result (Unit {0}) StoreFault} (new : StoreView D)
       → Migrates bound (record { disk = mid; layout = layout; state = state; tail = tail }) result new
       → (bound.honest new.disk → WhenReady new.state (IsAtRest (bound.state new.disk))) → bound.honest disk
       → MovesAny (bound.state disk) (bound.state new.disk) result
-  migrated_moves mid layout Off tail recovers result new migrates at_rest honest candidates leaves =
+  migrated_moves Off recovers new migrates at_rest honest candidates leaves =
       absurd (recovers.one_of honest candidates leaves).found
-  migrated_moves mid layout (Ready files sequence) tail recovers result new migrates at_rest honest candidates leaves =
+  migrated_moves {mid = mid} {layout = layout} (Ready files sequence) {tail = tail} recovers {result = result} new migrates at_rest honest candidates leaves =
       let there = recovers.keeps.honest.0 honest in
       found_moves mid layout files sequence tail recovers honest candidates leaves layout refl result new
-      migrates.answer (migrates.crash there)
-      (at_rest (migrates.keeps.honest.0 there)) (migrates.device there)
+      migrates.answer (migrates.crash there) (at_rest (migrates.keeps.honest.0 there)) (migrates.device there)
 
-  pub moved_rest : (mid new : StoreView D) (found result : Result (Unit {0}) StoreFault)
-      → Recovers bound (new_store disk) found mid
-      → Migrates bound mid result new → bound.honest disk
+  pub moved_rest : {mid new : StoreView D} {found result : Result (Unit {0}) StoreFault}
+      → Recovers bound (new_store disk) found mid → Migrates bound mid result new → bound.honest disk
       → KeepsFirstLayout (bound.state disk).reading (bound.state new.disk).reading
-  moved_rest mid new found result recovers migrates honest =
+  moved_rest recovers migrates honest =
       rw (recovers.reading honest) at (migrates.rest (recovers.keeps.honest.0 honest))
 
   -- the disk failed in neither call, where neither answers its fault
-  pub moved_counts : (mid new : StoreView D) (result : Result (Unit {0}) StoreFault)
-      → Recovers bound (new_store disk) (Ok tt) mid
-      → Migrates bound mid result new → bound.honest disk
+  pub moved_counts : {mid new : StoreView D} {result : Result (Unit {0}) StoreFault}
+      → Recovers bound (new_store disk) (Ok tt) mid → Migrates bound mid result new → bound.honest disk
       → IsErrOf result fault.Device ⊎ HasNotFailed (bound.state disk) (bound.state new.disk)
-  moved_counts mid new result recovers migrates honest =
+  moved_counts {mid = mid} recovers migrates honest =
       let first : HasNotFailed (bound.state disk) (bound.state mid.disk) =
       ⊎_elim (λ is. absurd cc) (λ same. same) (recovers.counts honest) in
       ⊎_elim (λ is. inl is) (λ same. inr (same ∙ first)) (migrates.counts (recovers.keeps.honest.0 honest))

@@ -37,17 +37,16 @@ is_done : (done : Bool) → Ok tt ≡ fault_unless done → done ≡ true
 is_done true is = refl
 is_done false is = cc
 
-pub all_moved : (size : ℕ) (moved : Option ℕ) → Ok tt ≡ answer_of size moved → moved ≡ Some size
-all_moved size None is = absurd (true≢false (sym (is_done false is)))
-all_moved size (Some n) is =
+pub all_moved : {size : ℕ} (moved : Option ℕ) → Ok tt ≡ answer_of size moved → moved ≡ Some size
+all_moved None is = absurd (true≢false (sym (is_done false is)))
+all_moved {size = size} (Some n) is =
     let same : (n == size) ≡ true = is_done (n == size) is in
     ap Some (grind (arith, nat_tests))
 
 -- one call more stands behind that read
-read_before : (before : List Call) (bytes : List ℕ) (old new : List Call) (call : Call) → HasRead before bytes old
-    → new ≡ old ++ call ∷ []
-    → HasRead before bytes new
-read_before before bytes old new call (more, is) asks = (
+read_before : (before : List Call) (bytes : List ℕ) {old new : List Call} (call : Call) → HasRead before bytes old
+    → new ≡ old ++ call ∷ [] → HasRead before bytes new
+read_before before bytes call (more, is) asks = (
   more ++ call ∷ [],
   asks ∙ ap (λ (all : List Call). all ++ call ∷ []) is
       ∙ append_assoc before (read_call 0 bytes (Some (length bytes)) ∷ more) (call ∷ []),
@@ -65,14 +64,11 @@ record FileMakes {F : Type 0} (calls : F → List Call) (before : List Call) (be
   sound : lost ≡ false → below.has_failed ≡ false
 
 module _ {F : Type 0} (calls : F → List Call) (bound : Ghosts (FileDisk F))
-    (reads : (old new : FileDisk F) (at : ℕ) (was out : List ℕ) (answer : Answer)
-    → bound.own_read old new at was out answer
-    → FileReads calls old new at was out answer)
-    (writes : (old new : FileDisk F) (at : ℕ) (bytes : List ℕ) (answer : Answer)
-    → bound.own_write old new at bytes answer
-    → FileWrites calls old new at bytes answer)
-    (syncs : (old new : FileDisk F) (answer : Answer) → bound.own_sync old new answer → FileSyncs calls old new answer)
-    (first : FileDisk F) where
+    (reads : (old new : FileDisk F) (at : ℕ) (was out : List ℕ) (answer : Answer) → bound.own_read old new at was out
+    answer → FileReads calls old new at was out answer) (writes : (old new : FileDisk F) (at : ℕ) (bytes : List ℕ)
+    (answer : Answer) → bound.own_write old new at bytes answer → FileWrites calls old new at bytes
+    answer) (syncs : (old new : FileDisk F) (answer : Answer) → bound.own_sync old new answer → FileSyncs calls old new
+    answer) (first : FileDisk F) where
   abbrev before : List Call
   before = calls first.file
 
@@ -96,20 +92,20 @@ module _ {F : Type 0} (calls : F → List Call) (bound : Ghosts (FileDisk F))
       → HasRead before b (calls old.file) → bound.own_read old new at was out answer → HasRead before b (calls new.file)
   read_after b old new at was out answer sound read own =
       let (moved, asks, same, is) = unfailed _ _ old.has_failed sound (reads old new at was out answer own) in
-      read_before before b (calls old.file) (calls new.file) (read_call at out moved) read asks
+      read_before before b (read_call at out moved) read asks
 
   written_after : (b : List ℕ) (old new : FileDisk F) (at : ℕ) (bytes : List ℕ) (answer : Answer)
       → old.has_failed ≡ false
       → HasRead before b (calls old.file) → bound.own_write old new at bytes answer → HasRead before b (calls new.file)
   written_after b old new at bytes answer sound read own =
       let (moved, asks, same, is) = unfailed _ _ old.has_failed sound (writes old new at bytes answer own) in
-      read_before before b (calls old.file) (calls new.file) (write_call at bytes moved) read asks
+      read_before before b (write_call at bytes moved) read asks
 
   synced_after : (b : List ℕ) (old new : FileDisk F) (answer : Answer) → old.has_failed ≡ false
       → HasRead before b (calls old.file) → bound.own_sync old new answer → HasRead before b (calls new.file)
   synced_after b old new answer sound read own =
       let (done, asks, same, is) = unfailed _ _ old.has_failed sound (syncs old new answer own) in
-      read_before before b (calls old.file) (calls new.file) (sync_call done) read asks
+      read_before before b (sync_call done) read asks
 
   -- a call that moves bytes leaves a disk as sound as it was
   still : (old new : FileDisk F) → old.has_failed ≡ false → new ≡ record old { file = new.file }
@@ -142,9 +138,8 @@ module _ {F : Type 0} (calls : F → List Call) (bound : Ghosts (FileDisk F))
       let start : Follows calls before (fresh bytes) first.file (fresh bytes) =
       record { since = []; asked = sym (append-nil before); course = refl } in
       let (moved, asked, same, is) = unfailed _ _ first.has_failed sound asks in
-      let all = all_moved (length bytes) moved is in
-      here bytes below (fresh bytes) false
-      ([], asked ∙ ap (λ (n : Option ℕ). before ++ read_call 0 bytes n ∷ []) all)
+      let all = all_moved moved is in
+      here bytes below (fresh bytes) false ([], asked ∙ ap (λ (n : Option ℕ). before ++ read_call 0 bytes n ∷ []) all)
       (read_follows calls before (fresh bytes) (fresh bytes) first below start sound (Ok tt) 0 was bytes asks
       (λ done. sym (take-length bytes)))
       (λ present. still first below sound (unfailed _ _ first.has_failed sound asks).2)
@@ -159,11 +154,10 @@ module _ {F : Type 0} (calls : F → List Call) (bound : Ghosts (FileDisk F))
       let next = after_write old mid memory at bytes put (Err record {}) past own long
       (λ done. absurd (true≢false done)) in
       let asks = reads mid new at was put (Ok tt) read in
-      here past.bytes new (written at put memory) false
-      (read_after past.bytes mid new at was put (Ok tt) next.1
+      here past.bytes new (written at put memory) false (read_after past.bytes mid new at was put (Ok tt) next.1
       (written_after past.bytes old mid at bytes (Err record {}) (past.sound refl) past.read own) read)
-      (read_follows calls before (fresh past.bytes) (written at put memory) mid new next.0 next.1
-      (Ok tt) at was put asks
+      (read_follows calls before (fresh past.bytes) (written at put memory) mid new next.0 next.1 (Ok tt) at was put
+      asks
       (λ done. sym (part-splice memory.present.reading put at (rw long fits))))
       (λ present. still mid new next.1 (unfailed _ _ mid.has_failed next.1 asks).2)
   file_makes _ _ _ (unread old mid new memory at bytes was put fits long so_far own read) =
@@ -171,11 +165,10 @@ module _ {F : Type 0} (calls : F → List Call) (bound : Ghosts (FileDisk F))
       let next = after_write old mid memory at bytes put (Err record {}) past own long
       (λ done. absurd (true≢false done)) in
       let asks = reads mid new at was put (Err record {}) read in
-      here past.bytes new (written at put memory) true
-      (read_after past.bytes mid new at was put (Err record {}) next.1
+      here past.bytes new (written at put memory) true (read_after past.bytes mid new at was put (Err record {}) next.1
       (written_after past.bytes old mid at bytes (Err record {}) (past.sound refl) past.read own) read)
-      (read_follows calls before (fresh past.bytes) (written at put memory) mid new next.0 next.1
-      (Err record {}) at was put asks
+      (read_follows calls before (fresh past.bytes) (written at put memory) mid new next.0 next.1 (Err record {}) at was
+      put asks
       (λ done. absurd (true≢false done)))
       (λ present. absurd (true≢false present))
   file_makes _ _ _ (settled old new memory so_far own) =

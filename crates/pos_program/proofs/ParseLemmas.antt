@@ -31,9 +31,9 @@ program_known = (refl, refl)
 
 -- ---- words without a fault have a command
 
-last : (first next : Kinds) → or_else first next ≡ [] → next ≡ []
-last [] next none = none
-last (kind ∷ kinds) next none = cc
+last : (first : Kinds) {next : Kinds} → or_else first next ≡ [] → next ≡ []
+last [] none = none
+last (kind ∷ kinds) none = cc
 
 -- nor do the checks at the end of a level find a fault
 last_check : (s : Shape) (names : Names) (h : Held) (words : List Text) (has : Bool) (below : Kinds)
@@ -41,9 +41,8 @@ last_check : (s : Shape) (names : Names) (h : Held) (words : List Text) (has : B
     → check_fault s (finished s.rules (walk s.rules names h words).held) has ≡ []
 last_check s names h words has below none =
     let end = (walk s.rules names h words).held in
-    last (defaults_fault (settled s.rules end).rows s.rules) _
-    (last (settle_fault s.rules s.args_override_self end) _
-    (last below _ (last (walk_fault s names (walk_from h) words) _ none)))
+    last (defaults_fault (settled s.rules end).rows s.rules) (last (settle_fault s.rules s.args_override_self end)
+    (last below (last (walk_fault s names (walk_from h) words) none)))
 
 -- a command line that asks for a command refuses words without one
 wanted : (s : Shape) (rows : List Row) → s.arg_required_else_help ≡ false → s.subcommand_required ≡ true
@@ -61,12 +60,12 @@ abbrev IsIn : Text → List Text → Type 0
 IsIn name [] = ⊥
 IsIn name (x ∷ xs) = (name ≡ x) ⊎ IsIn name xs
 
-found_in : (subs : List Shape) (word : Text) (words : List Text) (found : Text × List Row)
+found_in : (subs : List Shape) (word : Text) (words : List Text) {found : Text × List Row}
     → option_map (λ s. rows_at s words) (find (λ s. answers_to word (label_of s)) subs) ≡ Some found
     → IsIn found.0 (map (λ s. s.name) subs)
-found_in [] word words found is = cc
-found_in (s ∷ subs) word words found is =
-    by (answers_to word (label_of s)) refl (λ more. found_in subs word words found more)
+found_in [] word words is = cc
+found_in (s ∷ subs) word words {found = found} is =
+    by (answers_to word (label_of s)) refl (λ more. found_in subs word words more)
   where
     by : (answers : Bool) → answers_to word (label_of s) ≡ answers
         → (option_map (λ s. rows_at s words) (find (λ s. answers_to word (label_of s)) subs) ≡ Some found
@@ -75,23 +74,23 @@ found_in (s ∷ subs) word words found is =
     by true answers rest = let first : Some (rows_at s words) ≡ Some found = rw answers at is in inl (cc)
     by false answers rest = inr (rest (rw answers at is))
 
-entered_in : (a : App) (stop : Option (Text × List Text)) (found : Text × List Row) → entered a stop ≡ Some found
+entered_in : (a : App) (stop : Option (Text × List Text)) {found : Text × List Row} → entered a stop ≡ Some found
     → IsIn found.0 (map (λ s. s.name) a.subs)
-entered_in a None found is = cc
-entered_in a (Some p) found is = found_in a.subs p.0 p.1 found is
+entered_in a None is = cc
+entered_in a (Some p) is = found_in a.subs p.0 p.1 is
 
 four_names : map (λ s. s.name) (built program_line).subs ≡ codes "run" ∷ codes "format" ∷ codes "migrate"
     ∷ codes "files" ∷ []
 unfolding clap_on_literals
 four_names = refl
 
-one_of_four : (name : Text) → IsIn name (codes "run" ∷ codes "format" ∷ codes "migrate" ∷ codes "files" ∷ [])
+one_of_four : {name : Text} → IsIn name (codes "run" ∷ codes "format" ∷ codes "migrate" ∷ codes "files" ∷ [])
     → IsCommand name
-one_of_four name (inl run) = inl run
-one_of_four name (inr (inl format)) = inr (inl format)
-one_of_four name (inr (inr (inl migrate))) = inr (inr (inl migrate))
-one_of_four name (inr (inr (inr (inl files)))) = inr (inr (inr files))
-one_of_four name (inr (inr (inr (inr never)))) = absurd never
+one_of_four (inl run) = inl run
+one_of_four (inr (inl format)) = inr (inl format)
+one_of_four (inr (inr (inl migrate))) = inr (inr (inl migrate))
+one_of_four (inr (inr (inr (inl files)))) = inr (inr (inr files))
+one_of_four (inr (inr (inr (inr never)))) = absurd never
 
 end_of : List Text → List Row
 end_of words = let top = (built program_line).top in
@@ -109,9 +108,8 @@ known : (words : List Text) (found : Option (Text × List Row)) → command_in w
 known words None is none = wanted (built program_line).top (end_of words) settings.0 settings.1
     (subst (λ found. check_fault (built program_line).top (end_of words) (is_some found) ≡ []) is (ended words none))
 known words (Some found) is none =
-    one_of_four found.0 (subst (λ names. IsIn found.0 names) four_names (entered_in (built program_line)
-    (stop_after (built program_line).top.rules (names_of (built program_line)) (argument_words program_line words))
-    found is))
+    one_of_four (subst (λ names. IsIn found.0 names) four_names (entered_in (built program_line)
+    (stop_after (built program_line).top.rules (names_of (built program_line)) (argument_words program_line words)) is))
 
 pub command_known : (words : List Text) → fault_of program_line words ≡ [] → IsKnown (command_in words)
 command_known words none = known words (command_in words) refl none
@@ -130,14 +128,14 @@ chosen words (Migrate disk) none asks = (none, asks)
 chosen words (Files disk) none asks = (none, asks)
 
 -- a list that isn't empty has texts
-pub some_texts : {X : Type 0} (text : X → Text) (xs : List X) (empty : Bool) → empty ≡ eqb (length xs) 0 → empty ≡ false
+pub some_texts : {X : Type 0} (text : X → Text) (xs : List X) {empty : Bool} → empty ≡ eqb (length xs) 0 → empty ≡ false
     → map text xs ≢ []
-some_texts text [] empty is not_empty = cc
-some_texts text (x ∷ xs) empty is not_empty = λ none. cc
+some_texts text [] is not_empty = cc
+some_texts text (x ∷ xs) is not_empty = λ none. cc
 
 -- ---- what is made of a parse
 
-module _ (app : App) (words : List Text) (same : app ≡ program_line) where
+module _ {app : App} (words : List Text) (same : app ≡ program_line) where
   -- the command that was met is the one in the words
   pub met : (m : ArgMatches) → HasMatchesOf app words m → subcommand_rows_of m ≡ command_in words
   met m matches = rw same at (matches (rw same program_known.1)).1
@@ -148,8 +146,7 @@ module _ (app : App) (words : List Text) (same : app ≡ program_line) where
 
   -- an error of another kind than memory is a fault in the words
   among : (error : Error) → (is_simple_and_free app ≡ true → HasKind (fault_of app words) error)
-      → kind_of error ≢ OutOfMemory
-      → IsAmong (kind_of error) (fault_of program_line words)
+      → kind_of error ≢ OutOfMemory → IsAmong (kind_of error) (fault_of program_line words)
   among error kinds other = by (rw same at (kinds (rw same program_known.0)))
     where
       by : HasKind (fault_of program_line words) error → IsAmong (kind_of error) (fault_of program_line words)
@@ -167,24 +164,23 @@ module _ (app : App) (words : List Text) (same : app ≡ program_line) where
 -- ---- the program's command line, as it is built
 
 -- its head
-pub bare : (name : Text) (new unnamed plain started : Command) → app_of new ≡ new_app name
+pub bare : {name : Text} (new unnamed plain started : Command) → app_of new ≡ new_app name
     → fields_of unnamed ≡ record (fields_of new) { no_binary_name = true }
     → fields_of plain ≡ record (fields_of unnamed) { disable_help_subcommand = true }
     → fields_of started ≡ record (fields_of plain) { subcommand_required = true }
-    → app_of started
-    ≡ on_top (λ s. record s { no_binary_name = true; disable_help_subcommand = true; subcommand_required = true })
-    (new_app name)
-bare name new unnamed plain started is first second third =
-    ap app_of_fields third
-    ∙ ap (on_top (λ s. record s { subcommand_required = true }))
-    (ap app_of_fields second
-    ∙ ap (on_top (λ s. record s { disable_help_subcommand = true }))
+    → app_of started ≡ on_top (λ s. record s {
+      no_binary_name = true;
+      disable_help_subcommand = true;
+      subcommand_required = true;
+    }) (new_app name)
+bare new unnamed plain started is first second third =
+    ap app_of_fields third ∙ ap (on_top (λ s. record s { subcommand_required = true }))
+    (ap app_of_fields second ∙ ap (on_top (λ s. record s { disable_help_subcommand = true }))
     (ap app_of_fields first ∙ ap (on_top (λ s. record s { no_binary_name = true })) is))
 
 -- one command more
 pub with_command : (old sub new : Command) (before line : App) → app_of old ≡ before → app_of sub ≡ line
-    → (fields_of sub).has_globals ≡ false
-    → AddsSubcommand old sub new → app_of new ≡ with_subcommand before line.top
+    → (fields_of sub).has_globals ≡ false → AddsSubcommand old sub new → app_of new ≡ with_subcommand before line.top
 with_command old sub new before line is same local adds =
     adds.shape local ∙ ap₂ with_subcommand is (ap (λ (a : App). a.top) same)
 

@@ -1,5 +1,5 @@
 -- What reading the totals in a file asked of it.
-use Rattle.std.proofs.Common.{List, [], ap, false, length, refl, ℕ, ◌++◌, ◌∷◌, ◌≡◌}
+use Rattle.std.proofs.Common.{List, [], ap, false, refl, ℕ, ◌++◌, ◌∷◌, ◌≡◌}
 use Rattle.std.specs.Prelude.{Option, Some, None, Result, Ok, Err, IfOk, min}
 use Rattle.pos_file.specs.Answers.{synced_of}
 use Rattle.pos_file.specs.Calls.{Call, measure_call, read_call, share_call, sync_call}
@@ -21,11 +21,10 @@ sync_done (Some n) is = (n, refl)
 sync_done None is = cc
 
 -- one call after another
-four_calls : (none locked synced read : List Call) (lock measure sync sync' look look' : Call) → none ≡ []
-    → locked ≡ none ++ lock ∷ measure ∷ []
-    → synced ≡ locked ++ sync ∷ [] → read ≡ synced ++ look ∷ [] → sync ≡ sync' → look ≡ look'
-    → read ≡ lock ∷ measure ∷ sync' ∷ look' ∷ []
-four_calls none locked synced read lock measure sync sync' look look' begins first second third same_sync same_look =
+four_calls : {none locked synced read : List Call} {lock measure sync sync' look look' : Call} → none ≡ []
+    → locked ≡ none ++ lock ∷ measure ∷ [] → synced ≡ locked ++ sync ∷ [] → read ≡ synced ++ look ∷ [] → sync ≡ sync'
+    → look ≡ look' → read ≡ lock ∷ measure ∷ sync' ∷ look' ∷ []
+four_calls begins first second third same_sync same_look =
     rw (third, second, first, begins, same_sync, same_look) refl
 
 module _ {F : Type 0} (calls : F → List Call) (file : F) (disk : FileDisk F) where
@@ -37,12 +36,12 @@ module _ {F : Type 0} (calls : F → List Call) (file : F) (disk : FileDisk F) w
   opened (Err refusal) opens is = absurd is
 
   -- and so is the mirror
-  mirrored : (totals : Mirror (FileDisk F)) (answer : Result (Mirror (FileDisk F)) (MirrorFault × FileDisk F))
+  mirrored : {totals : Mirror (FileDisk F)} (answer : Result (Mirror (FileDisk F)) (MirrorFault × FileDisk F))
       → MirrorOpens (file_disks calls) disk (min disk.size disk_size) answer
       → Passes {E = FileFault} (λ refusal. ReportsMirror refusal.0) answer (Ok totals)
       → MirrorOpens (file_disks calls) disk (min disk.size disk_size) (Ok totals)
-  mirrored totals (Ok other) opens is = let same : totals ≡ other = cc in rw same opens
-  mirrored totals (Err refusal) opens is = absurd is
+  mirrored {totals = totals} (Ok other) opens is = let same : totals ≡ other = cc in rw same opens
+  mirrored (Err refusal) opens is = absurd is
 
   -- the four calls
   pub are_read : calls file ≡ [] → OpensDisk share_call calls file (Ok disk)
@@ -51,15 +50,15 @@ module _ {F : Type 0} (calls : F → List Call) (file : F) (disk : FileDisk F) w
   are_read none opens (Err why) mirrors = tt
   are_read none opens (Ok totals) mirrors =
       let (asked, sound) = opened opens.0 opens.1 opens.2 in
-      let (reads, long, new) = mirrored totals mirrors.0 mirrors.1 mirrors.2 in
+      let (reads, long, new) = mirrored mirrors.0 mirrors.1 mirrors.2 in
       let (done, asked_sync, same, is) = unfailed _ _ disk.has_failed sound reads.synced in
       let still = ap (λ (d : FileDisk F). d.has_failed) same in
       let (moved, asked_read, as_it_was, all) = unfailed _ _ reads.mid.has_failed still reads.read in
       let (n, settled) = sync_done done is in
-      let whole = all_moved (length totals.memory.present.reading) moved all in record {
+      let whole = all_moved moved all in record {
         size = disk.size;
         synced = n;
-        asked = four_calls _ _ _ _ _ _ _ _ _ _ none asked asked_sync asked_read (ap sync_call settled)
+        asked = four_calls none asked asked_sync asked_read (ap sync_call settled)
             (ap (read_call 0 totals.memory.present.reading) whole);
         as_long = long;
         new = new;

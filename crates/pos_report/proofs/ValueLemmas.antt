@@ -26,9 +26,8 @@ one_value_more files i name bytes (Some file) is named sized =
     let more : take (i + 1) files ≡ take i files ++ file ∷ [] =
     take_more files i file (slice_get_within files i file is)
     ∙ ap (λ (f : File). take i files ++ f ∷ []) (get_or_from_slice_get files i file file is) in
-    ap (map value_of) more ∙ map-append value_of (take i files) (file ∷ [])
-    ∙ ap (λ (n : List ℕ). map value_of (take i files) ++ file_data n file.bytes ∷ [])
-    (sym (some_is name file.name named))
+    ap (map value_of) more ∙ map-append value_of (take i files) (file ∷ []) ∙ ap
+    (λ (n : List ℕ). map value_of (take i files) ++ file_data n file.bytes ∷ []) (sym (some_is name file.name named))
     ∙ ap (λ (b : List ℕ). map value_of (take i files) ++ file_data name b ∷ []) (sym (some_is bytes file.bytes sized))
 
 -- the text of one file more

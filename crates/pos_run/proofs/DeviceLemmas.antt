@@ -31,20 +31,19 @@ some_or_none None = inl refl
 some_or_none (Some x) = inr (x, refl)
 
 -- a peripheral of its kind isn't refused at a vacant device
-no_refusal : (old new : Machine) (name : List ℕ) (hardware : Hardware) (fault : AttachFault) (given : Hardware)
+no_refusal : {old new : Machine} (name : List ℕ) {hardware : Hardware} (fault : AttachFault) {given : Hardware}
     → kind_named old name ≡ Some hardware.kind → hardware_named old name ≡ None
     → Step old (Attach name hardware) (NotAttached fault given) new → ⊥
-no_refusal old new name hardware attach.Unknown given is vacant (none, gave, same) =
+no_refusal name {hardware = hardware} attach.Unknown is vacant (none, gave, same) =
     none-some hardware.kind (sym none ∙ is)
-no_refusal old new name hardware attach.KindDiffers given is vacant (other, gave, same) =
+no_refusal name attach.KindDiffers is vacant (other, gave, same) =
     other.differs (the_same (sym is ∙ other.named))
-no_refusal old new name hardware attach.InUse given is vacant (there, gave, same) =
+no_refusal name attach.InUse is vacant (there, gave, same) =
     false≢true (ap is_some (sym vacant) ∙ there)
 
 module _ (old new : Machine) (name : List ℕ) (hardware : Hardware) (place : ℕ) (device : Device)
-    (found : place_of old.devices name ≡ Some place)
-    (there : slice_get old.devices place ≡ Some device) (is : device.kind ≡ hardware.kind)
-    (vacant : device.hardware ≡ None) where
+    (found : place_of old.devices name ≡ Some place) (there : slice_get old.devices place ≡ Some device)
+    (is : device.kind ≡ hardware.kind) (vacant : device.hardware ≡ None) where
   named : device_at old.devices (place_of old.devices name) ≡ Some device
   named = ap (device_at old.devices) found ∙ there
 
@@ -56,8 +55,7 @@ module _ (old new : Machine) (name : List ℕ) (hardware : Hardware) (place : �
       let of : done.device ≡ device = the_same (sym done.is_device ∙ ap (slice_get old.devices) at ∙ there) in
       done.machine ∙ rw (at, of)
   stands (NotAttached fault given) step =
-      absurd (no_refusal old new name hardware fault given (ap kind_in named ∙ ap (λ k. Some k) is)
-      (ap hardware_in named ∙ vacant) step)
+      absurd (no_refusal name fault (ap kind_in named ∙ ap (λ k. Some k) is) (ap hardware_in named ∙ vacant) step)
   stands _ step = absurd step
 
 -- the device of an entry, served
@@ -87,12 +85,10 @@ all_vacant (entry ∷ entries) = elim (some_or_none (kind_of entry)) [
 
 pub begins_partly : (entries : List Entry) (part : TotalsPart)
     → machine_with [] (replicate (length (profile_devices entries)) None) (profile_devices entries)
-    (totals_name entries) part
-    ≡ begun_partly entries 0 part
+    (totals_name entries) part ≡ begun_partly entries 0 part
 begins_partly entries part =
     ap (λ (ds : List Device). machine_with [] (replicate (length (profile_devices entries)) None) ds
-    (totals_name entries) part)
-    (all_vacant entries)
+    (totals_name entries) part) (all_vacant entries)
 
 -- as many are served in the end as were vacant at first
 as_many : (entries : List Entry) → length (filter_map unserved entries) ≡ length (filter_map served entries)
@@ -103,9 +99,9 @@ as_many (entry ∷ entries) = elim (some_or_none (kind_of entry)) [
 ]
 
 -- in the end all are served
-pub ends_whole : (entries : List Entry) (i : ℕ) (part : TotalsPart) → length entries ≤ i
+pub ends_whole : (entries : List Entry) {i : ℕ} (part : TotalsPart) → length entries ≤ i
     → begun_partly entries i part ≡ simulated_machine entries part
-ends_whole entries i part all =
+ends_whole entries {i = i} part all =
     let count : length (profile_devices entries) ≡ length (simulated_devices entries) =
     ap length (all_vacant entries) ∙ as_many entries in
     rw (take_all i entries all, drop_all i entries all, append-nil, count)
@@ -135,17 +131,17 @@ there_behind [] device back = refl
 there_behind (first ∷ front) device back = there_behind front device back
 
 -- what is simulated of a kind is of that kind, and there is nothing only where there is no kind
-kind_fits : (kind : Option Kind) (lines : ℕ) (state : PeripheralState)
+kind_fits : {kind : Option Kind} (lines : ℕ) {state : PeripheralState}
     → option_map (λ is. new_device is lines) kind ≡ Some state → kind ≡ Some state.kind
-kind_fits kind lines state is = grind arith
+kind_fits lines is = grind arith
 
-no_kind : (kind : Option Kind) (lines : ℕ) → option_map (λ is. new_device is lines) kind ≡ None → kind ≡ None
-no_kind kind lines is = grind arith
+no_kind : {kind : Option Kind} (lines : ℕ) → option_map (λ is. new_device is lines) kind ≡ None → kind ≡ None
+no_kind lines is = grind arith
 
 -- the name of an entry isn't that of an earlier one
-unnamed_before : (entries : List Entry) (i : ℕ) (entry : Entry) → i < length entries → entry ≡ get_or entries i entry
+unnamed_before : (entries : List Entry) {i : ℕ} {entry : Entry} → i < length entries → entry ≡ get_or entries i entry
     → is_repeated (names_of entries) i ≡ false → list_any (bytes_eq entry.name) (names_of (take i entries)) ≡ false
-unnamed_before entries i entry lt is single =
+unnamed_before entries {i = i} {entry = entry} lt is single =
     rw (← take-map (λ (e : Entry). e.name) i entries) (rw (name_at entries i entry entry.name lt is refl) at single)
 
 module _ (entries : List Entry) (i : ℕ) (entry : Entry) (lt : i < length entries)
@@ -168,17 +164,15 @@ module _ (entries : List Entry) (i : ℕ) (entry : Entry) (lt : i < length entri
   pub skips : (part : TotalsPart) → simulated_for entry ≡ None
       → begun_partly entries i part ≡ begun_partly entries (i + 1) part
   skips part simulated =
-      let none : kind_of entry ≡ None = no_kind (kind_of entry) entry.lines simulated in
+      let none : kind_of entry ≡ None = no_kind entry.lines simulated in
       rw (one_less, served_more, none, append-nil)
 
   -- one more device is served
   pub serves_more : (part : TotalsPart) (old new : Machine) (state : PeripheralState) (response : Response)
-      → simulated_for entry ≡ Some state
-      → is_repeated (names_of entries) i ≡ false → old ≡ begun_partly entries i part
-      → Step old (Attach entry.name (hardware_of state)) response new
-      → new ≡ begun_partly entries (i + 1) part
+      → simulated_for entry ≡ Some state → is_repeated (names_of entries) i ≡ false → old ≡ begun_partly entries i part
+      → Step old (Attach entry.name (hardware_of state)) response new → new ≡ begun_partly entries (i + 1) part
   serves_more part old new state response simulated single begun step =
-      let kind : kind_of entry ≡ Some state.kind = kind_fits (kind_of entry) entry.lines state simulated in
+      let kind : kind_of entry ≡ Some state.kind = kind_fits entry.lines simulated in
       let vacant = device_with entry.name state.kind None in
       let full = device_with entry.name state.kind (Some state) in
       let over = λ (ds : List Device). machine_with [] (replicate (length (profile_devices entries)) None) ds
@@ -186,7 +180,7 @@ module _ (entries : List Entry) (i : ℕ) (entry : Entry) (lt : i < length entri
       let one : filter_map served (entry ∷ []) ≡ full ∷ [] = rw (simulated, kind) in
       let before : old ≡ over (front ++ vacant ∷ back) = begun ∙ rw (one_less, kind) in
       let found : place_of (front ++ vacant ∷ back) entry.name ≡ Some (length front) =
-      found_behind entry.name (take i entries) 0 vacant back (unnamed_before entries i entry lt is single)
+      found_behind entry.name (take i entries) 0 vacant back (unnamed_before entries lt is single)
       ((bytes_eq-Decides entry.name entry.name).1 refl) ∙ ap (λ (n : ℕ). Some n) (omega arith) in
       let stood = stands (over (front ++ vacant ∷ back)) new entry.name (hardware_of state) (length front) vacant found
       (there_behind front vacant back) refl refl response (rw before at step) in

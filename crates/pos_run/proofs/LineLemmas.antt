@@ -11,9 +11,8 @@ use Rattle.pos_run.specs.declared.scripts.RunFault.TheVariants as fault
 
 -- lines and then more
 pub prints_join : (session : Session) (lines : List (List ℕ)) (steps : List (Request × Response)) (text : List ℕ)
-    (mid : Session) (more : List (List ℕ))
-    (further : List (Request × Response)) (rest : List ℕ) (after : Session) → LinesPrint session lines steps text mid
-    → LinesPrint mid more further rest after
+    (mid : Session) (more : List (List ℕ)) (further : List (Request × Response)) (rest : List ℕ) (after : Session)
+    → LinesPrint session lines steps text mid → LinesPrint mid more further rest after
     → LinesPrint session (lines ++ more) (steps ++ further) (text ++ rest) after
 prints_join session [] steps text mid more further rest after (none, nothing, same) second =
     rw (none, nothing, ← same) second
@@ -30,10 +29,9 @@ prints_join session (line ∷ lines) steps text mid more further rest after
 
 module _ {C : Type 0} {Runs : Leads C} {old : C} {session : Session} where
   -- a write that failed at a line behind others
-  pub stops_behind : {lines earlier : List (List ℕ)} {line : List ℕ}
-      (later : List (List ℕ)) {before given after : Given}
-      {between left : Session} {mid new : C} → lines ≡ earlier ++ line ∷ later
-      → Finishes Runs old session earlier before given between mid
+  pub stops_behind : {lines earlier : List (List ℕ)} {line : List ℕ} (later : List (List ℕ))
+      {before given after : Given} {between left : Session} {mid new : C}
+      → lines ≡ earlier ++ line ∷ later → Finishes Runs old session earlier before given between mid
       → StopsAt Runs mid between line given after left new → Stops Runs old session lines before after left new
   stops_behind later split done failed =
       record {
@@ -106,10 +104,9 @@ one_line session none line reply before after (Ok u) left new carried writes = r
 one_line session none line reply before after (Err e) left new carried writes =
     stops_behind [] refl (finishes_none none before) (record { reply = reply; carried = carried; cut = writes })
 
-module _ {C : Type 0} {Runs : Leads C}
-    (join : (a b c : C) (s t : List (Request × Response)) → Runs a s b → Runs b t c → Runs a (s ++ t) c) {old : C}
-    {session : Session} {lines : List (List ℕ)} {before between : Given} {mid_session : Session} {mid : C}
-    (first : Finishes Runs old session lines before between mid_session mid) where
+module _ {C : Type 0} {Runs : Leads C} (join : (a b c : C) (s t : List (Request × Response)) → Runs a s b → Runs b t c
+    → Runs a (s ++ t) c) {old : C} {session : Session} {lines : List (List ℕ)} {before between : Given}
+    {mid_session : Session} {mid : C} (first : Finishes Runs old session lines before between mid_session mid) where
   -- more lines that print a text
   transcripts_join : {more : List (List ℕ)} (text : List ℕ) {left : Session} {new : C}
       → Transcript Runs mid mid_session more text left new
@@ -145,9 +142,8 @@ module _ {C : Type 0} {Runs : Leads C}
       → Stops Runs mid mid_session more between after left new
       → Stops Runs old session (lines ++ more) before after left new
   stops_join second =
-      stops_behind second.later (ap (λ ls. lines ++ ls) second.split
-      ∙ sym (append_assoc lines second.earlier (second.line ∷ second.later)))
-      (finishes_join second.done) second.failed
+      stops_behind second.later (ap (λ ls. lines ++ ls) second.split ∙ sym (append_assoc lines second.earlier
+      (second.line ∷ second.later))) (finishes_join second.done) second.failed
 
   module _ (others more : List (List ℕ)) (same : others ≡ lines ++ more) (after : Given) (left : Session)
       (new : C) where

@@ -19,8 +19,7 @@ use Rattle.pos_run.proofs.DeviceLemmas.{all_vacant, some_or_none}
 abbrev IsVacant : Device → Type 0
 IsVacant device = device.hardware ≡ None
 
-entries_vacant : (entries : List Entry)
-    → AllByRecursion IsVacant (filter_map (λ entry. device_for None entry) entries)
+entries_vacant : (entries : List Entry) → AllByRecursion IsVacant (filter_map (λ entry. device_for None entry) entries)
 entries_vacant [] = tt
 entries_vacant (entry ∷ entries) = elim (some_or_none (kind_of entry)) [
   | inl none ↦ rw none (entries_vacant entries)
@@ -30,8 +29,7 @@ entries_vacant (entry ∷ entries) = elim (some_or_none (kind_of entry)) [
 module _ {P : Type 0} (mounts : Mounts P) (entries : List Entry) where
   -- a slot of a vacant device has nothing
   has_none : (peripherals : Ghosts P) (slot : Slot P)
-      → option_map hardware_of (option_map peripherals.state slot.peripheral) ≡ None
-      → HasMounted mounts entries slot
+      → option_map hardware_of (option_map peripherals.state slot.peripheral) ≡ None → HasMounted mounts entries slot
   has_none peripherals slot none = by slot.peripheral refl
     where
       by : (o : Option P) → slot.peripheral ≡ o → HasMounted mounts entries slot
@@ -45,10 +43,9 @@ module _ {P : Type 0} (mounts : Mounts P) (entries : List Entry) where
   all_vacant_slots peripherals (slot ∷ slots) all =
       (has_none peripherals slot all.0, all_vacant_slots peripherals slots all.1)
 
-  pub vacant_mounted : {D : Type 0} (peripherals : Ghosts P) (counter : Counter D P) (disk : D)
-      → Begins peripherals entries disk counter
-      → AllByRecursion (HasMounted mounts entries) (slots_in counter.devices)
-  vacant_mounted peripherals counter disk begins =
+  pub vacant_mounted : {D : Type 0} {peripherals : Ghosts P} {counter : Counter D P} {disk : D}
+      → Begins peripherals entries disk counter → AllByRecursion (HasMounted mounts entries) (slots_in counter.devices)
+  vacant_mounted {peripherals = peripherals} {counter = counter} begins =
       let same = ap (λ (m : Machine). m.devices) (begins.machine (new_totals [] 0)) in
       all_vacant_slots peripherals (slots_in counter.devices)
       (subst (AllByRecursion IsVacant) (sym (same ∙ all_vacant entries)) (entries_vacant entries))
@@ -56,25 +53,24 @@ module _ {P : Type 0} (mounts : Mounts P) (entries : List Entry) where
   -- ---- one more device is served
 
   all_set : (slots : List (Slot P)) (place : ℕ) (slot : Slot P) → AllByRecursion (HasMounted mounts entries) slots
-      → HasMounted mounts entries slot
-      → AllByRecursion (HasMounted mounts entries) (set slots place slot)
+      → HasMounted mounts entries slot → AllByRecursion (HasMounted mounts entries) (set slots place slot)
   all_set [] place slot all one = tt
   all_set (first ∷ slots) zero slot all one = (one, all.1)
   all_set (first ∷ slots) (suc place) slot all one = (all.0, all_set slots place slot all.1 one)
 
-  pub offered_mounted : (old new : List (Slot P)) (name : List ℕ) (peripheral : P) → Offers old name peripheral new
+  pub offered_mounted : {old new : List (Slot P)} {name : List ℕ} {peripheral : P} → Offers old name peripheral new
       → IsMountedAs mounts entries name peripheral → AllByRecursion (HasMounted mounts entries) old
       → AllByRecursion (HasMounted mounts entries) new
-  offered_mounted old new name peripheral offers mounted all = ⊎_elim
+  offered_mounted {old = old} {peripheral = peripheral} offers mounted all = ⊎_elim
       (λ placed. rw placed.1.is (all_set old placed.0 (record placed.1.slot { peripheral = Some peripheral }) all
       (subst (λ (n : List ℕ). IsMountedAs mounts entries n peripheral) (sym placed.2) mounted)))
       (λ same. rw same all) offers
 
   -- what is mounted for an entry serves as that of its name
-  pub mounted_as : (i : ℕ) (entry : Entry) (name : List ℕ) (peripheral : P) → i < length entries
+  pub mounted_as : {i : ℕ} {entry : Entry} {name : List ℕ} {peripheral : P} → i < length entries
       → entry ≡ get_or entries i entry → name ≡ entry.name
       → IsMountedFor mounts entry peripheral → IsMountedAs mounts entries name peripheral
-  mounted_as i entry name peripheral lt is named mounted = record {
+  mounted_as {i = i} {entry = entry} lt is named mounted = record {
     place = i;
     entry = entry;
     entry_is = slice_get-get_or entries i entry lt ∙ ap (λ (e : Entry). Some e) (sym is);

@@ -5,7 +5,6 @@ use Rattle.pos_run.proofs.Common.{kind_of, length, map-append, min, new_device, 
 use Rattle.pos_run.proofs.Common.{state_of, subst, sym, take, take_more, true, wrapped_by, wrapped_state, ℕ, ◌++◌, ◌+◌}
 use Rattle.pos_run.proofs.Common.{◌-◌, ◌<◌, ◌^◌, ◌∙◌, ◌∷◌, ◌≡◌, ◌≤◌}
 use Rattle.pos_profile.specs.Numbers.{has_number}
-use Rattle.pos_profile.specs.OptionalKeys.{has_option}
 use Rattle.pos_profile.specs.Soundness.{IsInItsRange, IsSoundEntry}
 use Rattle.pos_profile.specs.declared.number.NumberKey.TheVariants.{Lines}
 use Rattle.pos_profile.specs.declared.optional.OptionalKey.TheVariants.{Ring}
@@ -34,44 +33,42 @@ module _ (entries : List Entry) (i : ℕ) (entry : Entry) (lt : i < length entri
 new_serves : (kind : Option Kind) (lines : ℕ) → IsInService (option_map (λ is. new_device is lines) kind)
 new_serves kind lines = grind arith
 
-new_is_fresh : (kind : Option Kind) (lines : ℕ) (state : PeripheralState)
+new_is_fresh : (kind : Option Kind) (lines : ℕ) {state : PeripheralState}
     → Some state ≡ option_map (λ is. new_device is lines) kind → state.orders ≡ 0
-new_is_fresh kind lines state is = grind arith
+new_is_fresh kind lines is = grind arith
 
 pub state_is_fresh : (entry : Entry) (state : PeripheralState) → Some state ≡ simulated_for entry → state.orders ≡ 0
-state_is_fresh entry state is = new_is_fresh (kind_of entry) entry.lines state is
+state_is_fresh entry state is = new_is_fresh (kind_of entry) entry.lines is
 
-new_never_failed : (kind : Option Kind) (lines : ℕ) (state : PeripheralState)
-    → Some state ≡ option_map (λ is. new_device is lines) kind
-    → state.failures ≡ 0
-new_never_failed kind lines state is = grind arith
+new_never_failed : (kind : Option Kind) (lines : ℕ) {state : PeripheralState}
+    → Some state ≡ option_map (λ is. new_device is lines) kind → state.failures ≡ 0
+new_never_failed kind lines is = grind arith
 
 pub state_never_failed : (entry : Entry) (state : PeripheralState) → Some state ≡ simulated_for entry
     → state.failures ≡ 0
-state_never_failed entry state is = new_never_failed (kind_of entry) entry.lines state is
+state_never_failed entry state is = new_never_failed (kind_of entry) entry.lines is
 
 pub all_serve : (entries : List Entry) → All IsInService (simulated_all entries)
 all_serve entries = All-map IsInService simulated_for entries
     (λ k entry lt. new_serves (kind_of (get_or entries k entry)) (get_or entries k entry).lines)
 
 -- the lines of paper are in their range
-lines_within : (category : Category) (lines : ℕ) → IsInItsRange Lines (has_number category Lines) lines → lines ≤ 100000
-lines_within PosPrinter lines within = within.1
-lines_within _ lines none = omega (arith, none)
+lines_within : (category : Category) {lines : ℕ} → IsInItsRange Lines (has_number category Lines) lines → lines ≤ 100000
+lines_within PosPrinter within = within.1
+lines_within _ none = omega (arith, none)
 
 -- an entry has a ring only where its category may have one
-only_if : (may holds : Bool) → (holds ≡ true → may ≡ true) → HoldsOnlyIf may holds
-only_if may holds is = grind arith
+only_if : {may holds : Bool} → (holds ≡ true → may ≡ true) → HoldsOnlyIf may holds
+only_if is = grind arith
 
-pub simulable : (role : Role) (entries : List Entry) (i : ℕ) (entry : Entry) → All (IsSoundEntry role) entries
-    → i < length entries
-    → entry ≡ get_or entries i entry → IsSimulable entry
-simulable role entries i entry sound lt is =
+pub simulable : {role : Role} (entries : List Entry) {i : ℕ} {entry : Entry} → All (IsSoundEntry role) entries
+    → i < length entries → entry ≡ get_or entries i entry → IsSimulable entry
+simulable {role = role} entries {i = i} {entry = entry} sound lt is =
     let one : IsSoundEntry role entry = subst (IsSoundEntry role) (sym is) (sound i entry lt) in
     record {
       kind = one.kind;
-      lines = lines_within entry.category entry.lines (one.numbers Lines);
-      ring = only_if (has_option entry.category Ring) entry.ring (one.options Ring);
+      lines = lines_within entry.category (one.numbers Lines);
+      ring = only_if (one.options Ring);
     }
 
 -- a state as wrappers that have counted nothing show it

@@ -15,16 +15,16 @@ could old new buffer count true is reads = refl
 could old new buffer count false is reads = absurd (false≢true (rw is at reads).0)
 
 -- a script may be read no more if a read failed, or there were as many as may be
-no_more : (state : ReadState) (reads : ℕ) → may_read state reads ≡ false → (state ≡ Failed) ⊎ (most_reads ≤ reads)
-no_more Open reads is = inr (grind (arith, nat_tests, is))
-no_more Ended reads is = inr (grind (arith, nat_tests, is))
-no_more Failed reads is = inl refl
+no_more : (state : ReadState) {reads : ℕ} → may_read state reads ≡ false → (state ≡ Failed) ⊎ (most_reads ≤ reads)
+no_more Open is = inr (grind (arith, nat_tests, is))
+no_more Ended is = inr (grind (arith, nat_tests, is))
+no_more Failed is = inl refl
 
 module _ (first old new : Reading) (input buffer : List ℕ) (so_far : old.taken ≡ taken_after first.taken input) where
   -- a read that gave nothing found the end
-  pub ends : (count : ℕ) → count ≡ 0 → ReadsScript old buffer (Ok count) new
+  pub ends : {count : ℕ} → count ≡ 0 → ReadsScript old buffer (Ok count) new
       → (new.state ≡ Ended) × (new.taken ≡ end_after (taken_after first.taken input)) × IsWhole new.taken
-  ends count none reads =
+  ends {count = count} none reads =
       let (takes, counted, state) = rw (could old new buffer count _ refl reads) at reads in
       let (end, whole) = found_end old.taken buffer count new.taken none takes in
       (rw none at state, rw so_far at end, rw end whole)
@@ -42,15 +42,15 @@ module _ (first old new : Reading) (input buffer : List ℕ) (so_far : old.taken
       )
 
   -- one that failed asked the source, or the script may be read no more
-  pub fails : (fault : ReadFault) (may : Bool) → may_read old.state old.reads ≡ may
+  pub fails : {fault : ReadFault} (may : Bool) → may_read old.state old.reads ≡ may
       → (old.state ≡ Failed → (old ≡ first) × (input ≡ []))
       → ReadsScript old buffer (Err fault) new → ReadsToFault input first new
-  fails fault true is failed reads =
+  fails true is failed reads =
       let (took, counted, state) = rw is at reads in (rw state refl, inl (rw so_far at took))
-  fails fault false is failed reads =
+  fails false is failed reads =
       let same = (rw is at reads).1 in (
         rw same is,
-        elim (no_more old.state old.reads is) [
+        elim (no_more old.state is) [
           | inl broken ↦ let (untouched, none) = failed broken in
               inr (inr (ap (λ r. r.state) (sym untouched) ∙ broken, none, same ∙ untouched))
           | inr reached ↦ inr (inl (ap (λ r. r.taken) same ∙ so_far, rw same reached))

@@ -12,7 +12,6 @@ use Rattle.pos_counter.specs.declared.faults.WorkFault.TheVariants as work_fault
 use Rattle.pos_counter.specs.Steps.{NewControl}
 use Rattle.pos_script.specs.Text.{response_text}
 use Rattle.pos_service.specs.declared.category.Category.{Category}
-use Rattle.pos_service.specs.declared.faults.NoMemory.{NoMemory}
 use Rattle.pos_service.specs.declared.plant.Snapshot.{Snapshot}
 use Rattle.pos_service.specs.declared.request.Response.{Response as ResponseOf}
 use Rattle.pos_service.specs.declared.answer.WorkResult.{WorkResult}

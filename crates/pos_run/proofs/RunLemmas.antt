@@ -14,7 +14,7 @@ use Rattle.pos_profile.specs.Entries.{Contents}
 use Rattle.pos_store.specs.Standing.{LeavesOneOf, Standing}
 use Rattle.pos_totals.specs.Views.{TotalsView}
 use Rattle.pos_run.specs.LineRuns.{RunsWholeScript}
-use Rattle.pos_run.specs.Simulations.{IsSimulatedCounter, RunsThroughProfile, begun_over}
+use Rattle.pos_run.specs.Simulations.{IsSimulatedCounter, RunsThroughProfile}
 use Rattle.pos_run.specs.Streams.{Streams}
 use Rattle.pos_run.specs.Transcript.{Transcript}
 use Rattle.pos_run.specs.declared.scripts.RunFault.TheVariants as fault
@@ -59,8 +59,7 @@ module _ {C M L : Type 0} (Runs : Leads C) (Over : Leads M) (Holds : C → L →
   unflushed_over : {b : C} {kept : Session} {lines : List (List ℕ)} {before after : Given}
       (h : FinishesUnflushed Runs a session lines before after kept b)
       → (end : L) × Holds b end × (f : FinishesUnflushed Over (over a left) session lines before after kept
-      (over b end))
-      × (f.transcript.steps ≡ h.transcript.steps)
+      (over b end)) × (f.transcript.steps ≡ h.transcript.steps)
   unflushed_over h =
       let (end, stands, t, same) = transcript_over h.transcript in
       (end, stands, record { text = h.text; transcript = t; failed = h.failed }, same)
@@ -95,11 +94,10 @@ module _ {C M L : Type 0} (Runs : Leads C) (Over : Leads M) (Holds : C → L →
 
   -- what a run leaves
   leaves_over : (b : C) (kept : Session) (lines : List (List ℕ)) (before after : Writing)
-      (result : Result (Unit {0}) RunFault)
-      (h : ScriptLeaves Runs a session lines before after result kept b)
+      (result : Result (Unit {0}) RunFault) (h : ScriptLeaves Runs a session lines before after result kept b)
       → (n : M) × (s : ScriptLeaves Over (over a left) session lines before after result kept n)
-      × (carried_steps Over (over a left) session lines before after result kept n s
-      ≡ carried_steps Runs a session lines before after result kept b h)
+      × (carried_steps Over (over a left) session lines before after result kept n s ≡ carried_steps Runs a session
+      lines before after result kept b h)
   leaves_over b kept lines before after (Ok u) (done, flushed) = let o = finishes_over done in (_, (o.2, flushed), o.3)
   leaves_over b kept lines before after (Err fault.Read) (done, flushed) = let o = finishes_over done in
       (_, (o.2, flushed), o.3)
@@ -108,33 +106,30 @@ module _ {C M L : Type 0} (Runs : Leads C) (Over : Leads M) (Holds : C → L →
   leaves_over b kept lines before after (Err fault.NoMemory) h = (_, (refl, h.1, h.2), refl)
 
 -- a run from this machine by these steps is one from an equal one by equal ones, with the same moments
-moved : {D : Type 0} (state : D → DiskState) (d e : D) (after : DiskState) (end : Machine) (m n : Machine)
-    (s t : List (Request × Response)) → d ≡ e → m ≡ n
+moved : {D : Type 0} (state : D → DiskState) {d e : D} {after : DiskState} (end : Machine) {m n : Machine}
+    {s t : List (Request × Response)} → d ≡ e → m ≡ n
     → s ≡ t → (run : Run m s end) → LeavesOnly (state d) after (IsLeftDuring m s end run)
     → (again : Run n t end) × LeavesOnly (state e) after (IsLeftDuring n t end again)
-moved {D = D} state d e after end m n s t here same steps run any_moment =
+moved {D = D} state {d = d} {after = after} end {m = m} {n = n} {t = t} here same steps run any_moment =
     let P : D → Machine → List (Request × Response) → Type 0 =
     λ x y z. (r : Run y z end) × LeavesOnly (state x) after (IsLeftDuring y z end r) in
     subst (λ x. P x n t) here (subst (λ y. P d y t) same (subst (λ z. P d m z) steps (run, any_moment)))
 
 -- a run over a counter whose devices are served is one over its profile, with the same steps
-module _ {D P : Type 0} (bound : DiskGhosts D)
-    (peripherals : Ghosts P) {contents : Contents} {disk : D} {counter new : Counter D P} {spares : Spares P}
-    (made : IsSimulatedCounter peripherals contents disk counter spares) {streams : Streams} {result : Result
-    (Unit {0}) RunFault} {kept : Session}
-    (carried : RunsWholeScript bound peripherals counter
-    (begun_session (spares_in peripherals spares)) streams result kept new) (left : List Standing) where
+module _ {D P : Type 0} (bound : DiskGhosts D) (peripherals : Ghosts P) {contents : Contents} {disk : D}
+    {counter new : Counter D P} {spares : Spares P} (made : IsSimulatedCounter peripherals contents disk counter spares)
+    {streams : Streams} {result : Result (Unit {0}) RunFault} {kept : Session}
+    (carried : RunsWholeScript bound peripherals counter (begun_session (spares_in peripherals spares)) streams result
+    kept new) (left : List Standing) where
   abbrev lines : List (List ℕ)
   lines = lines_read streams.reader_after.state carried.script.input
 
   over_profile : (Over : Leads Machine) (Holds : TotalsView D → List Standing → Type 0)
       (part : TotalsView D → List Standing → TotalsPart)
-      → ((a b : Counter D P) (steps : List (Request × Response)) (left : List Standing) → Holds a.totals left
-      → IsRun bound peripherals a steps b
-      → (after : List Standing) × Holds b.totals after
-      × Over (machine peripherals a (part a.totals left)) steps (machine peripherals b (part b.totals after)))
-      → Holds (off_over disk) left
-      → let begins = simulated_machine contents.devices (part (off_over disk) left) in
+      → ((a b : Counter D P) (steps : List (Request × Response)) (left : List Standing) → Holds a.totals left → IsRun
+      bound peripherals a steps b → (after : List Standing) × Holds b.totals after × Over
+      (machine peripherals a (part a.totals left)) steps (machine peripherals b (part b.totals after)))
+      → Holds (off_over disk) left → let begins = simulated_machine contents.devices (part (off_over disk) left) in
       let session = begun_session (simulated_all contents.spares) in
       (n : Machine) × (s : ScriptLeaves Over begins session lines streams.writer streams.writer_after result kept n)
       × (carried_steps Over begins session lines streams.writer streams.writer_after result kept n s
@@ -158,9 +153,7 @@ module _ {D P : Type 0} (bound : DiskGhosts D)
       let end = machine peripherals new (part_of bound new.totals ran.after) in
       let begins = ap (λ (t : TotalsView D). machine peripherals counter (part_of bound t left)) made.totals
       ∙ made.served (part_of bound (off_over disk) left) in
-      let (run, any_moment) = moved bound.state counter.totals.disk disk (bound.state new.totals.disk) end
-      (machine peripherals counter (part_of bound counter.totals left)) (begun_over contents left (bound.state disk))
-      (script_steps script) _
+      let (run, any_moment) = moved bound.state end
       (ap (λ (t : TotalsView D). t.disk) made.totals) begins (sym same) ran.run ran.any_moment in (
         record {
           text = record {

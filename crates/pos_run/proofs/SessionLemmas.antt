@@ -28,14 +28,12 @@ module _ {D P : Type 0} (bound : DiskGhosts D) (peripherals : Ghosts P) (old : C
 
   -- no memory for the name that a line keeps
   pub asks_unkept : (left : Session) (request : Request) → request_of session asking ≡ Some request
-      → IsTrue (gives_name asking) → left ≡ session
-      → RunsAsking bound peripherals old session asking Memory left old
+      → IsTrue (gives_name asking) → left ≡ session → RunsAsking bound peripherals old session asking Memory left old
   asks_unkept left request is keeps same =
       record { carried = record { steps = []; run = refl; becomes = rw (is, same) (inl (keeps, refl)) } }
 
-module _ {D P : Type 0} {bound : DiskGhosts D} {peripherals : Ghosts P} {old new : Counter D P} {session
-    left : Session} {asking : LineRequest}
-    {given : ResponseOf (Unit {0})} {request : Request} {response : Response} where
+module _ {D P : Type 0} {bound : DiskGhosts D} {peripherals : Ghosts P} {old new : Counter D P} {session left : Session}
+    {asking : LineRequest} {given : ResponseOf (Unit {0})} {request : Request} {response : Response} where
   answers : IsAsked bound peripherals old ((request, response) ∷ []) new → request_of session asking ≡ Some request
       → left ≡ session_after session asking response → response_text given ≡ response_text response
       → RunsAsking bound peripherals old session asking (Responded given) left new
@@ -77,11 +75,9 @@ reads_become session make reading (Err fault.NoMemory) outcome lacks becomes =
     let (value, is) = some_of reading.value lacks.0 in rw is (inl (lacks.1, becomes))
 
 module _ {D P E : Type 0} (bound : DiskGhosts D) (peripherals : Ghosts P) (old : Counter D P) (session : Session)
-    (before after : Given)
-    (result : Result (Unit {0}) E) where
+    (before after : Given) (result : Result (Unit {0}) E) where
   asked_run : OnlyNow bound old.totals.disk → (steps : List (Request × Response)) (new : Counter D P)
-      → IsAsked bound peripherals old steps new
-      → IsRun bound peripherals old steps new
+      → IsAsked bound peripherals old steps new → IsRun bound peripherals old steps new
   asked_run only [] new same = same
   asked_run only (step ∷ []) new (inl is) = one_step bound peripherals old new step.0 step.1 is
   asked_run only (step ∷ []) new (inr beside) = one_beside bound peripherals old new step.0 step.1 only beside
@@ -89,8 +85,7 @@ module _ {D P E : Type 0} (bound : DiskGhosts D) (peripherals : Ghosts P) (old :
 
   -- what was read is asked, and this was written of the reply
   pub asks_what_was_read : (left : Session) (new : Counter D P) (asking : LineRequest) (reply : LineReply)
-      → OnlyNow bound old.totals.disk
-      → RunsAsking bound peripherals old session asking reply left new
+      → OnlyNow bound old.totals.disk → RunsAsking bound peripherals old session asking reply left new
       → Writes before after (reply_text reply ++ 10 ∷ []) result
       → RunsRead bound peripherals old session (Ok asking) before after result left new
   asks_what_was_read left new asking reply only asks writes = record {
@@ -139,8 +134,7 @@ module _ {D P E : Type 0} (bound : DiskGhosts D) (peripherals : Ghosts P) (old :
 
 -- what keeps a session twice keeps it
 pub keeps_on : {D P : Type 0} (peripherals : Ghosts P) (old mid new : Running D P) → KeepsSession peripherals old mid
-    → KeepsSession peripherals mid new
-    → KeepsSession peripherals old new
+    → KeepsSession peripherals mid new → KeepsSession peripherals old new
 keeps_on peripherals old mid new first second = record {
   sound = second.sound;
   counter = second.counter ∙ first.counter;
@@ -149,6 +143,6 @@ keeps_on peripherals old mid new first second = record {
 }
 
 -- and so does what leaves it
-pub keeps_here : {D P : Type 0} (peripherals : Ghosts P) (session : Running D P) → IsSessionSound peripherals session
+pub keeps_here : {D P : Type 0} {peripherals : Ghosts P} {session : Running D P} → IsSessionSound peripherals session
     → KeepsSession peripherals session session
-keeps_here peripherals session sound = record { sound = sound; counter = refl; names = refl; spares = refl }
+keeps_here sound = record { sound = sound; counter = refl; names = refl; spares = refl }

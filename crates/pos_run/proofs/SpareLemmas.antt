@@ -18,46 +18,45 @@ pub none_taken : (spares : SpareStates) (number : ℕ) → spare_at spares numbe
 none_taken spares number none = grind (arith, vacated)
 
 -- a spare that is put back is where it was
-returned : (spares : SpareStates) (place : ℕ) (state : PeripheralState)
+returned : (spares : SpareStates) (place : ℕ) {state : PeripheralState}
     → option_and_then (λ spare. spare) (slice_get spares place) ≡ Some state
     → set (set spares place None) place (Some state) ≡ spares
-returned [] place state there = cc
-returned (first ∷ spares) zero state there = grind arith
-returned (first ∷ spares) (suc place) state there =
-    ap (λ (ss : SpareStates). first ∷ ss) (returned spares place state there)
+returned [] place there = cc
+returned (first ∷ spares) zero there = grind arith
+returned (first ∷ spares) (suc place) there =
+    ap (λ (ss : SpareStates). first ∷ ss) (returned spares place there)
 
 pub put_back : (spares : SpareStates) (number : ℕ) (state : PeripheralState) → spare_at spares number ≡ Some state
     → with_spare (with_spare spares number None) number (Some state) ≡ spares
 put_back spares number state there = grind (arith, returned)
 
 -- the place of one that was taken is empty
-emptied : (spares : SpareStates) (place : ℕ) (state : PeripheralState)
+emptied : (spares : SpareStates) (place : ℕ) {state : PeripheralState}
     → option_and_then (λ spare. spare) (slice_get spares place) ≡ Some state
     → slice_get (set spares place None) place ≡ Some None
-emptied [] place state there = cc
-emptied (first ∷ spares) zero state there = refl
-emptied (first ∷ spares) (suc place) state there = emptied spares place state there
+emptied [] place there = cc
+emptied (first ∷ spares) zero there = refl
+emptied (first ∷ spares) (suc place) there = emptied spares place there
 
-pub empty_taken : (spares : SpareStates) (number : ℕ) (state : PeripheralState) → spare_at spares number ≡ Some state
+pub empty_taken : (spares : SpareStates) (number : ℕ) {state : PeripheralState} → spare_at spares number ≡ Some state
     → IsEmptyAt (with_spare spares number None) number
-empty_taken spares zero state there = cc
-empty_taken spares (suc place) state there = (place, refl, emptied spares place state there)
+empty_taken spares zero there = cc
+empty_taken spares (suc place) there = (place, refl, emptied spares place there)
 
 -- the spare of a number is what its place has
-pub spare_is : (spares : SpareStates) (number place : ℕ) (spare : Option PeripheralState) → number ≡ suc place
-    → slice_get spares place ≡ Some spare
-    → spare_at spares number ≡ spare
-spare_is spares number place spare is at = ap (spare_at spares) is ∙ ap (option_and_then (λ s. s)) at
+pub spare_is : (spares : SpareStates) {number place : ℕ} {spare : Option PeripheralState} → number ≡ suc place
+    → slice_get spares place ≡ Some spare → spare_at spares number ≡ spare
+spare_is spares is at = ap (spare_at spares) is ∙ ap (option_and_then (λ s. s)) at
 
-pub with_is : (spares : SpareStates) (number place : ℕ) (spare : Option PeripheralState) → number ≡ suc place
+pub with_is : (spares : SpareStates) {number place : ℕ} (spare : Option PeripheralState) → number ≡ suc place
     → set spares place spare ≡ with_spare spares number spare
-with_is spares number place spare is = sym (ap (λ n. with_spare spares n spare) is)
+with_is spares spare is = sym (ap (λ n. with_spare spares n spare) is)
 
 module _ {P : Type 0} (peripherals : Ghosts P) (list : List (Option P)) (place : ℕ) where
   -- what is at the place of a box
-  pub state_there : (spare : Option P) → place < length list → spare ≡ get_or list place spare
+  pub state_there : {spare : Option P} → place < length list → spare ≡ get_or list place spare
       → slice_get (states_in peripherals list) place ≡ Some (option_map peripherals.state spare)
-  state_there spare within at =
+  state_there {spare = spare} within at =
       slice_get-map (option_map peripherals.state) list place
       ∙ ap (option_map (option_map peripherals.state)) (slice_get_read list (length list) place spare refl within at)
 
@@ -67,10 +66,9 @@ module _ {P : Type 0} (peripherals : Ghosts P) (list : List (Option P)) (place :
   serving None h = tt
   serving (Some b) h = h
 
-  pub serves_there : (spare : Option P) → All IsInService (states_in peripherals list) → place < length list
-      → spare ≡ get_or list place spare
-      → IfSome spare (λ b. (peripherals.state b).is_parked ≡ false)
-  serves_there spare all within at =
+  pub serves_there : {spare : Option P} → All IsInService (states_in peripherals list) → place < length list
+      → spare ≡ get_or list place spare → IfSome spare (λ b. (peripherals.state b).is_parked ≡ false)
+  serves_there {spare = spare} all within at =
       let count : length (states_in peripherals list) ≡ length list = length-map list (option_map peripherals.state) in
       let there : get_or (states_in peripherals list) place (option_map peripherals.state spare)
       ≡ option_map peripherals.state spare =
@@ -92,15 +90,14 @@ module _ {P : Type 0} (peripherals : Ghosts P) (list : List (Option P)) (place :
       (option_map peripherals.state spare) one all)
 
   -- the place of a number that is empty has no box
-  pub no_box : (number : ℕ) (spare : Option P) (other : P) → number ≡ suc place
-      → IsEmptyAt (states_in peripherals list) number
-      → spare ≡ get_or list place spare → spare ≡ Some other → ⊥
-  no_box number spare other is (empty, same, none) at some =
+  pub no_box : {number : ℕ} {spare : Option P} {other : P} → number ≡ suc place
+      → IsEmptyAt (states_in peripherals list) number → spare ≡ get_or list place spare → spare ≡ Some other → ⊥
+  no_box {other = other} is (empty, same, none) at some =
       let count : length (states_in peripherals list) ≡ length list = length-map list (option_map peripherals.state) in
       let within : place < length list =
       omega (arith, is, same, count, slice_get_within (states_in peripherals list) empty None none) in
       let here : slice_get (states_in peripherals list) place ≡ Some None =
       rw (let e : place ≡ empty = omega (arith, is, same) in e) none in
       let full : slice_get (states_in peripherals list) place ≡ Some (Some (peripherals.state other)) =
-      state_there spare within at ∙ ap (λ (o : Option P). Some (option_map peripherals.state o)) some in
+      state_there within at ∙ ap (λ (o : Option P). Some (option_map peripherals.state o)) some in
       cc

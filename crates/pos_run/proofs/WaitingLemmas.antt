@@ -34,28 +34,27 @@ use Rattle.pos_run.specs.WaitingLines.{RunsLines, RunsAndWrites, lines_in, text_
 use Rattle.pos_run.specs.declared.waiting_lines.LineProgress.{LineProgress}
 
 -- a front of bytes was given, where they were written as far as could be
-pub wrote_front : (old new : Given) (bytes : List ℕ) (count : ℕ) (result : Result (Unit {0}) WriteFault)
-    → WritesFront old bytes count result new
-    → GivesFront old new bytes
-wrote_front old new bytes count (Ok u) (whole, wrote) =
+pub wrote_front : (old new : Given) {bytes : List ℕ} (count : ℕ) (result : Result (Unit {0}) WriteFault)
+    → WritesFront old bytes count result new → GivesFront old new bytes
+wrote_front old new {bytes = bytes} count (Ok u) (whole, wrote) =
     (bytes, [], sym (append-nil bytes), ap (λ (g : Given). g.bytes) wrote)
-wrote_front old new bytes count (Err fault) failed =
+wrote_front old new {bytes = bytes} count (Err fault) failed =
     (take count bytes, drop count bytes, sym (take-append-drop count bytes), ap (λ (g : Given). g.bytes) failed)
 
-pub wrote_all : (old new : Given) (bytes : List ℕ) (count : ℕ) (result : Result (Unit {0}) WriteFault) (u : Unit {0})
+pub wrote_all : (old : Given) {new : Given} (bytes : List ℕ) (count : ℕ) (result : Result (Unit {0}) WriteFault) {u : Unit {0}}
     → result ≡ Ok u
     → WritesFront old bytes count result new → Appends old new bytes
-wrote_all old new bytes count (Ok u) v is (whole, wrote) = wrote
-wrote_all old new bytes count (Err fault) v is failed = grind (arith, is)
+wrote_all old bytes count (Ok u) is (whole, wrote) = wrote
+wrote_all old bytes count (Err fault) is failed = grind (arith, is)
 
 -- so was one of more bytes
-pub front_of : (old new : Given) (bytes more : List ℕ) → GivesFront old new bytes → GivesFront old new (bytes ++ more)
-front_of old new bytes more (front, back, is, gave) =
+pub front_of : (old new : Given) {bytes : List ℕ} (more : List ℕ) → GivesFront old new bytes → GivesFront old new (bytes ++ more)
+front_of old new more (front, back, is, gave) =
     (front, back ++ more, ap (λ l. l ++ more) is ∙ append_assoc front back more, gave)
 
-pub front_then : (old mid new : Given) (bytes more : List ℕ) → Appends old mid bytes → GivesFront mid new more
+pub front_then : (old : Given) {mid : Given} (new : Given) (bytes : List ℕ) {more : List ℕ} → Appends old mid bytes → GivesFront mid new more
     → GivesFront old new (bytes ++ more)
-front_then old mid new bytes more first (front, back, is, gave) = (
+front_then old new bytes first (front, back, is, gave) = (
   bytes ++ front,
   back,
   ap (λ l. bytes ++ l) is ∙ sym (append_assoc bytes front back),
@@ -88,17 +87,17 @@ module _ {D P : Type 0} (bound : DiskGhosts D) (peripherals : Ghosts P) where
       both_keep bound a.totals.disk run.0.totals.disk b.totals.disk run.1.kept (run_keeps run.0 b steps run.2)
 
   -- lines that a counter ran by, the machine ran by
-  pub runs_lines : (a b : Counter D P) (s left : Session) (lines : List (List ℕ)) (text : List ℕ)
+  pub runs_lines : {a b : Counter D P} {s left : Session} {lines : List (List ℕ)} {text : List ℕ}
       → Transcript (IsRun bound peripherals) a s lines text left b → RunsLines bound peripherals a s lines text b left
-  runs_lines a b s left lines text done = λ standing leaves.
+  runs_lines {a = a} {b = b} done = λ standing leaves.
       let (later, leave, run) = machine_runs bound peripherals a b done.steps standing leaves done.run in
       (later, leave, record { steps = done.steps; run = run; prints = done.prints })
 
   -- then the counter stays as it is to the machine
-  runs_stay : (a b c : Counter D P) (s left : Session) (lines : List (List ℕ)) (text : List ℕ)
+  runs_stay : (a : Counter D P) {b c : Counter D P} {s left : Session} {lines : List (List ℕ)} {text : List ℕ}
       → RunsLines bound peripherals a s lines text b left
       → Stays peripherals b c → RunsLines bound peripherals a s lines text c left
-  runs_stay a b c s left lines text runs stays = λ standing leaves.
+  runs_stay a {b = b} {c = c} runs stays = λ standing leaves.
       let (later, leave, done) = runs standing leaves in
       let same : machine peripherals c (part_of bound c.totals later) ≡ machine peripherals b
       (part_of bound b.totals later) =
@@ -114,28 +113,28 @@ module _ {D P : Type 0} (bound : DiskGhosts D) (peripherals : Ghosts P) where
         },
       )
 
-  kept_stay : (a b c : Counter D P) → KeepsDisk bound a.totals.disk b.totals.disk → Stays peripherals b c
+  kept_stay : (a : Counter D P) {b c : Counter D P} → KeepsDisk bound a.totals.disk b.totals.disk → Stays peripherals b c
       → KeepsDisk bound a.totals.disk c.totals.disk
-  kept_stay a b c kept stays = subst (λ v. KeepsDisk bound a.totals.disk v.disk) (sym stays.totals) kept
+  kept_stay a kept stays = subst (λ v. KeepsDisk bound a.totals.disk v.disk) (sym stays.totals) kept
 
-  pub tells_stay : (a b c : Counter D P) (s left : Session) (lines : List (List ℕ)) (before after : Given)
+  pub tells_stay : {a b c : Counter D P} {s left : Session} {lines : List (List ℕ)} {before after : Given}
       → RunsAndWrites bound peripherals a s lines before after b left → Stays peripherals b c
       → RunsAndWrites bound peripherals a s lines before after c left
-  tells_stay a b c s left lines before after h stays = record {
+  tells_stay {a = a} h stays = record {
     text = h.text;
-    runs = runs_stay a b c s left lines h.text h.runs stays;
+    runs = runs_stay a h.runs stays;
     written = h.written;
-    kept = kept_stay a b c h.kept stays;
+    kept = kept_stay a h.kept stays;
   }
 
-  pub cuts_stay : (a b c : Counter D P) (s left : Session) (line : List ℕ) (before after : Given)
+  pub cuts_stay : {a b c : Counter D P} {s left : Session} {line : List ℕ} {before after : Given}
       → Cuts bound peripherals a s line before after b left → Stays peripherals b c
       → Cuts bound peripherals a s line before after c left
-  cuts_stay a b c s left line before after h stays = record {
+  cuts_stay {a = a} h stays = record {
     text = h.text;
-    runs = runs_stay a b c s left (line ∷ []) h.text h.runs stays;
+    runs = runs_stay a h.runs stays;
     front = h.front;
-    kept = kept_stay a b c h.kept stays;
+    kept = kept_stay a h.kept stays;
   }
 
   -- no line yet
@@ -149,10 +148,9 @@ module _ {D P : Type 0} (bound : DiskGhosts D) (peripherals : Ghosts P) where
   }
 
   -- a line that is held back is none
-  pub tells_held : (a b : Counter D P) (s left : Session) (before after : Given)
-      → Holds bound peripherals a s before after b left
-      → RunsAndWrites bound peripherals a s [] before after b left
-  tells_held a b s left before after h = record {
+  pub tells_held : {a b : Counter D P} {s left : Session} {before after : Given}
+      → Holds bound peripherals a s before after b left → RunsAndWrites bound peripherals a s [] before after b left
+  tells_held {before = before} h = record {
     text = [];
     runs = λ standing leaves.
         let (later, leave, same, names) = h.stays standing leaves in
@@ -162,12 +160,12 @@ module _ {D P : Type 0} (bound : DiskGhosts D) (peripherals : Ghosts P) where
   }
 
   -- lines and then more
-  pub tells_join : (a b c : Counter D P) (s mid left : Session) (lines more : List (List ℕ))
-      (before between after : Given)
+  pub tells_join : {a b c : Counter D P} {s mid left : Session} {lines more : List (List ℕ)}
+      {before between after : Given}
       → RunsAndWrites bound peripherals a s lines before between b mid
       → RunsAndWrites bound peripherals b mid more between after c left
       → RunsAndWrites bound peripherals a s (lines ++ more) before after c left
-  tells_join a b c s mid left lines more before between after first second = record {
+  tells_join {a = a} {b = b} {c = c} {s = s} {mid = mid} {left = left} {lines = lines} {more = more} first second = record {
     text = first.text ++ second.text;
     runs = λ standing leaves.
         let (one, leave, done) = first.runs standing leaves in
@@ -190,11 +188,11 @@ module _ {D P : Type 0} (bound : DiskGhosts D) (peripherals : Ghosts P) where
   StopsAlone a s line before after b left =
       (text : List ℕ) × Transcript (IsRun bound peripherals) a s (line ∷ []) text left b × IsCut before after text
 
-  alone : (a b mid : Counter D P) (s between left : Session) (line at : List ℕ) (earlier later : List (List ℕ))
-      (before given after : Given)
+  alone : {a b mid : Counter D P} {s between left : Session} {line at : List ℕ} (earlier later : List (List ℕ))
+      {before given after : Given}
       → line ∷ [] ≡ earlier ++ at ∷ later → Finishes (IsRun bound peripherals) a s earlier before given between mid
       → StopsAt (IsRun bound peripherals) mid between at given after left b → StopsAlone a s line before after b left
-  alone a b mid s between left line at [] later before given after split done failed =
+  alone {a = a} {b = b} {mid = mid} {s = s} {between = between} {left = left} {line = line} {at = at} [] later {before = before} {given = given} {after = after} split done failed =
       let (none, nothing, names) = done.transcript.prints in
       let same : at ≡ line = sym (ap (λ (ls : List (List ℕ)). get_or ls 0 []) split) in
       let still : mid ≡ a = subst (λ (ss : List (Request × Response)). IsRun bound peripherals a ss mid) none
@@ -220,28 +218,26 @@ module _ {D P : Type 0} (bound : DiskGhosts D) (peripherals : Ghosts P) where
         },
         subst (λ g. IsCut g after (printed failed.reply)) first failed.cut,
       )
-  alone a b mid s between left line at (x ∷ xs) later before given after split done failed =
+  alone {at = at} (x ∷ xs) later split done failed =
       let count : 1 ≡ suc (length (xs ++ at ∷ later)) = ap length split in
       absurd (omega (arith, count, length-append xs (at ∷ later)))
 
-  stops_alone : (a b : Counter D P) (s left : Session) (line : List ℕ) (before after : Given)
+  stops_alone : {a b : Counter D P} {s left : Session} {line : List ℕ} {before after : Given}
       → Stops (IsRun bound peripherals) a s (line ∷ []) before after left b → StopsAlone a s line before after b left
-  stops_alone a b s left line before after h =
-      alone a b h.mid s h.between left line h.line h.earlier h.later before h.given after h.split h.done h.failed
+  stops_alone h =
+      alone h.earlier h.later h.split h.done h.failed
 
   module _ (a b : Counter D P) (s left : Session) (lines : List (List ℕ)) (line : List ℕ) (only : lines ≡ line ∷ [])
-      (start before after now : Given)
-      (empty : start ≡ given_with [] 0) (far : Progress) where
+      (start before after now : Given) (empty : start ≡ given_with [] 0) (far : Progress) where
     -- a line whose text failed
     pub cuts_failed : Stops (IsRun bound peripherals) a s lines start now left b
-        → (now.faults ≡ 0) ⊎ (8 ≤ length now.bytes)
-        → GivesFront before after now.bytes
+        → (now.faults ≡ 0) ⊎ (8 ≤ length now.bytes) → GivesFront before after now.bytes
         → (cuts : Cuts bound peripherals a s line before after b left) × IsNotHeld far cuts.text
     cuts_failed h fails (given, held, split, written) =
         let stops : Stops (IsRun bound peripherals) a s (line ∷ []) (given_with [] 0) now left b =
         subst (λ g. Stops (IsRun bound peripherals) a s (line ∷ []) g now left b) empty
         (subst (λ (ls : List (List ℕ)). Stops (IsRun bound peripherals) a s ls start now left b) only h) in
-        let (text, done, cut) = stops_alone a b s left line (given_with [] 0) now stops in
+        let (text, done, cut) = stops_alone stops in
         let (front, back, is, some, failed) = cut in
         let bytes : now.bytes ≡ front = ap (λ (g : Given). g.bytes) failed in
         let faults : now.faults ≡ 1 = ap (λ (g : Given). g.faults) failed in
@@ -249,7 +245,7 @@ module _ {D P : Type 0} (bound : DiskGhosts D) (peripherals : Ghosts P) where
         (λ are. subst (λ l. 8 ≤ length l) bytes are) fails in (
           record {
             text = text;
-            runs = runs_lines a b s left (line ∷ []) text done;
+            runs = runs_lines done;
             front = (
               given,
               held ++ back,
@@ -275,7 +271,7 @@ module _ {D P : Type 0} (bound : DiskGhosts D) (peripherals : Ghosts P) where
       tells_given written not_held = (
         record {
           text = done.text;
-          runs = runs_lines a b s left (line ∷ []) done.text ran;
+          runs = runs_lines ran;
           written = subst (Appends before after) bytes_are written;
           kept = run_keeps a b ran.steps ran.run;
         },
@@ -288,7 +284,7 @@ module _ {D P : Type 0} (bound : DiskGhosts D) (peripherals : Ghosts P) where
       cuts_given front not_held = (
         record {
           text = done.text;
-          runs = runs_lines a b s left (line ∷ []) done.text ran;
+          runs = runs_lines ran;
           front = subst (GivesFront before after) bytes_are front;
           kept = run_keeps a b ran.steps ran.run;
         },
@@ -303,7 +299,7 @@ module _ {D P : Type 0} (bound : DiskGhosts D) (peripherals : Ghosts P) where
           record {
             stays = λ standing leaves.
                 let (later, leave, run) = machine_runs bound peripherals a b ran.steps standing leaves ran.run in
-                let (same, names) = one_wanting s left line ran.steps _ _ prints run in
+                let (same, names) = one_wanting line prints run in
                 (later, leave, same, names);
             nothing = refl;
             kept = run_keeps a b ran.steps ran.run;
@@ -311,29 +307,27 @@ module _ {D P : Type 0} (bound : DiskGhosts D) (peripherals : Ghosts P) where
 
   -- what a line leaves, by what became of it
   pub leaves_as : (course_of : P → Course) (Then : Progress → List ℕ → Type 0) (a b : Counter D P) (s left : Session)
-      (line : List ℕ) (before after : Given)
-      (result known : Result LineProgress WriteFault) → result ≡ known
-      → LineLeaves bound peripherals course_of Then a s line before after result b left
+      (line : List ℕ) (before after : Given) {result known : Result LineProgress WriteFault}
+      → result ≡ known → LineLeaves bound peripherals course_of Then a s line before after result b left
       → LineLeaves bound peripherals course_of Then a s line before after known b left
-  leaves_as course_of Then a b s left line before after result known is h =
+  leaves_as course_of Then a b s left line before after is h =
       subst (λ r. LineLeaves bound peripherals course_of Then a s line before after r b left) is h
 
   -- a line after which the counter is settled
-  pub tells_settled : (a b c : Counter D P) (s left : Session) (line : List ℕ) (before after : Given) (far : Progress)
+  pub tells_settled : {a b c : Counter D P} {s left : Session} {line : List ℕ} {before after : Given} {far : Progress}
       (Then : List ℕ → Type 0)
       → (tells : RunsAndWrites bound peripherals a s (line ∷ []) before after b left) × Then tells.text
       → Stays peripherals b c → far ≡ progress.Ready
       → (tells : RunsAndWrites bound peripherals a s (line ∷ []) before after c left) × IsReady far tells.text
-  tells_settled a b c s left line before after far Then (h, then) stays ready =
-      (tells_stay a b c s left (line ∷ []) before after h stays, ready)
+  tells_settled Then (h, then) stays ready =
+      (tells_stay h stays, ready)
 
-  pub cuts_settled : (a b c : Counter D P) (s left : Session) (line : List ℕ) (before after : Given) (far : Progress)
+  pub cuts_settled : {a b c : Counter D P} {s left : Session} {line : List ℕ} {before after : Given} {far : Progress}
       (Then : List ℕ → Type 0)
       → (cuts : Cuts bound peripherals a s line before after b left) × Then cuts.text → Stays peripherals b c
-      → far ≡ progress.Ready
-      → (cuts : Cuts bound peripherals a s line before after c left) × IsReady far cuts.text
-  cuts_settled a b c s left line before after far Then (h, then) stays ready =
-      (cuts_stay a b c s left line before after h stays, ready)
+      → far ≡ progress.Ready → (cuts : Cuts bound peripherals a s line before after c left) × IsReady far cuts.text
+  cuts_settled Then (h, then) stays ready =
+      (cuts_stay h stays, ready)
 
   module _ {A : Type 0} where
     -- no line yet
@@ -341,37 +335,36 @@ module _ {D P : Type 0} (bound : DiskGhosts D) (peripherals : Ghosts P) where
         → CarriesOn bound peripherals c s texts texts given given c s
     carries_none c s texts given = record { carried = []; split = refl; tells = tells_none c s given }
 
-    module _ (a b c : Counter D P) (s mid left : Session) (texts : List (Vec ℕ A)) (before between after : Given) where
+    module _ (a b : Counter D P) {c : Counter D P} (s : Session) {mid : Session} (left : Session) {texts : List (Vec ℕ A)} (before : Given) {between : Given} (after : Given) where
       -- one line more
-      pub carries_line : (text : Vec ℕ A) (rest : List (Vec ℕ A)) (line : List ℕ) → lines_of text.items ≡ line ∷ []
+      pub carries_line : {text : Vec ℕ A} {rest : List (Vec ℕ A)} {line : List ℕ} → lines_of text.items ≡ line ∷ []
           → CarriesOn bound peripherals a s texts (text ∷ rest) before between b mid
           → RunsAndWrites bound peripherals b mid (line ∷ []) between after c left
           → CarriesOn bound peripherals a s texts rest before after c left
-      carries_line text rest line is h tells = record {
+      carries_line {rest = rest} {line = line} is h tells = record {
         carried = h.carried ++ line ∷ [];
         split = h.split ∙ ap (λ (ls : List (List ℕ)). h.carried ++ (ls ++ lines_in rest)) is
             ∙ sym (append_assoc h.carried (line ∷ []) (lines_in rest));
-        tells = tells_join a b c s mid left h.carried (line ∷ []) before between after h.tells tells;
+        tells = tells_join h.tells tells;
       }
 
       -- a line that is held back
-      pub carries_held : (left_texts : List (Vec ℕ A))
+      pub carries_held : {left_texts : List (Vec ℕ A)}
           → CarriesOn bound peripherals a s texts left_texts before between b mid
           → Holds bound peripherals b mid between after c left
           → CarriesOn bound peripherals a s texts left_texts before after c left
-      carries_held left_texts h held = record {
+      carries_held {left_texts = left_texts} h held = record {
         carried = h.carried ++ [];
         split = h.split ∙ ap (λ (ls : List (List ℕ)). ls ++ lines_in left_texts) (sym (append-nil h.carried));
-        tells = tells_join a b c s mid left h.carried [] before between after h.tells
-            (tells_held b c mid left between after held);
+        tells = tells_join h.tells (tells_held held);
       }
 
       -- a line at which a write failed
-      pub cuts_off : (text : Vec ℕ A) (rest : List (Vec ℕ A)) (line : List ℕ) → lines_of text.items ≡ line ∷ []
+      pub cuts_off : {text : Vec ℕ A} {rest : List (Vec ℕ A)} {line : List ℕ} → lines_of text.items ≡ line ∷ []
           → CarriesOn bound peripherals a s texts (text ∷ rest) before between b mid
           → Cuts bound peripherals b mid line between after c left
           → CutsOff bound peripherals a s texts rest before after c left
-      cuts_off text rest line is h cuts = record {
+      cuts_off {rest = rest} {line = line} is h cuts = record {
         carried = h.carried;
         line = line;
         given = between;
@@ -383,21 +376,21 @@ module _ {D P : Type 0} (bound : DiskGhosts D) (peripherals : Ghosts P) where
       }
 
     -- then the counter stays as it is to the machine
-    pub carries_stay : (a b c : Counter D P) (s left : Session) (texts left_texts : List (Vec ℕ A))
-        (before after : Given)
+    pub carries_stay : {a b c : Counter D P} {s left : Session} {texts left_texts : List (Vec ℕ A)}
+        {before after : Given}
         → CarriesOn bound peripherals a s texts left_texts before after b left → Stays peripherals b c
         → CarriesOn bound peripherals a s texts left_texts before after c left
-    carries_stay a b c s left texts left_texts before after h stays = record {
+    carries_stay h stays = record {
       carried = h.carried;
       split = h.split;
-      tells = tells_stay a b c s left h.carried before after h.tells stays;
+      tells = tells_stay h.tells stays;
     }
 
 -- the first of some
-pub first_of : {A : Type 0} (xs ys : List A) (x : A) → 0 < length xs → x ≡ slice_index_or xs 0 x → ys ≡ drop 1 xs
+pub first_of : {A : Type 0} (xs : List A) {ys : List A} {x : A} → 0 < length xs → x ≡ slice_index_or xs 0 x → ys ≡ drop 1 xs
     → xs ≡ x ∷ ys
-first_of [] ys x some is rest = absurd (omega (arith, some))
-first_of (z ∷ zs) ys x some is rest = rw (is, rest) refl
+first_of [] some is rest = absurd (omega (arith, some))
+first_of (z ∷ zs) some is rest = rw (is, rest) refl
 
 -- nothing is left where there is no first
 pub none_left : {A : Type 0} (xs : List A) → (0 < length xs → false ≡ true) → xs ≡ []

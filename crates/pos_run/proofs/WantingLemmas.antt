@@ -27,60 +27,60 @@ use Rattle.pos_run.specs.Transcript.{AskingBecomes, LineBecomes, LinesPrint, Out
 use Rattle.pos_run.specs.Transcript.{Session, passed_over, rebuke, request_of, session_after, turned_down}
 
 -- the first letter of a text
-head_of : (l m : List ℕ) → l ≡ m → get_or l 0 0 ≡ get_or m 0 0
-head_of l m e = ap (λ x. get_or x 0 0) e
+head_of : {l m : List ℕ} → l ≡ m → get_or l 0 0 ≡ get_or m 0 0
+head_of e = ap (λ x. get_or x 0 0) e
 
-clash : (n : ℕ) (l : List ℕ) → (n ≡ 109 → ⊥) → n ∷ l ≡ codes "memory" → ⊥
-clash n l differs e = differs (head_of (n ∷ l) (codes "memory") e)
+clash : {n : ℕ} {l : List ℕ} → (n ≡ 109 → ⊥) → n ∷ l ≡ codes "memory" → ⊥
+clash differs e = differs (head_of e)
 
 mechanism_differs : (f : Mechanism) → mechanism_text f ≡ codes "memory" → ⊥
-mechanism_differs (mechanism.Drawer true) e = clash 111 _ (λ x. omega (arith, x)) e
-mechanism_differs (mechanism.Drawer false) e = clash 111 _ (λ x. omega (arith, x)) e
-mechanism_differs mechanism.Scanner e = clash 111 _ (λ x. omega (arith, x)) e
-mechanism_differs (mechanism.Display shown) e = clash 111 _ (λ x. omega (arith, x)) e
-mechanism_differs (mechanism.Printer paper) e = clash 111 _ (λ x. omega (arith, x)) e
+mechanism_differs (mechanism.Drawer true) e = clash (λ x. omega (arith, x)) e
+mechanism_differs (mechanism.Drawer false) e = clash (λ x. omega (arith, x)) e
+mechanism_differs mechanism.Scanner e = clash (λ x. omega (arith, x)) e
+mechanism_differs (mechanism.Display shown) e = clash (λ x. omega (arith, x)) e
+mechanism_differs (mechanism.Printer paper) e = clash (λ x. omega (arith, x)) e
 
 -- only want of memory is told as `memory`
 wants_memory : (r : Response) → response_text r ≡ codes "memory" → r ≡ OutOfMemory
-wants_memory (Made number) e = absurd (clash 111 _ (λ x. omega (arith, x)) e)
-wants_memory Full e = absurd (clash 114 _ (λ x. omega (arith, x)) e)
-wants_memory (Answered (answer.Done value)) e = absurd (clash 111 _ (λ x. omega (arith, x)) e)
-wants_memory (Answered (answer.Refused code extended)) e = absurd (clash 101 _ (λ x. omega (arith, x)) e)
-wants_memory TakenIn e = absurd (clash 111 _ (λ x. omega (arith, x)) e)
-wants_memory NoDevice e = absurd (clash 98 _ (λ x. omega (arith, x)) e)
-wants_memory WrongInput e = absurd (clash 98 _ (λ x. omega (arith, x)) e)
-wants_memory (Worked worked.Idle) e = absurd (clash 105 _ (λ x. omega (arith, x)) e)
-wants_memory (Worked (worked.Done id)) e = absurd (clash 100 _ (λ x. omega (arith, x)) e)
-wants_memory (Worked (worked.Failed code extended)) e = absurd (clash 102 _ (λ x. omega (arith, x)) e)
-wants_memory (Delivered None) e = absurd (clash 110 _ (λ x. omega (arith, x)) e)
-wants_memory (Delivered (Some (event.StatusUpdate n))) e = absurd (clash 101 _ (λ x. omega (arith, x)) e)
-wants_memory (Delivered (Some event.Data)) e = absurd (clash 101 _ (λ x. omega (arith, x)) e)
-wants_memory (Delivered (Some (event.Error code extended locus))) e = absurd (clash 101 _ (λ x. omega (arith, x)) e)
-wants_memory (Delivered (Some (event.OutputComplete id))) e = absurd (clash 101 _ (λ x. omega (arith, x)) e)
+wants_memory (Made number) e = absurd (clash (λ x. omega (arith, x)) e)
+wants_memory Full e = absurd (clash (λ x. omega (arith, x)) e)
+wants_memory (Answered (answer.Done value)) e = absurd (clash (λ x. omega (arith, x)) e)
+wants_memory (Answered (answer.Refused code extended)) e = absurd (clash (λ x. omega (arith, x)) e)
+wants_memory TakenIn e = absurd (clash (λ x. omega (arith, x)) e)
+wants_memory NoDevice e = absurd (clash (λ x. omega (arith, x)) e)
+wants_memory WrongInput e = absurd (clash (λ x. omega (arith, x)) e)
+wants_memory (Worked worked.Idle) e = absurd (clash (λ x. omega (arith, x)) e)
+wants_memory (Worked (worked.Done id)) e = absurd (clash (λ x. omega (arith, x)) e)
+wants_memory (Worked (worked.Failed code extended)) e = absurd (clash (λ x. omega (arith, x)) e)
+wants_memory (Delivered None) e = absurd (clash (λ x. omega (arith, x)) e)
+wants_memory (Delivered (Some (event.StatusUpdate n))) e = absurd (clash (λ x. omega (arith, x)) e)
+wants_memory (Delivered (Some event.Data)) e = absurd (clash (λ x. omega (arith, x)) e)
+wants_memory (Delivered (Some (event.Error code extended locus))) e = absurd (clash (λ x. omega (arith, x)) e)
+wants_memory (Delivered (Some (event.OutputComplete id))) e = absurd (clash (λ x. omega (arith, x)) e)
 wants_memory (Shown snapshot) e = absurd (mechanism_differs snapshot.0.mechanism e)
-wants_memory Attached e = absurd (clash 111 _ (λ x. omega (arith, x)) e)
-wants_memory (NotAttached attach.Unknown given) e = absurd (clash 114 _ (λ x. omega (arith, x)) e)
-wants_memory (NotAttached attach.KindDiffers given) e = absurd (clash 114 _ (λ x. omega (arith, x)) e)
-wants_memory (NotAttached attach.InUse given) e = absurd (clash 114 _ (λ x. omega (arith, x)) e)
-wants_memory (Detached given) e = absurd (clash 111 _ (λ x. omega (arith, x)) e)
-wants_memory (NotDetached detach.Unknown) e = absurd (clash 114 _ (λ x. omega (arith, x)) e)
-wants_memory (NotDetached detach.Vacant) e = absurd (clash 114 _ (λ x. omega (arith, x)) e)
-wants_memory (NotDetached detach.InUse) e = absurd (clash 114 _ (λ x. omega (arith, x)) e)
+wants_memory Attached e = absurd (clash (λ x. omega (arith, x)) e)
+wants_memory (NotAttached attach.Unknown given) e = absurd (clash (λ x. omega (arith, x)) e)
+wants_memory (NotAttached attach.KindDiffers given) e = absurd (clash (λ x. omega (arith, x)) e)
+wants_memory (NotAttached attach.InUse given) e = absurd (clash (λ x. omega (arith, x)) e)
+wants_memory (Detached given) e = absurd (clash (λ x. omega (arith, x)) e)
+wants_memory (NotDetached detach.Unknown) e = absurd (clash (λ x. omega (arith, x)) e)
+wants_memory (NotDetached detach.Vacant) e = absurd (clash (λ x. omega (arith, x)) e)
+wants_memory (NotDetached detach.InUse) e = absurd (clash (λ x. omega (arith, x)) e)
 wants_memory OutOfMemory e = refl
 
 -- want of memory leaves the machine as it was
-of_wants : (m n : Machine) (number : ℕ) (call : Call) (o : Option Control)
+of_wants : {m n : Machine} (number : ℕ) (call : Call) (o : Option Control)
     → MatchOption o ⊥ (λ control. Wants m number control call n) → n ≡ m
-of_wants m n number call None h = absurd h
-of_wants m n number call (Some control) h = h.2
+of_wants number call None h = absurd h
+of_wants number call (Some control) h = h.2
 
-pub no_step : (m n : Machine) (q : Request) → Step m q OutOfMemory n → n ≡ m
-no_step m n (NewControl u category) h = h.1
-no_step m n (CallOf number call) h = of_wants m n number call (slice_get m.controls number) h
-no_step m n (InputTo name input) h = h.1
-no_step m n (WorkOn name) h = h.1
-no_step m n (Snapshot name) h = h.1
-no_step m n other h = absurd h
+pub no_step : {m n : Machine} (q : Request) → Step m q OutOfMemory n → n ≡ m
+no_step (NewControl u category) h = h.1
+no_step {m = m} (CallOf number call) h = of_wants number call (slice_get m.controls number) h
+no_step (InputTo name input) h = h.1
+no_step (WorkOn name) h = h.1
+no_step (Snapshot name) h = h.1
+no_step other h = absurd h
 
 -- and the names and the spares
 kept : (s : Session) (asking : LineRequest) → session_after s asking OutOfMemory ≡ s
@@ -96,44 +96,43 @@ told_in None = []
 told_in (Some text) = text
 
 module _ (s : Session) (m n : Machine) where
-  asked_nothing : (o : Outcome) (reply : Option (List ℕ)) → o ≡ record { reply = reply; steps = []; session = s }
+  asked_nothing : {o : Outcome} {reply : Option (List ℕ)} → o ≡ record { reply = reply; steps = []; session = s }
       → Quiets s o m n
-  asked_nothing o reply is = subst (λ x. Quiets s x m n) (sym is) (λ told run. (run, refl))
+  asked_nothing is = subst (λ x. Quiets s x m n) (sym is) (λ told run. (run, refl))
 
-  by_response : (asking : LineRequest) (request : Request) (r : Response) → r ≡ OutOfMemory
-      → Run m ((request, r) ∷ []) n
-      → (n ≡ m) × (session_after s asking r ≡ s)
-  by_response asking request r is run = (
-    run.2 ∙ no_step m run.0 request (subst (λ x. Step m request x run.0) is run.1),
+  by_response : (asking : LineRequest) (request : Request) {r : Response} → r ≡ OutOfMemory
+      → Run m ((request, r) ∷ []) n → (n ≡ m) × (session_after s asking r ≡ s)
+  by_response asking request is run = (
+    run.2 ∙ no_step request (subst (λ x. Step m request x run.0) is run.1),
     ap (session_after s asking) is ∙ kept s asking,
   )
 
-  by_request : (asking : LineRequest) (o : Outcome) (request : Request) → RequestBecomes s asking request o
+  by_request : (asking : LineRequest) {o : Outcome} {request : Request} → RequestBecomes s asking request o
       → Quiets s o m n
-  by_request asking o request (inl none) = asked_nothing o _ none.1
-  by_request asking o request (inr (r, is)) = subst (λ x. Quiets s x m n) (sym is) (λ told run.
-      by_response asking request r (wants_memory r (ap told_in told)) run)
+  by_request asking (inl none) = asked_nothing none.1
+  by_request asking {request = request} (inr (r, is)) = subst (λ x. Quiets s x m n) (sym is) (λ told run.
+      by_response asking request (wants_memory r (ap told_in told)) run)
 
   by_asking : (asking : LineRequest) (o : Outcome) (request : Option Request)
       → MatchOption request (o ≡ turned_down s (rebuke asking)) (λ q. RequestBecomes s asking q o) → Quiets s o m n
-  by_asking asking o None is = asked_nothing o _ is
-  by_asking asking o (Some request) becomes = by_request asking o request becomes
+  by_asking asking o None is = asked_nothing is
+  by_asking asking o (Some request) becomes = by_request asking becomes
 
-  by_kept : (is_kept : Bool) (asking : LineRequest) (o : Outcome)
+  by_kept : {is_kept : Bool} (asking : LineRequest) {o : Outcome}
       → (IsTrue is_kept × (o ≡ turned_down s (reply_text reply.Memory))) ⊎ AskingBecomes s asking o → Quiets s o m n
-  by_kept is_kept asking o (inl none) = asked_nothing o _ none.1
-  by_kept is_kept asking o (inr becomes) = by_asking asking o (request_of s asking) becomes
+  by_kept asking (inl none) = asked_nothing none.1
+  by_kept asking {o = o} (inr becomes) = by_asking asking o (request_of s asking) becomes
 
   by_reading : (is_kept : Bool) (o : Outcome) (value : Option LineRequest)
       → MatchOption value (o ≡ turned_down s (reply_text reply.BadLine))
       (λ asking. (IsTrue is_kept × (o ≡ turned_down s (reply_text reply.Memory))) ⊎ AskingBecomes s asking o)
       → Quiets s o m n
-  by_reading is_kept o None is = asked_nothing o _ is
-  by_reading is_kept o (Some asking) becomes = by_kept is_kept asking o becomes
+  by_reading is_kept o None is = asked_nothing is
+  by_reading is_kept o (Some asking) becomes = by_kept asking becomes
 
   by_quiet : (reading : Reading LineRequest) (o : Outcome) (is : Bool)
       → MatchBool is (o ≡ passed_over s) (ReadingBecomes s reading o) → Quiets s o m n
-  by_quiet reading o true is = asked_nothing o _ is
+  by_quiet reading o true is = asked_nothing is
   by_quiet reading o false becomes = by_reading reading.is_kept o reading.value becomes
 
   -- a line that printed `memory` changed nothing
@@ -146,9 +145,9 @@ told_memory None e = absurd (let d : 0 ≡ 10 = ap (λ x. get_or x 6 0) e in ome
 told_memory (Some r) e = ap Some (append_cancel_right r (codes "memory") (10 ∷ []) e)
 
 -- one line that printed it
-pub one_wanting : (s left : Session) (line : List ℕ) (steps : List (Request × Response)) (m n : Machine)
+pub one_wanting : {s left : Session} (line : List ℕ) {steps : List (Request × Response)} {m n : Machine}
     → LinesPrint s (line ∷ []) steps (codes "memory\n") left → Run m steps n → (n ≡ m) × (left ≡ s)
-one_wanting s left line steps m n (o, more, rest, becomes, (none, nothing, same), is_steps, is_text) run =
+one_wanting {s = s} line {steps = steps} {m = m} {n = n} (o, more, rest, becomes, (none, nothing, same), is_steps, is_text) run =
     let all : steps ≡ o.steps = is_steps ∙ ap (λ x. o.steps ++ x) none ∙ append-nil o.steps in
     let text : printed o.reply ≡ codes "memory\n" =
     sym (is_text ∙ ap (λ x. printed o.reply ++ x) nothing ∙ append-nil (printed o.reply)) in

@@ -75,56 +75,53 @@ nothing_kept : (line : List ℕ) → is_kept_nothing (kept_of line) ≡ is_nothi
 nothing_kept line = grind arith
 
 -- at the end of the input
-pub input_ends : (read : List ℕ) (kept : Kept) (e : Bool) → e ≡ is_kept_nothing kept → StandsFor kept read
+pub input_ends : (read : List ℕ) {kept : Kept} {e : Bool} → e ≡ is_kept_nothing kept → StandsFor kept read
     → EndsInput read e kept
-input_ends read kept e is stands =
+input_ends read {kept = kept} is stands =
     let same = is ∙ ap is_kept_nothing stands ∙ nothing_kept (unfinished read) in
     let split : lines_of read ≡ complete_lines read ++ last_line (unfinished read) = two_parts (pieces 10 read) in
     let held : IsHeld kept (unfinished read) = rw stands (held_last (unfinished read)) in
     grind (arith, append-nil)
 
 -- bytes without a line feed come behind what was read
-pub adds_to : (read bytes : List ℕ) (old new : Kept) → have_no_feed bytes ≡ true → new ≡ kept_with old bytes
-    → StandsFor old read
-    → StandsFor new (read ++ bytes)
-adds_to read bytes old new free adds stands =
+pub adds_to : (read bytes : List ℕ) {old new : Kept} → have_no_feed bytes ≡ true → new ≡ kept_with old bytes
+    → StandsFor old read → StandsFor new (read ++ bytes)
+adds_to read bytes free adds stands =
     adds ∙ ap (λ k. kept_with k bytes) stands ∙ kept_more (unfinished read) bytes
     ∙ ap kept_of (sym (adds_rest read bytes free))
 
 -- a piece without a line feed
-pub feeds_all : (read piece : List ℕ) (n : ℕ) (old new : Kept) → have_no_feed (take n piece) ≡ true → n ≡ length piece
+pub feeds_all : (read piece : List ℕ) {n : ℕ} {old new : Kept} → have_no_feed (take n piece) ≡ true → n ≡ length piece
     → new ≡ kept_with old (take n piece)
     → StandsFor old read → (complete_lines (read ++ piece) ≡ complete_lines read) × StandsFor new (read ++ piece)
-feeds_all read piece n old new free is adds stands =
+feeds_all read piece {n = n} {old = old} free is adds stands =
     let all : take n piece ≡ piece = take_all n piece (omega (arith, is)) in (
       adds_lines read piece (ap have_no_feed (sym all) ∙ free),
-      adds_to read piece old new (ap have_no_feed (sym all) ∙ free) (adds ∙ ap (λ bs. kept_with old bs) all) stands,
+      adds_to read piece (ap have_no_feed (sym all) ∙ free) (adds ∙ ap (λ bs. kept_with old bs) all) stands,
     )
 
-nothing_is : (xs : List ℕ) → is_nothing xs ≡ true → xs ≡ []
-nothing_is xs h = grind arith
+nothing_is : {xs : List ℕ} → is_nothing xs ≡ true → xs ≡ []
+nothing_is h = grind arith
 
 -- a piece whose first line feed stands at a place: what is before it, with it, and what is behind it
 cut_at : (piece : List ℕ) (n : ℕ) → n < length piece → get_or piece n 0 ≡ 10
     → piece ≡ (take n piece ++ 10 ∷ []) ++ take (length piece - (n + 1)) (drop (n + 1) piece)
 cut_at piece n lt feed =
     let front = take n piece in
-    sym (take-append-drop n piece)
-    ∙ ap (λ x. front ++ x) (drop_more piece n 0 lt ∙ ap (λ b. b ∷ drop (n + 1) piece) feed)
-    ∙ sym (append_assoc front (10 ∷ []) (drop (n + 1) piece))
-    ∙ ap (λ x. (front ++ 10 ∷ []) ++ x) (sym (take_rest piece (n + 1)))
+    sym (take-append-drop n piece) ∙ ap (λ x. front ++ x) (drop_more piece n 0 lt ∙ ap (λ b. b ∷ drop (n + 1) piece)
+    feed) ∙ sym (append_assoc front (10 ∷ []) (drop (n + 1) piece)) ∙ ap (λ x. (front ++ 10 ∷ []) ++ x)
+    (sym (take_rest piece (n + 1)))
 
 -- where nothing is kept, a piece with its first line feed at a place, before which this line stands
-pub feeds_whole : (read piece : List ℕ) (n : ℕ) (kept : Kept) (line : Line) → have_no_feed (take n piece) ≡ true
+pub feeds_whole : (read : List ℕ) {piece : List ℕ} {n : ℕ} {kept : Kept} (line : Line) → have_no_feed (take n piece) ≡ true
     → n < length piece → get_or piece n 0 ≡ 10
     → is_kept_nothing kept ≡ true → IsLine line (without_cr (take n piece)) → StandsFor kept read
     → (taken : List ℕ) × (piece ≡ taken ++ take (length piece - (n + 1)) (drop (n + 1) piece))
     × EndsLine read taken (ended.InPiece line) kept
-feeds_whole read piece n kept line free lt feed nothing is stands =
+feeds_whole read {piece = piece} {n = n} line free lt feed nothing is stands =
     let front = take n piece in
     let none : unfinished read ≡ [] =
-    nothing_is (unfinished read) (sym (nothing_kept (unfinished read)) ∙ ap is_kept_nothing (sym stands)
-    ∙ nothing) in (
+    nothing_is (sym (nothing_kept (unfinished read)) ∙ ap is_kept_nothing (sym stands) ∙ nothing) in (
       front ++ 10 ∷ [],
       cut_at piece n lt feed,
       (
@@ -136,12 +133,12 @@ feeds_whole read piece n kept line free lt feed nothing is stands =
     )
 
 -- a piece with its first line feed at a place
-pub feeds_line : (read piece : List ℕ) (n : ℕ) (old mid new : Kept) → have_no_feed (take n piece) ≡ true
+pub feeds_line : (read : List ℕ) {piece : List ℕ} {n : ℕ} {old mid new : Kept} → have_no_feed (take n piece) ≡ true
     → n < length piece → get_or piece n 0 ≡ 10
     → mid ≡ kept_with old (take n piece) → new ≡ kept_ended mid → StandsFor old read
     → (taken : List ℕ) × (piece ≡ taken ++ take (length piece - (n + 1)) (drop (n + 1) piece))
     × EndsLine read taken ended.Held new
-feeds_line read piece n old mid new free lt feed adds ends stands =
+feeds_line read {piece = piece} {n = n} {new = new} free lt feed adds ends stands =
     let front = take n piece in
     let line = unfinished read ++ front in
     let held : new ≡ kept_ended (kept_of line) =

@@ -31,13 +31,11 @@ lines_complete bytes ended =
 pub lines_more : (front more : List ℕ) → unfinished front ≡ []
     → lines_of (front ++ more) ≡ lines_of front ++ lines_of more
 lines_more front more ended =
-    lines_two (front ++ more)
-    ∙ ap (λ ls. ls ++ last_line (unfinished (front ++ more)))
-    (go_on_lines front more ∙ ap (λ bytes. complete_lines front ++ complete_lines (bytes ++ more)) ended)
-    ∙ ap (λ rest. (complete_lines front ++ complete_lines more) ++ last_line rest)
-    (go_on_rest front more ∙ ap (λ bytes. unfinished (bytes ++ more)) ended)
-    ∙ append_assoc (complete_lines front) (complete_lines more) (last_line (unfinished more))
-    ∙ ap (λ ls. complete_lines front ++ ls) (sym (lines_two more))
+    lines_two (front ++ more) ∙ ap (λ ls. ls ++ last_line (unfinished (front ++ more)))
+    (go_on_lines front more ∙ ap (λ bytes. complete_lines front ++ complete_lines (bytes ++ more)) ended) ∙ ap
+    (λ rest. (complete_lines front ++ complete_lines more) ++ last_line rest)
+    (go_on_rest front more ∙ ap (λ bytes. unfinished (bytes ++ more)) ended) ∙ append_assoc (complete_lines front)
+    (complete_lines more) (last_line (unfinished more)) ∙ ap (λ ls. complete_lines front ++ ls) (sym (lines_two more))
     ∙ ap (λ ls. ls ++ lines_of more) (sym (lines_complete front ended))
 
 -- and end with a line feed, if these do
@@ -60,27 +58,25 @@ ended_more [] turn are is = (is, tt)
 ended_more (other ∷ turns) turn (first, are) is = (first, ended_more turns turn are is)
 
 -- one more line was typed and answered
-pub answers_more : (style : AnswerStyle) (turns : List Turn) (session middle left : Session)
+pub answers_more : {style : AnswerStyle} (turns : List Turn) (session middle left : Session)
     (first last : List (Request × Response))
-    (old between new : Streams) → AnswersLines style turns session first old between middle
+    (old : Streams) {between new : Streams} → AnswersLines style turns session first old between middle
     → AnswersLine style middle last between new true (Ok tt) left
     → (turn : Turn) × AnswersLines style (turns ++ turn ∷ []) session (first ++ last) old new left
-answers_more style turns session middle left first last old between new done one =
+answers_more {style = style} turns session middle left first last old done one =
     let (answers, prints, written) = one.told in
     let turn : Turn = record { name = []; script = one.text; answers = answers } in (
       turn,
       record {
         ended = ended_more turns turn done.ended one.taken.0;
-        taken = one.taken.1 ∙ ap (λ taken. taken_after taken one.text) done.taken
-            ∙ taken_twice old.taken (typed turns) one.text
-            ∙ ap (λ text. taken_after old.taken text) (sym (one_more (λ (t : Turn). t.script) turns turn));
+        taken = one.taken.1 ∙ ap (λ taken. taken_after taken one.text) done.taken ∙ taken_twice old.taken (typed turns)
+            one.text ∙ ap (λ text. taken_after old.taken text) (sym (one_more (λ (t : Turn). t.script) turns turn));
         prints = rw (
           one_more (λ (t : Turn). t.script) turns turn,
           one_more (λ (t : Turn). t.answers) turns turn,
           lines_more (typed turns) one.text (typed_ends turns done.ended),
-        )
-            (prints_join session (lines_of (typed turns)) first _ middle
-            (lines_of one.text) last answers left done.prints prints);
+        ) (prints_join session (lines_of (typed turns)) first _ middle (lines_of one.text) last answers left done.prints
+            prints);
         given = rw (one_more (exchange_text style) turns turn)
             (Appends-trans _ _ _ (flat_map (exchange_text style) turns) (exchange_text style turn) done.given
             (Appends-trans _ _ _ prompt (turn_text style turn) one.prompted.0 written.0));
@@ -89,14 +85,13 @@ answers_more style turns session middle left first last old between new done one
     )
 
 -- the terminal's line was ended after the last line that was typed, or couldn't be
-pub ends_typed : (style : AnswerStyle) (session : Session) (steps : List (Request × Response)) (old mid : Streams)
-    (after : Output)
-    (result : Result (Unit {0}) ScriptsFault) (left : Session)
+pub ends_typed : {style : AnswerStyle} {session : Session} {steps : List (Request × Response)} {old : Streams}
+    (mid : Streams) (after : Output) (result : Result (Unit {0}) ScriptsFault) {left : Session}
     → AnswersLine style session steps old mid false (Ok tt) left
-    → MatchResult result (λ _. IsWritten mid.output after (codes "\n"))
-    (λ why. (why ≡ fault.Write) × IsCutOff mid.output after (codes "\n"))
+    → MatchResult result (λ _. IsWritten mid.output after (codes "\n")) (λ why. (why ≡ fault.Write) × IsCutOff
+    mid.output after (codes "\n"))
     → EndsExchanges style session steps old (record { taken = mid.taken; output = after }) result left
-ends_typed style session steps old mid after (Ok u) left last written =
+ends_typed mid after (Ok u) last written =
     inr (record { between = mid.output; last = last; ends = written })
-ends_typed style session steps old mid after (Err why) left last (is, cut) =
+ends_typed mid after (Err why) last (is, cut) =
     inr (is, record { between = mid.output; last = last; ends = cut })

@@ -35,14 +35,14 @@ module _ {A : Type 0} (xs : List A) (i : ℕ) (d : A) (lt : i < length xs) where
 
 -- one more script was read
 pub reads_more : {S F : Type 0} (system : SystemGhosts S F) (them : S) (paths : List (Bor (List ℕ)))
-    (scripts : List Script) (path : Bor (List ℕ))
+    (scripts : List Script) {path : Bor (List ℕ)}
     (script : Script) → AreRead system them paths scripts → ReadsScript system them path script
     → AreRead system them (paths ++ path ∷ []) (scripts ++ script ∷ [])
-reads_more system them [] [] path script are one = (one, tt)
-reads_more system them [] (other ∷ scripts) path script are one = absurd are
-reads_more system them (other ∷ paths) [] path script are one = absurd are
-reads_more system them (other ∷ paths) (first ∷ scripts) path script (is, are) one =
-    (is, reads_more system them paths scripts path script are one)
+reads_more system them [] [] script are one = (one, tt)
+reads_more system them [] (other ∷ scripts) script are one = absurd are
+reads_more system them (other ∷ paths) [] script are one = absurd are
+reads_more system them (other ∷ paths) (first ∷ scripts) script (is, are) one =
+    (is, reads_more system them paths scripts script are one)
 
 -- one more is at the end of what all are mapped to
 pub one_more : {A : Type 0} (f : Turn → List A) (turns : List Turn) (turn : Turn)
@@ -50,12 +50,12 @@ pub one_more : {A : Type 0} (f : Turn → List A) (turns : List Turn) (turn : Tu
 one_more f turns turn = flat_map-append f turns (turn ∷ []) ∙ ap (λ xs. flat_map f turns ++ xs) (append-nil (f turn))
 
 -- scripts, and then one more
-pub turns_join : (style : AnswerStyle) (turns : List Turn) (turn : Turn) (session middle left : Session)
-    (first last : List (Request × Response))
-    (old between new : Output) → PrintsTurns style turns session first old between middle
+pub turns_join : {style : AnswerStyle} (turns : List Turn) (turn : Turn) {session middle left : Session}
+    {first : List (Request × Response)} (last : List (Request × Response))
+    {old between new : Output} → PrintsTurns style turns session first old between middle
     → LinesPrint middle (turn_lines turn) last turn.answers left → IsWritten between new (turn_text style turn)
     → PrintsTurns style (turns ++ turn ∷ []) session (first ++ last) old new left
-turns_join style turns turn session middle left first last old between new done prints written = record {
+turns_join {style = style} turns turn last done prints written = record {
   prints = rw (one_more turn_lines turns turn, one_more (λ (t : Turn). t.answers) turns turn)
       (prints_join _ (flat_map turn_lines turns) _ _ _ (turn_lines turn) _ _ _ done.prints prints);
   given = rw (one_more (turn_text style) turns turn)

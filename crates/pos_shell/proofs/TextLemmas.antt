@@ -8,5 +8,5 @@ as_tested bytes true is none = absurd (none (IsUtf8-from_is_utf8 bytes is))
 as_tested bytes false is none = is
 
 -- the test fails of them
-pub not_text : (bytes : List ℕ) → ¬ (IsUtf8 bytes) → is_utf8 bytes ≡ false
-not_text bytes none = as_tested bytes (is_utf8 bytes) refl none
+pub not_text : {bytes : List ℕ} → ¬ (IsUtf8 bytes) → is_utf8 bytes ≡ false
+not_text {bytes = bytes} none = as_tested bytes (is_utf8 bytes) refl none

@@ -23,17 +23,16 @@ in_memory = record {
 }
 
 -- one more script was tried
-pub tried_more : {S F : Type 0} (system : SystemGhosts S F) (them : S) (bound : DiskGhosts Memory) (contents : Contents)
-    (paths : List (List ℕ))
-    (trials : List Trial) (path : List ℕ) (trial : Trial) → AreTried system them bound contents paths trials
-    → trial.path.now ≡ path
+pub tried_more : {S F : Type 0} (system : SystemGhosts S F) (them : S) {bound : DiskGhosts Memory} {contents : Contents}
+    (paths : List (List ℕ)) (trials : List Trial) {path : List ℕ} (trial : Trial)
+    → AreTried system them bound contents paths trials → trial.path.now ≡ path
     → TriesScript system them bound contents path (Ok trial.differences.items)
     → AreTried system them bound contents (paths ++ path ∷ []) (trials ++ trial ∷ [])
-tried_more system them bound contents [] [] path trial are same one = (same, one, tt)
-tried_more system them bound contents [] (first ∷ trials) path trial are same one = absurd are
-tried_more system them bound contents (other ∷ paths) [] path trial are same one = absurd are
-tried_more system them bound contents (other ∷ paths) (first ∷ trials) path trial (is, done, are) same one =
-    (is, done, tried_more system them bound contents paths trials path trial are same one)
+tried_more system them [] [] trial are same one = (same, one, tt)
+tried_more system them [] (first ∷ trials) trial are same one = absurd are
+tried_more system them (other ∷ paths) [] trial are same one = absurd are
+tried_more system them (other ∷ paths) (first ∷ trials) trial (is, done, are) same one =
+    (is, done, tried_more system them paths trials trial are same one)
 
 module _ {A B : Type 0} (f : A → B) (xs : List A) (i : ℕ) (x : A) (lt : i < length xs) (is : x ≡ get_or xs i x) where
   -- what is mapped before a place, there, and after it

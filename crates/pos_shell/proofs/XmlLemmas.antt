@@ -7,25 +7,24 @@ use Rattle.std.specs.List.{list_all}
 use Rattle.pos_shell.proofs.RunLemmas.{one_taken}
 use Rattle.pos_shell.specs.Xml.{hex_byte, hex_digit, is_escape, is_harmless, is_markup, known_at, piece, pieces_from}
 
-or_true : (one other : Bool) → other ≡ true → (one || other) ≡ true
-or_true true other is = refl
-or_true false other is = is
+or_true : (one : Bool) {other : Bool} → other ≡ true → (one || other) ≡ true
+or_true true is = refl
+or_true false is = is
 
 -- in either case
 by_test : (test : Bool) (one other : List ℕ) → (test ≡ true → is_harmless one ≡ true)
-    → (test ≡ false → is_harmless other ≡ true)
-    → is_harmless (if test then one else other) ≡ true
+    → (test ≡ false → is_harmless other ≡ true) → is_harmless (if test then one else other) ≡ true
 by_test true one other first second = first refl
 by_test false one other first second = second refl
 
 plain : (byte : ℕ) → is_markup byte ≡ false → is_harmless (byte ∷ []) ≡ true
-plain byte is = or_true (is_escape (byte ∷ [])) _ (rw is refl)
+plain byte is = or_true (is_escape (byte ∷ [])) (rw is refl)
 
 digit : (value : ℕ) → is_markup (hex_digit value) ≡ false
 digit value = grind arith
 
 in_hex : (byte : ℕ) → is_harmless (hex_byte byte) ≡ true
-in_hex byte = or_true (is_escape (hex_byte byte)) _ (rw (digit (byte / 16), digit (byte % 16)) refl)
+in_hex byte = or_true (is_escape (hex_byte byte)) (rw (digit (byte / 16), digit (byte % 16)) refl)
 
 harmless : (is_known : Bool) (byte : ℕ) → is_harmless (piece is_known byte) ≡ true
 harmless is_known byte =
@@ -44,8 +43,8 @@ all_harmless [] known = refl
 all_harmless (byte ∷ bytes) known = rw (harmless (nat_lt 0 (known_at known byte bytes)) byte) (all_harmless bytes _)
 
 -- one more is at the end of what all are mapped to
-pub mapped_more : {A B : Type 0} (f : A → List B) (xs : List A) (i : ℕ) (x : A) → i < length xs → x ≡ get_or xs i x
+pub mapped_more : {A B : Type 0} (f : A → List B) (xs : List A) {i : ℕ} {x : A} → i < length xs → x ≡ get_or xs i x
     → flat_map f (take (i + 1) xs) ≡ flat_map f (take i xs) ++ f x
-mapped_more f xs i x lt is =
+mapped_more f xs {i = i} {x = x} lt is =
     ap (flat_map f) (one_taken xs i x lt is) ∙ flat_map-append f (take i xs) (x ∷ [])
     ∙ ap (λ ys. flat_map f (take i xs) ++ ys) (append-nil (f x))

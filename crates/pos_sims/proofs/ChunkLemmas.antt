@@ -8,16 +8,16 @@ use Rattle.pos_service.specs.declared.receipt_text.Alignment.{Alignment}
 use Rattle.std.proofs.Common.{length-drop}
 
 -- all fits into one chunk
-pub fitting : (most chars : ℕ) (segment : List SegmentCharacter) → length segment ≤ chars
+pub fitting : (most : ℕ) {chars : ℕ} (segment : List SegmentCharacter) → length segment ≤ chars
     → in_chunks most chars segment ≡ record { items = []; buffer = characters_of segment }
-fitting zero chars segment le = refl
-fitting (suc most) chars segment le = rw le-leb
+fitting zero segment le = refl
+fitting (suc most) segment le = rw le-leb
 
 -- it does not
-passing : (most chars : ℕ) (segment : List SegmentCharacter) → chars < length segment
+passing : (most : ℕ) {chars : ℕ} (segment : List SegmentCharacter) → chars < length segment
     → in_chunks (suc most) chars segment ≡ after_items (overflowed chars segment ∷ [])
     (in_chunks most chars (drop chars segment))
-passing most chars segment lt = rw lt-leb
+passing most segment lt = rw lt-leb
 
 -- items before do not matter
 pub put_behind : (chars : ℕ) (items : List Item) (a : Alignment) (c : PrintedCharacter) (made : Printout)
@@ -29,25 +29,25 @@ first_pushed : (segment : List SegmentCharacter) (s : SegmentCharacter) → 0 < 
 first_pushed segment s lt = grind arith
 
 -- a chunk that has room
-more_fits : (most chars : ℕ) (segment : List SegmentCharacter) (s : SegmentCharacter) → length segment < chars
+more_fits : (most : ℕ) {chars : ℕ} (segment : List SegmentCharacter) (s : SegmentCharacter) → length segment < chars
     → in_chunks (suc most) chars (segment ++ s ∷ []) ≡ put chars s.alignment s.character (in_chunks most chars segment)
-more_fits most chars segment s lt = grind (arith, nat_tests, fitting, length_push, map_push, length-map)
+more_fits most segment s lt = grind (arith, nat_tests, fitting, length_push, map_push, length-map)
 
 -- a chunk that is full
-more_ends : (most chars : ℕ) (segment : List SegmentCharacter) (s : SegmentCharacter) → 0 < chars
+more_ends : (most : ℕ) {chars : ℕ} (segment : List SegmentCharacter) (s : SegmentCharacter) → 0 < chars
     → length segment ≡ chars
     → in_chunks (suc most) chars (segment ++ s ∷ []) ≡ put chars s.alignment s.character (in_chunks most chars segment)
-more_ends most chars segment s some e =
+more_ends most segment s some e =
     grind (arith, nat_tests, fitting, passing, drop_at, take_at, length_push, length-map)
 
 -- one more character behind a segment
 pub chunked_more : (most chars : ℕ) (segment : List SegmentCharacter) (s : SegmentCharacter) → 0 < chars
     → length segment ≤ most
     → in_chunks (suc most) chars (segment ++ s ∷ []) ≡ put chars s.alignment s.character (in_chunks most chars segment)
-chunked_more zero chars segment s some le = more_fits zero chars segment s (omega arith)
+chunked_more zero chars segment s some le = more_fits zero segment s (omega arith)
 chunked_more (suc most) chars segment s some le = elim (cases_order (length segment) chars) [
-  | inl e ↦ more_ends (suc most) chars segment s some e
-  | inr (inl lt) ↦ more_fits (suc most) chars segment s lt
+  | inl e ↦ more_ends (suc most) segment s some e
+  | inr (inl lt) ↦ more_fits (suc most) segment s lt
   | inr (inr gt) ↦
       let rest = drop chars segment in
       let more = chunked_more most chars rest s some (omega (arith, length-drop chars segment)) in

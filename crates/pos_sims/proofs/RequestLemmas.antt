@@ -42,15 +42,13 @@ same_made : (chars : ℕ) → 0 < chars
 same_made chars some [] work style segment items is h = h
 same_made chars some (piece.Character byte ∷ ps) work style segment items is h =
     same_made chars some ps (step chars work (piece.Character byte)) style (segment ++ in_style style byte ∷ []) items
-    (grind arith)
-    (grind (arith, made_put, put_segment chars some style byte segment items))
+    (grind arith) (grind (arith, made_put, put_segment chars some style byte segment items))
 same_made chars some (piece.LineEnd ∷ ps) work style segment items is h =
     same_made chars some ps (end_line work) style [] (items ++ lines_of chars style.alignment segment) is
     (grind (arith, ended_segment)) ∙ simp append_assoc
 same_made chars some (piece.Return ∷ ps) work style segment items is h =
     same_made chars some ps (end_begun work) style [] (items ++ lines_if_begun chars style.alignment segment)
-    (grind arith)
-    (grind (arith, begun_made chars work segment items h)) ∙ simp append_assoc
+    (grind arith) (grind (arith, begun_made chars work segment items h)) ∙ simp append_assoc
 same_made chars some (piece.Cut n ∷ ps) work style segment items is h =
     same_made chars some ps (add_cut n (end_begun work)) style []
     (items ++ (lines_if_begun chars style.alignment segment ++ CutAt n ∷ []))
@@ -82,10 +80,9 @@ counts chars [] work = record { lines = refl; rises = omega arith }
 counts chars (p ∷ ps) work = grind (arith, counts_step chars work p, counts chars ps (step chars work p))
 
 -- paper that ends within the pieces ends before their end
-pub past_front : (chars : ℕ) (work all : Work) (front back ps : List Piece) (limit : ℕ) → ps ≡ front ++ back
-    → steps chars work ps ≡ all
-    → limit < (steps chars work front).used → limit < all.used
-past_front chars work all front back ps limit e is lt =
+pub past_front : (chars : ℕ) (work : Work) {all : Work} (front back : List Piece) {ps : List Piece} {limit : ℕ}
+    → ps ≡ front ++ back → steps chars work ps ≡ all → limit < (steps chars work front).used → limit < all.used
+past_front chars work front back e is lt =
     grind (arith, fold-append, counts chars back (steps chars work front))
 
 -- one line end of some
@@ -98,19 +95,19 @@ begun_characters [] = refl
 begun_characters (character ∷ buffer) = rw (begun_characters buffer)
 
 -- a request begins with one chunk, the old buffer
-begins_so : (chars : ℕ) (items : List Item) (buffer : List PrintedCharacter) → length buffer ≤ chars
+begins_so : {chars : ℕ} (items : List Item) {buffer : List PrintedCharacter} → length buffer ≤ chars
     → record { items = items; buffer = buffer } ≡ after_items items (chunks_of chars (begun_segment buffer))
-begins_so chars items buffer le = grind (arith, fitting, append-nil, begun_characters, length-map)
+begins_so items le = grind (arith, fitting, append-nil, begun_characters, length-map)
 
 -- what a request prints, and how many lines it uses
-pub request_run : (chars : ℕ) (made : Printout) (ps : List Piece) → 0 < chars → length made.buffer ≤ chars →
+pub request_run : {chars : ℕ} (made : Printout) (ps : List Piece) → 0 < chars → length made.buffer ≤ chars →
     let end = steps chars (record { style = plain; made = made; used = 0 }) ps in
     (end.made ≡ after_items made.items (printed_by chars made.buffer ps))
     × (end.used ≡ lines_needed (printed_by chars made.buffer ps).items)
-request_run chars made ps some le =
+request_run {chars = chars} made ps some le =
     let first : Work = record { style = plain; made = made; used = 0 } in
     let is = same_made chars some ps first plain (begun_segment made.buffer) made.items refl
-    (begins_so chars made.items made.buffer le) in
+    (begins_so made.items le) in
     let lines = (counts chars ps first).lines in (
       is,
       omega (

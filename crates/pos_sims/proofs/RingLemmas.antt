@@ -33,9 +33,9 @@ blanked_count : (s w : ℕ) (cells : List DisplayCell) → s + w ≤ length cell
 blanked_count s w cells le = grind (arith, length-append, length-take, length-drop, length-replicate)
 
 -- the first cells are blanked, and come last
-feeds_cells : (s w t : ℕ) (cells next : List DisplayCell) → s + w ≤ length cells → next ≡ blanked s w cells
+feeds_cells : (s w : ℕ) {t : ℕ} (cells next : List DisplayCell) → s + w ≤ length cells → next ≡ blanked s w cells
     → (t ≡ s + w) ⊎ ((s + w ≡ length cells) × (t ≡ 0)) → ShiftsToFront w (turned s cells) (turned t next)
-feeds_cells s w t cells next within is by = λ k lt.
+feeds_cells s w {t = t} cells next within is by = λ k lt.
     let count : length next ≡ length cells = ap length is ∙ blanked_count s w cells within in
     let size = turned_count s cells in
     let old = turned_at s (k + w) cells in
@@ -43,9 +43,9 @@ feeds_cells s w t cells next within is by = λ k lt.
     grind (arith, nat_tests, blanked_at s w (t + k) cells, blanked_at s w (t + k - length cells) cells)
 
 -- the cells before the first are blanked, and come first
-feeds_cells_back : (s w t : ℕ) (cells next : List DisplayCell) → t + w ≤ length cells → next ≡ blanked t w cells
+feeds_cells_back : {s : ℕ} (w t : ℕ) (cells next : List DisplayCell) → t + w ≤ length cells → next ≡ blanked t w cells
     → ((s ≡ 0) × (t + w ≡ length cells)) ⊎ (t + w ≡ s) → ShiftsToEnd w (turned s cells) (turned t next)
-feeds_cells_back s w t cells next within is by = λ k lt.
+feeds_cells_back {s = s} w t cells next within is by = λ k lt.
     let count : length next ≡ length cells = ap length is ∙ blanked_count t w cells within in
     let size = turned_count s cells in
     let old = turned_at s (k - w) cells in
@@ -53,22 +53,20 @@ feeds_cells_back s w t cells next within is by = λ k lt.
     grind (arith, nat_tests, blanked_at t w (t + k) cells, blanked_at t w (t + k - length cells) cells)
 
 -- the first row is blanked, and the row below it is the first
-pub feeds : (rows columns first below : ℕ) (cells next : List DisplayCell) → length cells ≡ rows * columns
-    → first < rows →
-    next ≡ blanked (first * columns) columns cells → IsBelow rows first below →
-    ShiftsToFront columns (turned (first * columns) cells) (turned (below * columns) next)
-feeds rows columns first below cells next count lt is by =
+pub feeds : (rows columns first below : ℕ) (cells : List DisplayCell) {next : List DisplayCell}
+    → length cells ≡ rows * columns → first < rows → next ≡ blanked (first * columns) columns cells
+    → IsBelow rows first below → ShiftsToFront columns (turned (first * columns) cells) (turned (below * columns) next)
+feeds rows columns first below cells {next = next} count lt is by =
     let within = mul-le-mul_right {m = first + 1} {n = rows} columns (omega arith) in
-    feeds_cells (first * columns) columns (below * columns) cells next (omega arith) is (grind arith)
+    feeds_cells (first * columns) columns cells next (omega arith) is (grind arith)
 
 -- the row above the first is the first, and is blanked
-pub feeds_back : (rows columns first above : ℕ) (cells next : List DisplayCell) → length cells ≡ rows * columns
-    → first < rows →
-    next ≡ blanked (above * columns) columns cells → IsAbove rows first above →
-    ShiftsToEnd columns (turned (first * columns) cells) (turned (above * columns) next)
-feeds_back rows columns first above cells next count lt is by =
+pub feeds_back : (rows columns first above : ℕ) (cells : List DisplayCell) {next : List DisplayCell}
+    → length cells ≡ rows * columns → first < rows → next ≡ blanked (above * columns) columns cells
+    → IsAbove rows first above → ShiftsToEnd columns (turned (first * columns) cells) (turned (above * columns) next)
+feeds_back rows columns first above cells {next = next} count lt is by =
     let within = mul-le-mul_right {m = above + 1} {n = rows} columns (omega arith) in
-    feeds_cells_back (first * columns) columns (above * columns) cells next (omega arith) is (grind arith)
+    feeds_cells_back columns (above * columns) cells next (omega arith) is (grind arith)
 
 -- a row of the window is a row of the ring
 row_at : (rows columns first row r column : ℕ) (cells : List DisplayCell) → first < rows → row < rows → r < rows
@@ -89,8 +87,7 @@ row_of rows first row lt within = elim (cases_lt (first + row) rows) [
 ]
 
 module _ (rows columns first units : ℕ) (old new : List DisplayCell) (lt : first < rows)
-    (count : length old ≡ rows * columns)
-    (count' : length new ≡ rows * columns) where
+    (count : length old ≡ rows * columns) (count' : length new ≡ rows * columns) where
   abbrev pub Turns : Direction → Type 0
   Turns way = Scrolls (display_of rows columns (turned (first * columns) old)) way units
       (display_of rows columns (turned (first * columns) new))
@@ -134,10 +131,10 @@ module _ (rows columns first units : ℕ) (old new : List DisplayCell) (lt : fir
   }
 
 -- a run that has room in its row has it in the ring
-ring_room : (rows columns first row column start count place long : ℕ) → start ≡ first * columns
+ring_room : (rows columns first row column : ℕ) {start count place long : ℕ} → start ≡ first * columns
     → count ≡ rows * columns → first < rows → row < rows →
     column + long ≤ columns → 1 ≤ long → StandsAt (row * columns + column) start count place → place + long ≤ count
-ring_room rows columns first row column start count place long e f first_lt lt room some stands =
+ring_room rows columns first row column {long = long} e f first_lt lt room some stands =
     let end = in_rows rows columns (first + row) (column + long - 1) (omega arith) in
     let last = in_rows rows columns row (column + long - 1) (omega arith) in
     let within = mul-le-mul_right {m = first + 1} {n = rows} columns (omega arith) in
@@ -147,13 +144,11 @@ ring_room rows columns first row column start count place long e f first_lt lt r
 pub run_turned : (rows columns first row column start place : ℕ) (attribute : Attribute) (run : List ℕ)
     (cells : List DisplayCell)
     → start ≡ first * columns → length cells ≡ rows * columns → first < rows → row < rows
-    → column + length run ≤ columns → 1 ≤ length run
-    → StandsAt (row * columns + column) start (length cells) place → (place + length run ≤ length cells)
-    × (turned start (with_run_at place attribute run cells) ≡ with_run_at (row * columns + column) attribute run
-    (turned start cells))
+    → column + length run ≤ columns → 1 ≤ length run → StandsAt (row * columns + column) start (length cells) place
+    → (place + length run ≤ length cells) × (turned start (with_run_at place attribute run cells) ≡ with_run_at
+    (row * columns + column) attribute run (turned start cells))
 run_turned rows columns first row column start place attribute run cells e count first_lt lt room some stands =
-    let fits = ring_room rows columns first row column start (length cells) place
-    (length run) e count first_lt lt room some stands in
+    let fits = ring_room rows columns first row column e count first_lt lt room some stands in
     let within = mul-le-mul_right {m = first} {n = rows} columns (omega arith) in
     let last = in_rows rows columns row (column + length run - 1) (omega arith) in
     let now = with_run_at place attribute run cells in

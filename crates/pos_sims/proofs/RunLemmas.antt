@@ -22,16 +22,14 @@ pub ruleset parts = (
 
 -- as many cells
 pub run_count : (at : ℕ) (attribute : Attribute) (run : List ℕ) (cells : List DisplayCell)
-    → at + length run ≤ length cells
-    → length (with_run_at at attribute run cells) ≡ length cells
+    → at + length run ≤ length cells → length (with_run_at at attribute run cells) ≡ length cells
 run_count at attribute run cells le = grind (arith, length-append, length-take, length-drop, length-map)
 
 -- the cell at a place
 pub run_at : (at : ℕ) (attribute : Attribute) (run : List ℕ) (cells : List DisplayCell) (k : ℕ)
     → at + length run ≤ length cells
-    → get_or (with_run_at at attribute run cells) k blank
-    ≡ (if nat_le at k && nat_lt k (at + length run) then cell_with attribute (get_or run (k - at) 0)
-    else get_or cells k blank)
+    → get_or (with_run_at at attribute run cells) k blank ≡ (if nat_le at k && nat_lt k (at + length run) then cell_with
+    attribute (get_or run (k - at) 0) else get_or cells k blank)
 run_at at attribute run cells k le = grind (arith, nat_tests, parts, get_or-map, length-map)
 
 -- a character more behind a run
@@ -51,9 +49,9 @@ run_first at attribute b run cells le = ext_get_or blank _ _ (grind (arith, part
     grind (arith, nat_tests, parts, run_at, get_or-set_at, get_or-set_other, length-set))
 
 -- a row has no room for a character only where it is full
-pub row_full : (b column columns : ℕ) → b ≢ 10 → b ≢ 13 → column ≤ columns → (column < columns → is_character b ≡ false)
+pub row_full : (b : ℕ) {column columns : ℕ} → b ≢ 10 → b ≢ 13 → column ≤ columns → (column < columns → is_character b ≡ false)
     → column ≡ columns
-row_full b column columns e f le stops = grind (arith, nat_tests)
+row_full b e f le stops = grind (arith, nat_tests)
 
 -- so much of a text, and bytes behind it
 pub text_further : (columns : ℕ) (start : Place) (bytes : List ℕ) (i n : ℕ) → 0 < columns
@@ -67,9 +65,8 @@ pub run_here : (style : TextStyle) (old : List DisplayCell) (run : List ℕ) (ce
     (place : Place)
     → IsWithin style cells place → list_all is_character run ≡ true → place.column + length run ≤ style.columns
     → Follows style old strip cells place
-    → Follows style old (with_text style.columns [] run strip)
-    (with_run_at (place.row * style.columns + place.column) style.attribute run cells)
-    (place_at place.row (place.column + length run))
+    → Follows style old (with_text style.columns [] run strip) (with_run_at (place.row * style.columns + place.column)
+    style.attribute run cells) (place_at place.row (place.column + length run))
 run_here style old [] cells strip place within all room h =
     let at : place.row * style.columns + place.column + 0 ≡ place.row * style.columns + place.column = omega arith in
     rw (at, take-append-drop)
@@ -82,8 +79,7 @@ run_here style old (b ∷ run) cells strip place within all room h =
     let one = placed_here style old cells strip place b within (omega arith) (grind (arith, nat_tests))
     (grind (arith, nat_tests)) h in
     let rest = run_here style old run (set cells at first) (with_text style.columns [] (b ∷ []) strip)
-    (place_at place.row (place.column + 1))
-    (record {
+    (place_at place.row (place.column + 1)) (record {
       count = length-set cells at first ∙ within.count;
       some = within.some;
       row = within.row;

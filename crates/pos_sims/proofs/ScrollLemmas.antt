@@ -14,8 +14,7 @@ Moves direction.Left columns units old new = MovesToFront columns units old new
 Moves direction.Right columns units old new = MovesToEnd columns units old new
 
 moved_down : (rows columns units row column : ℕ) (old new : List DisplayCell) → length old ≡ rows * columns
-    → ShiftsToEnd (units * columns) old new
-    → row < rows → column < columns
+    → ShiftsToEnd (units * columns) old new → row < rows → column < columns
     → cell_at columns new row column ≡ (if nat_le units row then cell_at columns old (row - units) column else blank)
 moved_down rows columns units row column old new count moved r c =
     let now = moved (row * columns + column) (omega (arith, in_rows rows columns row column c)) in
@@ -23,8 +22,7 @@ moved_down rows columns units row column old new count moved r c =
     grind (arith, nat_tests)
 
 pub moved_cell : (direction : Direction) (rows columns units row column : ℕ) (old new : List DisplayCell)
-    → length old ≡ rows * columns
-    → Moves direction columns units old new → row < rows → column < columns
+    → length old ≡ rows * columns → Moves direction columns units old new → row < rows → column < columns
     → cell_at columns new row column ≡ scrolled_at (display_of rows columns old) direction units row column
 moved_cell direction.Up rows columns units row column old new count moved r c =
     let now = moved (row * columns + column) (omega (arith, in_rows rows columns row column c)) in
@@ -38,10 +36,9 @@ moved_cell direction.Right rows columns units row column old new count moved r c
     let now = rw mod-mul-add at (moved (row * columns + column) (omega (arith, in_rows rows columns row column c))) in
     grind (arith, nat_tests)
 
-pub scrolls : (direction : Direction) (units : ℕ) (old new : Display) → length old.cells ≡ old.rows * old.columns
-    → SameSize old new
-    → Moves direction old.columns units old.cells new.cells → Scrolls old direction units new
-scrolls direction units old new count size moved = record {
+pub scrolls : (direction : Direction) (units : ℕ) {old new : Display} → length old.cells ≡ old.rows * old.columns
+    → SameSize old new → Moves direction old.columns units old.cells new.cells → Scrolls old direction units new
+scrolls direction units {old = old} {new = new} count size moved = record {
   rows = size.rows;
   columns = size.columns;
   count = size.count ∙ count;
@@ -49,10 +46,8 @@ scrolls direction units old new count size moved = record {
 }
 
 -- of a display whose cells are given
-pub scrolls_sized : (direction : Direction) (units rows columns : ℕ) (old new : List DisplayCell)
-    → length old ≡ rows * columns → length new ≡ length old
-    → Moves direction columns units old new
+pub scrolls_sized : {direction : Direction} {units : ℕ} (rows columns : ℕ) {old new : List DisplayCell}
+    → length old ≡ rows * columns → length new ≡ length old → Moves direction columns units old new
     → Scrolls (display_of rows columns old) direction units (display_of rows columns new)
-scrolls_sized direction units rows columns old new count same moved =
-    scrolls direction units (display_of rows columns old) (display_of rows columns new) count
-    (record { rows = refl; columns = refl; count = same }) moved
+scrolls_sized {direction = direction} {units = units} rows columns count same moved =
+    scrolls direction units count (record { rows = refl; columns = refl; count = same }) moved

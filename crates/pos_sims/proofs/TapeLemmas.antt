@@ -11,8 +11,7 @@ use Rattle.pos_sims.proofs.RequestLemmas.{request_run}
 
 -- characters behind the lines make no item
 pub items_of_more : (marks : List Mark) (characters more : List PrintedCharacter)
-    → characters_in marks ≤ length characters
-    → items_from marks (characters ++ more) ≡ items_from marks characters
+    → characters_in marks ≤ length characters → items_from marks (characters ++ more) ≡ items_from marks characters
 items_of_more [] characters more le = refl
 items_of_more (mark.Line a n ∷ marks) characters more le =
     grind (arith, take-append-le, drop-append-le, items_of_more marks (drop n characters) more, length-drop)
@@ -32,13 +31,13 @@ characters_append [] more = omega arith
 characters_append (mark.Line b m ∷ marks) more = omega (arith, characters_append marks more)
 characters_append (mark.Cut m ∷ marks) more = characters_append marks more
 
-extends_more : {X : Type 0} (xs ys zs : List X) → Extends xs ys → Extends ys zs → Extends xs zs
-extends_more xs ys zs a b = record { more = a.more ++ b.more; is = grind (arith, append_assoc) }
+extends_more : {X : Type 0} {xs ys zs : List X} → Extends xs ys → Extends ys zs → Extends xs zs
+extends_more a b = record { more = a.more ++ b.more; is = grind (arith, append_assoc) }
 
 pub adds_more : {a b c : Tape} → Adds a b → Adds b c → Adds a c
-adds_more {a = a} {b = b} {c = c} h k = record {
-  characters = extends_more a.characters.items b.characters.items c.characters.items h.characters k.characters;
-  marks = extends_more a.marks.items b.marks.items c.marks.items h.marks k.marks;
+adds_more h k = record {
+  characters = extends_more h.characters k.characters;
+  marks = extends_more h.marks k.marks;
   chars = k.chars ∙ h.chars;
   limit = k.limit ∙ h.limit;
 }
@@ -51,4 +50,4 @@ pub asked : (tape : Tape) (chars : ℕ) (first next : Work) (ps : List Piece) �
 asked tape chars first next ps e h is =
     let short : length (drop tape.start tape.characters.items) ≤ tape.chars =
     omega (arith, length-drop tape.start tape.characters.items, tape.characters.ok.0, tape.bounded) in
-    rw (is, h, e) (request_run tape.chars (printed_on tape) ps tape.some short)
+    rw (is, h, e) (request_run (printed_on tape) ps tape.some short)

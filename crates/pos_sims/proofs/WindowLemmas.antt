@@ -51,9 +51,8 @@ scrolled_window rows columns above cells next see count moved window below row c
 
 -- a row further, below the window
 pub scrolled : (style : TextStyle) (old cells next : List DisplayCell) (strip : Strip) (place : Place)
-    → IsWithin style cells place
-    → style.rows ≤ place.row + 1 → ShiftsToFront style.columns cells next → Follows style old strip cells place
-    → Follows style old (fed strip) next (place_at place.row 0)
+    → IsWithin style cells place → style.rows ≤ place.row + 1 → ShiftsToFront style.columns cells next
+    → Follows style old strip cells place → Follows style old (fed strip) next (place_at place.row 0)
 scrolled style old cells next strip place within last moved h =
     let at = h.row in
     let lt = within.row in
@@ -71,14 +70,13 @@ scrolled style old cells next strip place within last moved h =
 
 -- the cells once a character is placed
 placed_cell : (columns at row column above b : ℕ) (attribute : Attribute) (old cells : List DisplayCell)
-    (placed : List Placed) (place end : Place)
+    (placed : List Placed) (place : Place) {end : Place}
     → at ≡ place.row * columns + place.column → at < length cells → place.column < columns → column < columns
-    → place.row + above ≡ end.row
-    → place.column ≡ end.column → cell_at columns cells row column ≡ shown_at columns attribute old placed
-    (row + above) column
-    → cell_at columns (set cells at (cell_with attribute b)) row column
-    ≡ shown_at columns attribute old (placed ++ placed_at end b ∷ []) (row + above) column
-placed_cell columns at row column above b attribute old cells placed place end is lt free c e f was =
+    → place.row + above ≡ end.row → place.column ≡ end.column
+    → cell_at columns cells row column ≡ shown_at columns attribute old placed (row + above) column
+    → cell_at columns (set cells at (cell_with attribute b)) row column ≡ shown_at columns attribute old
+    (placed ++ placed_at end b ∷ []) (row + above) column
+placed_cell columns at row column above b attribute old cells placed place is lt free c e f was =
     let one = same_from_place place.row place.column row column columns free c in
     grind (arith, nat_tests, shown_more, get_or-set_same, get_or-set_other, one, cases_eq (row * columns + column) at)
 
@@ -90,11 +88,9 @@ text_free columns b strip lt e f = grind (arith, character_text, first_free)
 
 -- a character in the window
 pub placed_here : (style : TextStyle) (old cells : List DisplayCell) (strip : Strip) (place : Place) (b : ℕ)
-    → IsWithin style cells place
-    → place.column < style.columns → b ≢ 10 → b ≢ 13 → Follows style old strip cells place →
-    Follows style old (with_text style.columns [] (b ∷ []) strip)
-    (set cells (place.row * style.columns + place.column) (cell_with style.attribute b))
-    (place_at place.row (place.column + 1))
+    → IsWithin style cells place → place.column < style.columns → b ≢ 10 → b ≢ 13 → Follows style old strip cells place
+    → Follows style old (with_text style.columns [] (b ∷ []) strip) (set cells
+    (place.row * style.columns + place.column) (cell_with style.attribute b)) (place_at place.row (place.column + 1))
 placed_here style old cells strip place b within free e f h =
     let columns = style.columns in
     let across = h.column in
@@ -102,9 +98,8 @@ placed_here style old cells strip place b within free e f h =
     let in_range : at < length cells =
     omega (arith, within.count, within.row, in_rows style.rows columns place.row place.column free) in
     rw (text_free columns b strip (omega arith) e f) (record {
-      window = λ row column r c. placed_cell columns at row column (rows_above style.rows strip.place) b
-          style.attribute old cells strip.placed place strip.place refl in_range free c h.row across
-          (h.window row column r c);
+      window = λ row column r c. placed_cell columns at row column (rows_above style.rows strip.place) b style.attribute
+          old cells strip.placed place refl in_range free c h.row across (h.window row column r c);
       below = λ row column le c. grind (arith, nat_tests, shown_more, h.below row column le c, h.row);
       row = h.row;
       column = omega arith;

@@ -13,10 +13,9 @@ use Rattle.pos_store.specs.declared.fault.StoreFault.TheVariants as fault
 use Rattle.pos_store.specs.declared.medium.StoreMedium.TheVariants as which
 
 -- the same images over another disk are of the same layout
-pub same_layout : {D : Type 0} (log new : LogView D) (disk : D) (tail : ℕ)
-    → new ≡ log_over (record log.images { disk = disk }) tail
-    → layout_of new.images.slot ≡ layout_of log.images.slot
-same_layout {D = D} log new disk tail same = ap (λ (l : LogView D). layout_of l.images.slot) same
+pub same_layout : {D : Type 0} (log : LogView D) {new : LogView D} {disk : D} {tail : ℕ}
+    → new ≡ log_over (record log.images { disk = disk }) tail → layout_of new.images.slot ≡ layout_of log.images.slot
+same_layout {D = D} log same = ap (λ (l : LogView D). layout_of l.images.slot) same
 
 -- A group that is applicable, over a log that is ready with the files before it.
 pub record IsGiven {D : Type 0} (bound : Ghosts D) (log : LogView D) (files after : List File)
@@ -45,7 +44,7 @@ module _ {D : Type 0} {bound : Ghosts D} {log : LogView D} {files after : List F
 
   shows : bound.honest log.images.disk
       → image.ShowsImage layout log.images.body log.images.sequence (bound.state log.images.disk).reading
-  shows honest = shows_now bound log.images given.ready.images honest
+  shows honest = shows_now bound given.ready.images honest
 
   -- bytes that stand for the files before it, or for those after it
   abbrev Around : ℕ → List ℕ → Type 0
@@ -111,11 +110,10 @@ module _ {D : Type 0} {bound : Ghosts D} {log : LogView D} {files after : List F
     -- a commit that put the group down
     put_commits : (then_sequence : ℕ) → layout_of new.images.slot ≡ layout
         → sequence_after layout log.tail changes log.images.sequence ≡ then_sequence
-        → new.images.sequence ≡ then_sequence
-        → new.tail ≡ tail_after layout log.tail changes → (IsExhausted layout log.tail changes log.images.sequence → ⊥)
-        → IsReady bound new.images → HasAfter
-        → (bound.honest log.images.disk
-        → LeavesOnly (bound.state log.images.disk) (bound.state new.images.disk) (Around then_sequence))
+        → new.images.sequence ≡ then_sequence → new.tail ≡ tail_after layout log.tail changes
+        → (IsExhausted layout log.tail changes log.images.sequence → ⊥) → IsReady bound new.images → HasAfter
+        → (bound.honest log.images.disk → LeavesOnly (bound.state log.images.disk) (bound.state new.images.disk)
+        (Around then_sequence))
         → (bound.honest log.images.disk → HasNotFailed (bound.state log.images.disk) (bound.state new.images.disk))
         → KeepsDisk bound log.images.disk new.images.disk
         → Commits bound (ready_with log files) changes (Ok tt) (ready_with new after)
@@ -128,7 +126,7 @@ module _ {D : Type 0} {bound : Ghosts D} {log : LogView D} {files after : List F
       same_sequence = ap (λ (l : LogView D). l.images.sequence) appends.appended
 
       kept : layout_of new.images.slot ≡ layout
-      kept = same_layout log new new.images.disk (log.tail + 5 + length (group_spelling changes)) appends.appended
+      kept = same_layout log appends.appended
 
       -- a group that was appended
       pub appended_holds : HasAfter
@@ -136,10 +134,8 @@ module _ {D : Type 0} {bound : Ghosts D} {log : LogView D} {files after : List F
           let was = appends.keeps.honest.1 honest in
           let holds = given.holds was in
           let body_is = ap (λ (l : LogView D). l.images.body) appends.appended in
-          rw (kept, same_sequence)
-          (holds_more holds (shows was) (bound.state new.images.disk).reading step
-          (shows_now bound new.images appends.ready.images honest
-          ∙ (λ i. image.OneImage (kept i) (body_is i) (same_sequence i)))
+          rw (kept, same_sequence) (holds_more holds (shows was) (bound.state new.images.disk).reading step
+          (shows_now bound appends.ready.images honest ∙ (λ i. image.OneImage (kept i) (body_is i) (same_sequence i)))
           (appends.records was holds.texts holds.log))
 
       pub appended_commits : Commits bound (ready_with log files) changes (Ok tt) (ready_with new after)
@@ -149,8 +145,7 @@ module _ {D : Type 0} {bound : Ghosts D} {log : LogView D} {files after : List F
           grind (arith, put_commits log.images.sequence, kept, same_sequence, appended_holds)
 
     module _ (over : fits_behind layout log.tail changes ≡ false) (body : List ℕ)
-        (sound : IsDirectory (limits_of layout) after)
-        (spelled : body ≡ spelling after)
+        (sound : IsDirectory (limits_of layout) after) (spelled : body ≡ spelling after)
         (renews : Renews bound log layout body (log.images.sequence + 1) (Ok tt) new) where
       -- a group for which the image was renewed
       pub renewed_holds : HasAfter

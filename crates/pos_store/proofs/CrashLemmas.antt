@@ -5,8 +5,7 @@ use Rattle.pos_store.proofs.Common.{weaker, ℕ, arith}
 
 -- a disk that no call has touched
 pub stays : (disk : DiskState) (left : List Standing) → ((c : List ℕ) → disk.left_since disk.moment c → MayLeave disk c)
-    → LeavesOneOf left disk
-    → Passes disk disk left left
+    → LeavesOneOf left disk → Passes disk disk left left
 stays disk left only leaves = record {
   any_moment =
       started disk (StandsForEither left left) (λ c since. inl (leaves c (only c since)));

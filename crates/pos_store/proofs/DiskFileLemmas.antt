@@ -7,16 +7,15 @@ use Rattle.pos_image.specs.Standing as image
 
 -- the texts lead one step further
 pub applies_more : (limits : Limits) (texts : List (List ℕ)) (files last : List File) (text : List ℕ) (next : List File)
-    → Applies limits files texts last
-    → IsStep limits last text next → Applies limits files (texts ++ text ∷ []) next
+    → Applies limits files texts last → IsStep limits last text next → Applies limits files (texts ++ text ∷ []) next
 applies_more limits [] files last text next applies step = (next, rw applies step, refl)
 applies_more limits (first ∷ texts) files last text next applies step =
     (applies.0, applies.1, applies_more limits texts applies.0 last text next applies.2 step)
 
 -- what the disk of images that are ready shows
-pub shows_now : {D : Type 0} (bound : Ghosts D) (images : View D) → IsReady bound images → bound.honest images.disk
+pub shows_now : {D : Type 0} (bound : Ghosts D) {images : View D} → IsReady bound images → bound.honest images.disk
     → image.ShowsImage (layout_of images.slot) images.body images.sequence (bound.state images.disk).reading
-shows_now bound images ready honest =
+shows_now bound {images = images} ready honest =
     (ready.leaves honest (bound.state images.disk).reading
     (record { same_length = refl; settled = λ i tight. refl })).image
 
@@ -38,20 +37,19 @@ module _ {layout : Layout} {files : List File} {sequence : ℕ} {bytes body : Li
   holds_more {after = after} {text = text} step here log = grind (arith, applies_more)
 
 -- a new image holds the files that its body spells
-pub holds_new : (layout : Layout) (after : List File) (sequence : ℕ) (body c : List ℕ)
+pub holds_new : {layout : Layout} {after : List File} {sequence : ℕ} {body : List ℕ} (c : List ℕ)
     → IsDirectory (limits_of layout) after → body ≡ spelling after
     → HasNoRecords layout body sequence c → HoldsFiles layout after sequence c
-holds_new layout after sequence body c sound spelled new = grind arith
+holds_new c sound spelled new = grind arith
 
 -- the old image with its records holds the files, and a new one those that its body spells
-pub old_or_new_holds : {D : Type 0} (images : View D) (files after : List File) (bytes : List ℕ) (layout : Layout)
-    (body : List ℕ) (sequence : ℕ) (c : List ℕ)
+pub old_or_new_holds : {D : Type 0} (images : View D) {files after : List File} {bytes : List ℕ} {layout : Layout}
+    {body : List ℕ} {sequence : ℕ} (c : List ℕ)
     → HoldsFiles (layout_of images.slot) files images.sequence bytes
-    → image.ShowsImage (layout_of images.slot) images.body images.sequence bytes
-    → IsDirectory (limits_of layout) after → body ≡ spelling after
-    → HasOldOrNew images (image.log_of bytes) layout body sequence c
+    → image.ShowsImage (layout_of images.slot) images.body images.sequence bytes → IsDirectory (limits_of layout) after
+    → body ≡ spelling after → HasOldOrNew images (image.log_of bytes) layout body sequence c
     → HoldsFiles (layout_of images.slot) files images.sequence c ⊎ HoldsFiles layout after sequence c
-old_or_new_holds images files after bytes layout body sequence c holds shows sound spelled either =
+old_or_new_holds images c holds shows sound spelled either =
     grind (arith, has_image_holds, holds_new)
 
 -- a store that is ready, with this log and these files
@@ -66,12 +64,12 @@ ready_with log files =
     }
 
 -- images that are ready leave the files that their disk holds
-pub leaves_files : {D : Type 0} (bound : Ghosts D) (images : View D) (files : List File) → IsReady bound images
+pub leaves_files : {D : Type 0} {bound : Ghosts D} {images : View D} {files : List File} → IsReady bound images
     → (bound.honest images.disk → HoldsFiles (layout_of images.slot) files images.sequence
     (bound.state images.disk).reading)
     → bound.honest images.disk → LeavesOneOf (Stands (layout_of images.slot) files images.sequence ∷ [])
     (bound.state images.disk)
-leaves_files bound images files ready holds honest c may = grind (arith, has_image_holds, shows_now)
+leaves_files ready holds honest c may = grind (arith, has_image_holds, shows_now)
 
 -- a disk that was formatted stands for no files by layout 1, with sequence 1
 pub new_standing : (bytes : List ℕ) → image.HasNewImage Layout1 no_files 1 bytes → StandsFor (Stands Layout1 [] 1) bytes

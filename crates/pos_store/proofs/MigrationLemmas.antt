@@ -15,8 +15,8 @@ use Rattle.pos_store.specs.declared.fault.StoreFault.TheVariants as fault
 use Rattle.pos_store.specs.declared.medium.StoreMedium.TheVariants as which
 
 -- an image in the first slot of layout 2, whose gate was opened or not: no slot of layout 1 was written
-pub keeps_first : (n : ℕ) (old new : DiskState) → KeepsBeside Third n old new → KeepsFirstLayout old.reading new.reading
-keeps_first n old new beside = record {
+pub keeps_first : {n : ℕ} {old new : DiskState} → KeepsBeside Third n old new → KeepsFirstLayout old.reading new.reading
+keeps_first beside = record {
   same_length = beside.same_length;
   each = λ i first. beside.elsewhere i
       (λ hit. ⊎_elim (λ inside. omega (arith, first, inside.0)) (λ gate. omega (arith, first, gate)) hit);
@@ -35,9 +35,8 @@ module _ {D : Type 0} (bound : Ghosts D) (log : LogView D) (files : List File) (
       → AnswersMigration (Ready files log.images.sequence) (layout_of log.images.slot) (ready_with log files)
       (Err cause) (ready_with log files)
       → (IsErrOf {T = Unit {0}} (Err cause) fault.Device → ⊥)
-      → ((c : List ℕ) → bound.honest log.images.disk
-      → (bound.state log.images.disk).left_since (bound.state log.images.disk).moment c
-      → MayLeave (bound.state log.images.disk) c)
+      → ((c : List ℕ) → bound.honest log.images.disk → (bound.state log.images.disk).left_since
+      (bound.state log.images.disk).moment c → MayLeave (bound.state log.images.disk) c)
       → Migrates bound (ready_with log files) (Err cause) (ready_with log files)
   refused_migrates cause answer none only =
       let rest : bound.honest log.images.disk
@@ -84,10 +83,9 @@ module _ {D : Type 0} {bound : Ghosts D} {log : LogView D} {files : List File} {
           tail = renews.tail_is i;
         });
         crash = λ h. record {
-          any_moment = rw (renews.layout_is, renews.sequence_is)
-              (weaker (bound.state log.images.disk) (bound.state new.images.disk) _ _ (moving_stands h)
-              (renews.any_moment h));
-          now = leaves_files bound new.images files renews.ready.images moved_holds (renews.keeps.honest.0 h);
+          any_moment = rw (renews.layout_is, renews.sequence_is) (weaker (bound.state log.images.disk)
+              (bound.state new.images.disk) _ _ (moving_stands h) (renews.any_moment h));
+          now = leaves_files renews.ready.images moved_holds (renews.keeps.honest.0 h);
         };
         device = λ h is. absurd cc;
         counts = λ h. inr (⊎_elim (λ is. absurd cc) (λ same. same) (renews.counts h));

@@ -17,16 +17,14 @@ use Rattle.pos_store.specs.declared.fault.StoreFault.TheVariants as fault
 -- a recovery that only looked at the disk of a store that was off
 pub off_recovers : {D : Type 0} (bound : Ghosts D) (disk : D) (layout : Layout) (result : Result (Unit {0}) StoreFault)
     (new : StoreView D)
-    → FindsStanding (DiskStandsFor bound disk) result new.layout new.state
-    → (IsErr result → new.layout ≡ layout)
+    → FindsStanding (DiskStandsFor bound disk) result new.layout new.state → (IsErr result → new.layout ≡ layout)
     → (bound.honest disk → Watches (bound.state disk) (bound.state new.disk))
     → (bound.honest disk → LeavesItsFiles new.layout new.state (bound.state new.disk))
     → (bound.honest disk → OnOk result (EndsAt new.layout new.tail (bound.state disk).reading))
-    → (bound.honest disk → IsErrOf result fault.Device
-    → Rises (bound.state disk).failures (bound.state new.disk).failures)
+    → (bound.honest disk → IsErrOf result fault.Device → Rises (bound.state disk).failures
+    (bound.state new.disk).failures)
     → (bound.honest disk → IsErrOf result fault.Device ⊎ HasNotFailed (bound.state disk) (bound.state new.disk))
-    → KeepsDisk bound disk new.disk
-    → Recovers bound (view_of (which.Off disk layout)) result new
+    → KeepsDisk bound disk new.disk → Recovers bound (view_of (which.Off disk layout)) result new
 off_recovers bound disk layout result new finds kept watches now ends device counts keeps =
     let stands = λ (h : bound.honest disk).
     finds_so (DiskStandsFor bound disk) (λ standing. StandsFor standing (bound.state disk).reading)
@@ -36,31 +34,29 @@ off_recovers bound disk layout result new finds kept watches now ends device cou
     grind (arith, watches)
 
 -- a recovery that was refused for another cause than a fault of the disk
-pub refused_recovers : {D : Type 0} (bound : Ghosts D) (disk end : D) (layout : Layout) (cause : StoreFault)
+pub refused_recovers : {D : Type 0} {bound : Ghosts D} {disk end : D} {layout : Layout} (cause : StoreFault)
     → (IsErrOf {T = Unit {0}} (Err cause) fault.Device → ⊥)
     → FindsStanding (DiskStandsFor bound disk) (Err cause) layout Off
     → (bound.honest disk → Watches (bound.state disk) (bound.state end))
-    → (bound.honest disk → HasNotFailed (bound.state disk) (bound.state end))
-    → KeepsDisk bound disk end
+    → (bound.honest disk → HasNotFailed (bound.state disk) (bound.state end)) → KeepsDisk bound disk end
     → Recovers bound (view_of (which.Off disk layout)) (Err cause) (view_of (which.Off end layout))
-refused_recovers bound disk end layout cause none finds watches same keeps =
+refused_recovers {bound = bound} {disk = disk} {layout = layout} cause none finds watches same keeps =
     off_recovers bound disk layout (Err cause) _ finds (λ err. refl) watches (λ h. tt) (λ h. tt)
     (λ h is. absurd (none is)) (λ h. inr (same h)) keeps
 
 -- what is found where the images weren't opened
-pub told_finds : (P : Standing → Type 0) (layout : Layout) (cause : ImageFault) (told : StoreFault)
-    → ReportsImages cause told
-    → ((cause ≡ images.Unformatted) ⊎ (cause ≡ images.TooSmall) → P Unformatted)
+pub told_finds : (P : Standing → Type 0) (layout : Layout) {cause : ImageFault} (told : StoreFault)
+    → ReportsImages cause told → ((cause ≡ images.Unformatted) ⊎ (cause ≡ images.TooSmall) → P Unformatted)
     → (cause ≡ images.Damaged → P Damaged)
-    → (cause ≡ images.TooSmall) ⊎ ((cause ≡ images.Unformatted)
-    ⊎ ((cause ≡ images.Damaged) ⊎ ((cause ≡ images.Device) ⊎ (cause ≡ images.NoMemory))))
+    → (cause ≡ images.TooSmall) ⊎ ((cause ≡ images.Unformatted) ⊎ ((cause ≡ images.Damaged)
+    ⊎ ((cause ≡ images.Device) ⊎ (cause ≡ images.NoMemory))))
     → FindsStanding P (Err told) layout Off
-told_finds P layout cause told tells unformatted damaged known = grind arith
+told_finds P layout told tells unformatted damaged known = grind arith
 
 -- the disk's fault is told alone, wherever it is answered
-pub told_alone : (cause : ImageFault) (told : StoreFault) → ReportsImages cause told
+pub told_alone : {cause : ImageFault} {told : StoreFault} → ReportsImages cause told
     → IsErrOf {T = Unit {0}} (Err told) fault.Device ↔ (cause ≡ images.Device)
-told_alone cause told tells = ((λ is. grind arith), (λ is. grind arith))
+told_alone tells = ((λ is. grind arith), (λ is. grind arith))
 
 -- a damaged image is damage
 pub damaged_stands : (bytes : List ℕ) → image_on bytes ≡ image.DamagedImage → StandsFor Damaged bytes
@@ -87,7 +83,7 @@ pub no_groups_stand : (bytes : List ℕ) (layout : Layout) (body : List ℕ) (se
 no_groups_stand bytes layout body sequence base texts same sound spelled held none = (
   (λ empty. let is = sym same ∙ empty in cc),
   (λ by files after holds.
-      let shown = same_image layout by body (spelling holds.base) sequence after (sym same ∙ holds.shows) in
+      let shown = same_image (sym same ∙ holds.shows) in
       let is_base = one_spelling (limits_of layout) holds.base base (writable layout)
       (rw (← shown.0) at holds.directory) sound (sym shown.1 ∙ spelled) in
       let is_texts = one_log holds.texts texts (image.log_of bytes) holds.log held in
@@ -95,21 +91,19 @@ no_groups_stand bytes layout body sequence base texts same sound spelled held no
 )
 
 -- malformed bytes spell no directory
-pub malformed_none : (limits : Limits) (bytes : List ℕ) (cause : DirectoryFault) → cause ≡ directory.Malformed
-    → Decodes limits bytes (Err cause)
-    → ¬ (IsBody limits bytes)
-malformed_none limits bytes cause same decodes = rw same at decodes
+pub malformed_none : {limits : Limits} {bytes : List ℕ} {cause : DirectoryFault} → cause ≡ directory.Malformed
+    → Decodes limits bytes (Err cause) → ¬ (IsBody limits bytes)
+malformed_none same decodes = rw same at decodes
 
 -- what is found where the log wasn't opened
-pub told_log_finds : (P : Standing → Type 0) (layout : Layout) (cause : LogFault) (told : StoreFault)
-    → ReportsLog cause told → (cause ≡ logs.Damaged → P Damaged)
-    → FindsStanding P (Err told) layout Off
-told_log_finds P layout cause told tells damaged = grind arith
+pub told_log_finds : (P : Standing → Type 0) (layout : Layout) {cause : LogFault} (told : StoreFault)
+    → ReportsLog cause told → (cause ≡ logs.Damaged → P Damaged) → FindsStanding P (Err told) layout Off
+told_log_finds P layout told tells damaged = grind arith
 
 -- the disk's fault is told alone, wherever it is answered
-pub told_log_alone : (cause : LogFault) (told : StoreFault) → ReportsLog cause told
+pub told_log_alone : {cause : LogFault} {told : StoreFault} → ReportsLog cause told
     → IsErrOf {T = Unit {0}} (Err told) fault.Device ↔ (cause ≡ logs.Device)
-told_log_alone cause told tells = ((λ is. grind arith), (λ is. grind arith))
+told_log_alone tells = ((λ is. grind arith), (λ is. grind arith))
 
 -- a call that answered no fault of the disk left its count
 pub never_failed : {T E : Type 0} (before now : ℕ) (made : T) (device : E) → IsErrOf (Ok made) device ⊎ (now ≡ before)
@@ -117,10 +111,10 @@ pub never_failed : {T E : Type 0} (before now : ℕ) (made : T) (device : E) →
 never_failed before now made device counts = ⊎_elim (λ is. absurd cc) (λ same. same) counts
 
 -- what is found where the records weren't applied
-pub told_text_finds : (P : Standing → Type 0) (layout : Layout) (cause : StoreFault)
+pub told_text_finds : (P : Standing → Type 0) (layout : Layout) {cause : StoreFault}
     → (cause ≡ fault.Damaged) ⊎ (cause ≡ fault.NoMemory)
     → (cause ≡ fault.Damaged → P Damaged) → FindsStanding P (Err cause) layout Off
-told_text_finds P layout cause known damaged = ⊎_elim (λ is. rw is (damaged is, refl)) (λ is. rw is refl) known
+told_text_finds P layout known damaged = ⊎_elim (λ is. rw is (damaged is, refl)) (λ is. rw is refl) known
 
 -- two runs of calls keep the disk
 pub both_keep : {D : Type 0} (bound : Ghosts D) (old mid new : D) → KeepsDisk bound old mid → KeepsDisk bound mid new
@@ -128,13 +122,12 @@ pub both_keep : {D : Type 0} (bound : Ghosts D) (old mid new : D) → KeepsDisk 
 both_keep bound old mid new first second = search (rules, first, second)
 
 -- failures that rose in a later call rose since an earlier one
-pub later : {D : Type 0} (bound : Ghosts D) (old mid new : D) → KeepsDisk bound old mid → KeepsDisk bound mid new
-    → bound.honest old
-    → Rises (bound.state mid).failures (bound.state new).failures
+pub later : {D : Type 0} {bound : Ghosts D} {old mid new : D} → KeepsDisk bound old mid → KeepsDisk bound mid new
+    → bound.honest old → Rises (bound.state mid).failures (bound.state new).failures
     → Rises (bound.state old).failures (bound.state new).failures
-later bound old mid new first second honest rises = grind arith
+later first second honest rises = grind arith
 
 -- damage and want of memory are no faults of the disk
-pub not_device : (cause : StoreFault) → (cause ≡ fault.Damaged) ⊎ (cause ≡ fault.NoMemory)
+pub not_device : {cause : StoreFault} → (cause ≡ fault.Damaged) ⊎ (cause ≡ fault.NoMemory)
     → IsErrOf {T = Unit {0}} (Err cause) fault.Device → ⊥
-not_device cause known is = ⊎_elim (λ damaged. cc (is, damaged)) (λ memory. cc (is, memory)) known
+not_device known is = ⊎_elim (λ damaged. cc (is, damaged)) (λ memory. cc (is, memory)) known

@@ -33,14 +33,12 @@ taken_twice a xs ys = ap (λ bytes. record a { bytes = bytes }) (append_assoc a.
 
 -- a read that gave nothing found the end
 pub found_end : (old : Taken) (buffer : List ℕ) (count : ℕ) (new : Taken) → count ≡ 0
-    → TakesBytes old buffer (Ok count) new
-    → (new ≡ end_after old) × IsWhole old
+    → TakesBytes old buffer (Ok count) new → (new ≡ end_after old) × IsWhole old
 found_end old buffer zero new none takes = takes
 found_end old buffer (suc n) new none takes = absurd (omega arith)
 
 -- a read that gave bytes took them
 pub found_more : (old : Taken) (buffer : List ℕ) (count : ℕ) (new : Taken) → (count ≡ 0 → ⊥)
-    → TakesBytes old buffer (Ok count) new
-    → (count ≤ length buffer) × (new ≡ taken_after old (take count buffer))
+    → TakesBytes old buffer (Ok count) new → (count ≤ length buffer) × (new ≡ taken_after old (take count buffer))
 found_more old buffer zero new some takes = absurd (some refl)
 found_more old buffer (suc n) new some takes = takes

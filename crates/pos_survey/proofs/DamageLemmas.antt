@@ -26,13 +26,12 @@ use Rattle.pos_survey.specs.declared.fault.SurveyFault.{SurveyFault}
 use Rattle.pos_survey.specs.declared.fault.SurveyFault.TheVariants as fault
 
 -- a body that spells no files
-pub no_files : (bytes body : List ℕ) (slot : Slot) (sequence : ℕ) (cause : SurveyFault)
-    → IsCurrent bytes slot body sequence
-    → HasNoFilesIn body slot cause → Breaks bytes cause
-no_files bytes body slot sequence fault.NoMemory current none = tt
-no_files bytes body slot sequence fault.TooSmall current none = absurd none
-no_files bytes body slot sequence fault.Unformatted current none = absurd none
-no_files bytes body slot sequence (fault.Damaged at (rule.NoFiles flaw)) current (none, (within, place_is, has)) = (
+pub no_files : {bytes body : List ℕ} {slot : Slot} {sequence : ℕ} (cause : SurveyFault)
+    → IsCurrent bytes slot body sequence → HasNoFilesIn body slot cause → Breaks bytes cause
+no_files fault.NoMemory current none = tt
+no_files fault.TooSmall current none = absurd none
+no_files fault.Unformatted current none = absurd none
+no_files {bytes = bytes} {body = body} {slot = slot} {sequence = sequence} (fault.Damaged at (rule.NoFiles flaw)) current (none, (within, place_is, has)) = (
   no_body_stands bytes (layout_of slot) body sequence (image_here current).image none,
   record {
     slot = slot;
@@ -46,47 +45,44 @@ no_files bytes body slot sequence (fault.Damaged at (rule.NoFiles flaw)) current
     has = has;
   },
 )
-no_files bytes body slot sequence (fault.Damaged at other) current none = absurd none
+no_files (fault.Damaged at other) current none = absurd none
 
 -- a text with a flaw is no step
-no_step : (limits : Limits) (files : List File) (text : List ℕ) (broken : Rule) → IsFlaw limits files text broken
-    → (next : List File)
-    → IsStep limits files text next → ⊥
-no_step limits files text rule.SameSequence flaw next step = flaw
-no_step limits files text rule.LongBody flaw next step = flaw
-no_step limits files text (rule.NoFiles why) flaw next step = flaw
-no_step limits files text rule.LongRecord flaw next step = flaw
-no_step limits files text rule.NoGroup flaw next step = flaw (step.changes, step.group, step.spelled)
-no_step limits files text rule.EmptyGroup flaw next step =
+no_step : {limits : Limits} {files : List File} {text : List ℕ} (broken : Rule) → IsFlaw limits files text broken
+    → {next : List File} → IsStep limits files text next → ⊥
+no_step rule.SameSequence flaw step = flaw
+no_step rule.LongBody flaw step = flaw
+no_step (rule.NoFiles why) flaw step = flaw
+no_step rule.LongRecord flaw step = flaw
+no_step rule.NoGroup flaw step = flaw (step.changes, step.group, step.spelled)
+no_step rule.EmptyGroup flaw step =
     step.some (one_group_spelling step.changes [] step.group (record { count = omega arith; each = tt })
     (sym step.spelled ∙ flaw))
-no_step limits files text (rule.NotApplicable cause) (changes, group, spelled, refused) next step =
+no_step {limits = limits} {files = files} {text = text} (rule.NotApplicable cause) (changes, group, spelled, refused) {next = next} step =
     refused_step limits files text changes cause group spelled refused next step
 
 -- what goes on behind a text does so behind the files before it
-goes_on : (limits : Limits) (base : List File) (before : List (List ℕ)) (text : List ℕ) (behind : List (List ℕ))
+goes_on : {limits : Limits} (base : List File) (before : List (List ℕ)) {text : List ℕ} (behind : List (List ℕ))
     (last : List File)
     → Applies limits base (before ++ text ∷ behind) last
     → (files : List File) × Applies limits base before files × ((next : List File) × IsStep limits files text next)
-goes_on limits base [] text behind last (next, step, more) = (base, refl, (next, step))
-goes_on limits base (one ∷ before) text behind last (next, step, more) =
-    let (files, applied, goes) = goes_on limits next before text behind last more in
+goes_on base [] behind last (next, step, more) = (base, refl, (next, step))
+goes_on base (one ∷ before) behind last (next, step, more) =
+    let (files, applied, goes) = goes_on next before behind last more in
     (files, (next, step, applied), goes)
 
 -- records of which one breaks a rule aren't applied
-pub none_applied : (limits : Limits) (base : List File) (texts : List (List ℕ)) (first at : ℕ) (broken : Rule)
-    → StopsAt limits base texts first at broken
-    → (last : List File) → Applies limits base texts last → ⊥
-none_applied limits base texts first at broken stops last applies =
-    let (files, applied, goes) = goes_on limits base stops.before stops.text stops.behind last
-    (rw stops.texts_are at applies) in
+pub none_applied : {limits : Limits} (base : List File) {texts : List (List ℕ)} {first : ℕ} (at : ℕ) (broken : Rule)
+    → StopsAt limits base texts first at broken → (last : List File) → Applies limits base texts last → ⊥
+none_applied {limits = limits} base at broken stops last applies =
+    let (files, applied, goes) = goes_on base stops.before stops.behind last (rw stops.texts_are at applies) in
     let (next, step) = goes in
     let same = one_end limits stops.before base files stops.files applied stops.applies in
-    no_step limits stops.files stops.text broken stops.flaw next (rw same at step)
+    no_step broken stops.flaw (rw same at step)
 
 -- the rules of a record are none of those of an image
-bad_rule : (bytes : List ℕ) (at : ℕ) (broken : Rule) → HasBadRecord bytes at broken → IsDamage bytes at broken
-bad_rule bytes at broken bad = let flaw = bad.stops.flaw in grind arith
+bad_rule : {bytes : List ℕ} {at : ℕ} {broken : Rule} → HasBadRecord bytes at broken → IsDamage bytes at broken
+bad_rule bad = let flaw = bad.stops.flaw in grind arith
 
 module _ (bytes body : List ℕ) (slot : Slot) (base : List File) (sequence : ℕ)
     (current : IsCurrent bytes slot body sequence)
@@ -121,16 +117,15 @@ module _ (bytes body : List ℕ) (slot : Slot) (base : List File) (sequence : �
   bad_record texts held fault.Unformatted stops = absurd stops
   bad_record texts held (fault.Damaged at broken) stops = (
     no_groups_stand bytes (layout_of slot) body sequence base texts (image_here current).image sound spelled held
-        (none_applied (limits_of (layout_of slot)) base texts (log_begins slot) at broken stops),
-    bad_rule bytes at broken
-        (record {
-          slot = slot;
-          base = base;
-          sequence = sequence;
-          image = has_base;
-          texts = texts;
-          held = held;
-          stops =
-              stops;
-        }),
+        (none_applied base at broken stops),
+    bad_rule (record {
+      slot = slot;
+      base = base;
+      sequence = sequence;
+      image = has_base;
+      texts = texts;
+      held = held;
+      stops =
+          stops;
+    }),
   )

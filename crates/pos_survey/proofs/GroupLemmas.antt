@@ -13,31 +13,30 @@ use Rattle.pos_survey.specs.declared.fault.SurveyFault.{SurveyFault}
 use Rattle.pos_survey.specs.declared.fault.SurveyFault.TheVariants as fault
 
 -- what stands before an item, the item, and what stands behind it
-pub in_three : {X : Type 0} (f : X → List ℕ) (xs : List X) (i : ℕ) (x : X) → i < length xs → x ≡ get_or xs i x
+pub in_three : {X : Type 0} (f : X → List ℕ) (xs : List X) (i : ℕ) {x : X} → i < length xs → x ≡ get_or xs i x
     → map f xs ≡ map f (take i xs) ++ f x ∷ map f (drop (i + 1) xs)
-in_three f xs i x less is =
+in_three f xs i {x = x} less is =
     ap (map f) (sym (take-append-drop i xs) ∙ ap (λ d. take i xs ++ d) (front_drop xs i x less is))
     ∙ map-append f (take i xs) (x ∷ drop (i + 1) xs)
 
 -- a record ends before all of them do
-pub ends_within : (texts before behind : List (List ℕ)) (text : List ℕ) → texts ≡ before ++ text ∷ behind
+pub ends_within : {texts : List (List ℕ)} (before behind : List (List ℕ)) (text : List ℕ) → texts ≡ before ++ text ∷ behind
     → length (spelling before) + (5 + length text) ≤ length (spelling texts)
-ends_within texts before behind text is =
+ends_within before behind text is =
     let whole = ap length (ap spelling is ∙ flat_map-append record_spelling before (text ∷ behind)) in
     let two = length-append (spelling before) (record_spelling text ++ spelling behind) in
     let one = length-append (record_spelling text) (spelling behind) in
     omega arith
 
 -- the first text that isn't applied
-pub stops : (limits : Limits) (base files : List File) (texts before behind : List (List ℕ)) (text : List ℕ)
-    (first at : ℕ) (cause : SurveyFault)
+pub stops : (limits : Limits) (base files : List File) {texts : List (List ℕ)} (before behind : List (List ℕ))
+    (text : List ℕ) (first : ℕ) {at : ℕ} (cause : SurveyFault)
     → texts ≡ before ++ text ∷ behind → at ≡ first + length (spelling before) → Applies limits base before files
-    → IsRefused limits files text at cause
-    → StopsFor limits base texts first cause
-stops limits base files texts before behind text first at fault.NoMemory is place applies flaw = tt
-stops limits base files texts before behind text first at fault.TooSmall is place applies flaw = flaw
-stops limits base files texts before behind text first at fault.Unformatted is place applies flaw = flaw
-stops limits base files texts before behind text first at (fault.Damaged there broken) is place applies (same, flaw) =
+    → IsRefused limits files text at cause → StopsFor limits base texts first cause
+stops limits base files before behind text first fault.NoMemory is place applies flaw = tt
+stops limits base files before behind text first fault.TooSmall is place applies flaw = flaw
+stops limits base files before behind text first fault.Unformatted is place applies flaw = flaw
+stops limits base files before behind text first (fault.Damaged there broken) is place applies (same, flaw) =
     record {
       before = before;
       text = text;

@@ -5,8 +5,7 @@ use Rattle.pos_file.specs.Calls.{Call}
 use Rattle.pos_tool.specs.Copies.{IsSteady, IsUnsteady, LastGave, ReadsFront, front_read}
 
 module _ {F : Type 0} (calls : F → List Call) (old mid new : F) (one other : List ℕ)
-    (first : ReadsFront calls old mid one)
-    (second : ReadsFront calls mid new other) where
+    (first : ReadsFront calls old mid one) (second : ReadsFront calls mid new other) where
   last_gave : LastGave calls new one other
   last_gave = (
     calls old,

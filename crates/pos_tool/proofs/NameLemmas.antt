@@ -44,8 +44,7 @@ finds_more folder them (first ∷ paths) found path more (here, others, at, rest
   others ++ more,
   at,
   finds_more folder them paths others path more rest one,
-  ap (λ xs. xs ++ more) split
-      ∙ append_assoc here others more,
+  ap (λ xs. xs ++ more) split ∙ append_assoc here others more,
 )
 
 -- names in order, as lists of bytes

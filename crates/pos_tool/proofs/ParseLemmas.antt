@@ -37,8 +37,7 @@ module _ (app : App) (words : List Text) (same : app ≡ program_line) where
 
   -- an error of another kind than memory is a fault in the words
   among : (error : Error) → (is_simple_and_free app ≡ true → HasKind (fault_of app words) error)
-      → kind_of error ≢ OutOfMemory
-      → IsAmong (kind_of error) (fault_of program_line words)
+      → kind_of error ≢ OutOfMemory → IsAmong (kind_of error) (fault_of program_line words)
   among error kinds other = by (rw same at (kinds (rw same program_known.0)))
     where
       by : HasKind (fault_of program_line words) error → IsAmong (kind_of error) (fault_of program_line words)
@@ -74,8 +73,7 @@ pub begun : (name : Text) (new unnamed started : Command) → app_of new ≡ new
     → fields_of started ≡ record (fields_of unnamed) { disable_help_subcommand = true }
     → app_of started ≡ on_top (λ s. record s { no_binary_name = true; disable_help_subcommand = true }) (new_app name)
 begun name new unnamed started is first second =
-    ap app_of_fields second
-    ∙ ap (on_top (λ s. record s { disable_help_subcommand = true }))
+    ap app_of_fields second ∙ ap (on_top (λ s. record s { disable_help_subcommand = true }))
     (ap app_of_fields first ∙ ap (on_top (λ s. record s { no_binary_name = true })) is)
 
 -- a version on a command line
@@ -86,8 +84,7 @@ versioned text old new before is third = ap app_of_fields third ∙ ap (on_top (
 
 -- the words of a place in the matches of a command
 pub words_there : (found : Found) (place : Text) (words : List Text)
-    → Some words ≡ option_map raw_values (matched_of found place)
-    → words ≡ words_in place (rows_of found)
+    → Some words ≡ option_map raw_values (matched_of found place) → words ≡ words_in place (rows_of found)
 words_there found place words is = rw (← (is ∙ raw_values-rows found place)) refl
 
 pub no_words : (found : Found) (place : Text) → None ≡ option_map raw_values (matched_of found place)

@@ -3,7 +3,7 @@ use Rattle.pos_totals.proofs.Common.{AllByRecursion, AreApart, FileChange, Holdi
 use Rattle.pos_totals.proofs.Common.{Layout, List, None, Option, PlainFile, Some, State, StoreOff, StoreReady, FileTag}
 use Rattle.pos_totals.proofs.Common.{ClaimScope, [], ap, arith, false, foreign_area, given_after, is_area_taken}
 use Rattle.pos_totals.proofs.Common.{is_foreign, is_foreign_claim, length, list_any, list_any-map, map, nat_tests}
-use Rattle.pos_totals.proofs.Common.{new_tag, reclaimed, refl, suc, sym, tag_of, tags_from, totals_at, with_tags, zero}
+use Rattle.pos_totals.proofs.Common.{reclaimed, refl, suc, sym, tag_of, tags_from, totals_at, with_tags, zero}
 use Rattle.pos_totals.proofs.Common.{ℕ, ◌+◌, ◌∙◌, ◌∷◌, ◌≡◌}
 use Rattle.pos_totals.proofs.HandleLemmas.{all_with, all_without}
 use Rattle.pos_totals.proofs.PairLemmas.{tags_in}
@@ -20,7 +20,7 @@ IsApart area tags = IfSome area (λ holder. NoOther holder tags)
 no_other_after : (holder : ℕ) (tags : List FileTag) (next : ℕ) (made : FileChange) → NoOther holder tags
     → NoOther holder (given_after tags next made)
 no_other_after holder tags next (file.Create name size) apart =
-    all_with (λ tag. is_foreign holder tag.claim ≡ false) tags (new_tag next) apart refl
+    all_with (λ tag. is_foreign holder tag.claim ≡ false) tags apart refl
 no_other_after holder tags next (file.Delete index) apart =
     all_without (λ tag. is_foreign holder tag.claim ≡ false) tags index apart
 no_other_after holder tags next other apart = apart
@@ -40,8 +40,7 @@ apart_new (Some holder) first count = no_other_new holder first count
 
 -- tags have another claim, which isn't that of another than the holder
 no_other_reclaimed : (whose : ClaimScope) (holder : ℕ) (claim : Option ℕ) (tags : List FileTag)
-    → is_foreign holder claim ≡ false → NoOther holder tags
-    → NoOther holder (map (reclaimed whose claim) tags)
+    → is_foreign holder claim ≡ false → NoOther holder tags → NoOther holder (map (reclaimed whose claim) tags)
 no_other_reclaimed whose holder claim [] own apart = tt
 no_other_reclaimed whose holder claim (tag ∷ tags) own apart =
     (grind (arith, nat_tests, apart.0), no_other_reclaimed whose holder claim tags own apart.1)
@@ -71,12 +70,12 @@ no_other_left control [] none = tt
 no_other_left control (tag ∷ tags) none =
     (grind (arith, nat_tests), no_other_left control tags (grind (arith, nat_tests)))
 
-pub sound_claimed : {layout : Layout} (state : State) (tail : ℕ) (holdings : Holdings) (control : ℕ)
+pub sound_claimed : {layout : Layout} (state : State) (tail : ℕ) {holdings : Holdings} {control : ℕ}
     → is_area_taken (totals_at state tail holdings) control ≡ false
     → IsSound layout state holdings → IsSound layout state (record holdings { area = Some control })
-sound_claimed StoreOff tail holdings control free sound =
+sound_claimed StoreOff tail free sound =
     record { found = tt; handles = tt; buffers = sound.buffers; apart = tt }
-sound_claimed (StoreReady files sequence) tail holdings control free sound = record {
+sound_claimed (StoreReady files sequence) tail {holdings = holdings} {control = control} free sound = record {
   found = sound.found;
   handles = sound.handles;
   buffers = sound.buffers;

@@ -6,7 +6,7 @@ use Rattle.pos_totals.proofs.Common.{files_after_all, find, fits, fits_file, fol
 use Rattle.pos_totals.proofs.Common.{is_named, is_of_none, length, limits_of, list_any, nat_abs, nat_tests, next_after}
 use Rattle.pos_totals.proofs.Common.{next_after_all, not, outcome_of_all, plain, refl, replicate, slice_set, subst, suc}
 use Rattle.pos_totals.proofs.Common.{sym, tag_of, tags_of, transaction_at, true, with_each, without_transactions, zero}
-use Rattle.pos_totals.proofs.Common.{ℕ, ℤ, ◌+◌, ◌∙◌, ◌∷◌, ◌≡◌, ◌≤◌}
+use Rattle.pos_totals.proofs.Common.{ℕ, ℤ, ◌∙◌, ◌∷◌, ◌≡◌, ◌≤◌}
 use Rattle.pos_totals.proofs.EditLemmas.{keeps_size}
 use Rattle.pos_totals.proofs.GroupLemmas.{IsUnrefused, made_edit, edit_fits, some_of, fitting, only_called}
 use Rattle.pos_totals.proofs.HandleLemmas.{all_so, all_with}
@@ -16,8 +16,8 @@ use Rattle.pos_totals.proofs.PlaceLemmas.{kept}
 
 -- ---- whatever changes the files
 
-given_more : (next later : ℕ) (handle : ℤ) → next ≤ later → IsGiven next handle → IsGiven later handle
-given_more next later handle more given = grind arith
+given_more : {next later : ℕ} (handle : ℤ) → next ≤ later → IsGiven next handle → IsGiven later handle
+given_more handle more given = grind arith
 
 -- no given handle is that of a new file
 new_handle : (next : ℕ) (handle : ℤ) (name bytes : List ℕ) → IsGiven next handle
@@ -26,11 +26,10 @@ new_handle next handle name bytes given called = grind (arith, nat_tests)
 
 -- an edit that fits the file with a handle fits each such file
 pub all_fit : (files : List File) (handle : ℤ) (edit : FileEdit) → AreDistinct (handles_of files)
-    → fits_file (find (is_called handle) files) edit ≡ true
-    → FitsEach files handle edit
+    → fits_file (find (is_called handle) files) edit ≡ true → FitsEach files handle edit
 all_fit files handle edit distinct fit =
     let found = fitting (find (is_called handle) files) edit fit in
-    one_meets (is_called handle) (λ file. fits (length file.bytes) edit ≡ true) files found.0
+    one_meets (is_called handle) (λ file. fits (length file.bytes) edit ≡ true) files
     (only_called files handle distinct) found.1 found.2
 
 -- an edit that fits keeps all sizes
@@ -47,8 +46,8 @@ pub buffered_after : {layout : Layout} {files : List File} {next control : ℕ} 
     → IsUnrefused layout files next control spent change → IsBuffered files next buffered
     → IsBuffered (files_after next files change) (next_after next change) buffered
 buffered_after {files = files} {next = next} (Create name size) (Edit handle edit) may is = (
-  given_more next (next + 1) handle (omega arith) is.0,
-  all_with (λ file. is_called handle file ≡ true → fits (length file.bytes) edit ≡ true) files _ is.1
+  given_more handle (omega arith) is.0,
+  all_with (λ file. is_called handle file ≡ true → fits (length file.bytes) edit ≡ true) files is.1
       (λ called. absurd (new_handle next handle name (replicate (nat_abs size) 0) is.0 called)),
   is.2,
 )
@@ -59,7 +58,7 @@ buffered_after {files = files} {next = next} (Rename other name) (Edit handle ed
     (sym (kept outline (is_called other) (λ file. record file { name = name }) files (λ file. refl))) is
 buffered_after {files = files} {next = next} (Edit other done) (Edit handle edit) may is =
     same_buffered files (files_after next files (Edit other done)) next (Edit handle edit)
-    (sym (edits_keep files other done (all_fit files other done may.theirs.distinct (edit_fits other done may)))) is
+    (sym (edits_keep files other done (all_fit files other done may.theirs.distinct (edit_fits may)))) is
 buffered_after change other may is = absurd is
 
 -- ---- one group of all that is buffered
@@ -97,21 +96,20 @@ makes_all layout files next (Edit handle edit ∷ changes) distinct all there =
     ∙ found_has (is_called handle) (λ file. fits (length file.bytes) edit ≡ true) files file first.1 is_found in
     let same = edits_keep files handle edit first.1 in
     let alike = same_group files after next changes (sym same) others in
-    rw (made_edit layout files handle edit next distinct fit, alike.0)
-    (makes_all layout after next changes (same_distinct files after (sym same) distinct)
-    (all_so _ _ changes (λ change is. same_buffered files after next change (sym same) is) others)
-    (sym alike.1 ∙ grind (arith, nat_tests, there)))
+    rw (made_edit layout files handle edit next distinct fit, alike.0) (makes_all layout after next changes
+    (same_distinct files after (sym same) distinct) (all_so _ _ changes (λ change is. same_buffered files after next
+    change (sym same) is) others) (sym alike.1 ∙ grind (arith, nat_tests, there)))
 makes_all layout files next (other ∷ changes) distinct all there = absurd all.0
 
 -- ---- what all controls hold
 
 -- the transaction of a control may be held
-pub held_at : (mode : Mode) (next : ℕ) (transactions : List (Option (List Change))) (control : ℕ) (buffer : List Change)
+pub held_at : (mode : Mode) (next : ℕ) (transactions : List (Option (List Change))) (control : ℕ) {buffer : List Change}
     → HaveBuffers mode next transactions → transaction_at transactions control ≡ Some buffer
     → MayHold mode next (Some buffer)
-held_at mode next [] control buffer all is = absurd cc
-held_at mode next (first ∷ others) zero buffer all is = subst (MayHold mode next) is all.0
-held_at mode next (first ∷ others) (suc control) buffer all is = held_at mode next others control buffer all.1 is
+held_at mode next [] control all is = absurd cc
+held_at mode next (first ∷ others) zero all is = subst (MayHold mode next) is all.0
+held_at mode next (first ∷ others) (suc control) all is = held_at mode next others control all.1 is
 
 -- another transaction of a control that may be held
 pub held_with : (mode : Mode) (next : ℕ) (transactions : List (Option (List Change))) (control : ℕ)
@@ -134,11 +132,11 @@ none_hold mode next [] = tt
 none_hold mode next (first ∷ others) = (none_held mode next, none_hold mode next others)
 
 -- what is held of files is held of others for which it may be buffered
-pub holds_so : (files after : List File) (sequence later next following : ℕ)
+pub holds_so : (files after : List File) (sequence later : ℕ) {next following : ℕ}
     (transactions : List (Option (List Change)))
     → ((change : Change) → IsBuffered files next change → IsBuffered after following change)
     → HaveBuffers (Ready files sequence) next transactions → HaveBuffers (Ready after later) following transactions
-holds_so files after sequence later next following transactions so all =
+holds_so files after sequence later {next = next} {following = following} transactions so all =
     all_so (MayHold (Ready files sequence) next) (MayHold (Ready after later) following) transactions each all
   where
     each : (transaction : Option (List Change)) → MayHold (Ready files sequence) next transaction
@@ -148,8 +146,7 @@ holds_so files after sequence later next following transactions so all =
 
 -- nothing is held while the totals are off
 pub off_holds : (files : List File) (sequence next following : ℕ) (transactions : List (Option (List Change)))
-    → HaveBuffers Off next transactions
-    → HaveBuffers (Ready files sequence) following transactions
+    → HaveBuffers Off next transactions → HaveBuffers (Ready files sequence) following transactions
 off_holds files sequence next following transactions all =
     all_so (MayHold Off next) (MayHold (Ready files sequence) following) transactions
     (λ transaction none. subst (MayHold (Ready files sequence) following) (sym none) tt) all

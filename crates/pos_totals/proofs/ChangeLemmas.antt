@@ -9,7 +9,7 @@ use Rattle.pos_totals.proofs.Common.{Totals, [], ap, arith, edit_in, eqb-false, 
 use Rattle.pos_totals.proofs.Common.{files_of, find, first_refusal, following, given_after, given_by, group_by_change}
 use Rattle.pos_totals.proofs.Common.{group_of, handles_of, in_transaction, index_of, is_called, is_create, is_named}
 use Rattle.pos_totals.proofs.Common.{is_none, is_some, lacks, last_number, length, length-map, limits_of, mode_of}
-use Rattle.pos_totals.proofs.Common.{nat_eq, nat_tests, next_after, not, number_rows, option_map, outcome, refl}
+use Rattle.pos_totals.proofs.Common.{nat_eq, nat_tests, not, number_rows, option_map, outcome, refl}
 use Rattle.pos_totals.proofs.Common.{refusals_of_change, sequence_after, slice_set, spent_by, sym, tag_of, tags_of}
 use Rattle.pos_totals.proofs.Common.{totals_limits, totals_at, totals_of, transaction_at, true, value_after, view_of}
 use Rattle.pos_totals.proofs.Common.{with_buffered, with_tags, ℕ, ℤ, ◌&&◌, ◌++◌, ◌<◌, ◌^◌, ◌∙◌, ◌∷◌, ◌≡◌, ◌⊎◌}
@@ -33,8 +33,7 @@ use Rattle.pos_service.specs.declared.code.Code.TheVariants as code
 
 -- the group of a change of files that are sound is one
 is_group : {layout : Layout} (state : State) (tail : ℕ) (holdings : Holdings) (control : ℕ) (change : Change)
-    → HasDirectory holdings.layout state
-    → IsSound layout state holdings
+    → HasDirectory holdings.layout state → IsSound layout state holdings
     → IsOneGroup (totals_at state tail holdings) (group_by_change (totals_at state tail holdings) control change)
 is_group StoreOff tail holdings control change directory sound = grind (arith, nat_tests)
 is_group (StoreReady files sequence) tail holdings control change directory sound =
@@ -43,26 +42,26 @@ is_group (StoreReady files sequence) tail holdings control change directory soun
     (change ∷ []) (λ is.
     let may : IsUnrefused holdings.layout (files_of old.mode) holdings.handles.next control
     (spent_by old control) change =
-    record { theirs = sound_files holdings files directory sound.handles; rows = grind (arith, nat_tests) } in
+    record { theirs = sound_files holdings directory sound.handles; rows = grind (arith, nat_tests) } in
     rw (makes change may) refl)
 
 pub stays : {D : Type 0} {bound : Ghosts D} {store : StoreView D} {holdings : Holdings} → Begins bound store holdings
-    → (control : ℕ) (change : Change) (outcome : Result Answer NoMemory)
+    → {control : ℕ} {change : Change} {outcome : Result Answer NoMemory}
     → Changed (HasFailed bound store.disk store.disk) (totals_of store holdings) control change outcome
     (totals_of store holdings)
     → Changes bound (view_of store holdings) control change outcome (view_of store holdings)
-stays {store = store} {holdings = holdings} begins control change outcome changed = record {
+stays {store = store} {holdings = holdings} begins {control = control} {change = change} {outcome = outcome} changed = record {
   answer = changed;
   disk = rests begins _ outcome (is_group store.state store.tail holdings control change begins.directory begins.sound);
 }
 
 -- a change that its table refuses
 pub refuses : {D : Type 0} {bound : Ghosts D} {store : StoreView D} {holdings : Holdings} → Begins bound store holdings
-    → (control : ℕ) (change : Change) (refusal : Answer)
+    → {control : ℕ} {change : Change} {refusal : Answer}
     → ChecksAt (totals_of store holdings) control change (Err refusal)
     → Changes bound (view_of store holdings) control change (Ok refusal) (view_of store holdings)
-refuses begins control change refusal checks =
-    stays begins control change (Ok refusal) (record { outcome = rw checks (refl, refl) })
+refuses begins checks =
+    stays begins (record { outcome = rw checks (refl, refl) })
 
 -- ---- what may be buffered
 
@@ -73,10 +72,9 @@ only_edits files next (Edit handle edit) is = is_edit (index_of (is_called handl
 only_edits files next other is = absurd is
 
 -- a buffered change is the one that was asked for
-same_asked : (change other : Change) (named : Option ℕ) (found : Option FileEdit) → is_some found ≡ true
-    → IsEdit change named found
-    → IsEdit other named found → other ≡ change
-same_asked change other named found some asked again = grind (arith, nat_tests)
+same_asked : {change other : Change} (named : Option ℕ) (found : Option FileEdit) → is_some found ≡ true
+    → IsEdit change named found → IsEdit other named found → other ≡ change
+same_asked named found some asked again = grind (arith, nat_tests)
 
 -- the handle of a file that was found was given
 given_below : (handle : ℤ) (files : List File) (next : ℕ) → AllByRecursion (λ h. h < next) (handles_of files)
@@ -89,7 +87,7 @@ given_below handle (first ∷ files) next below =
 is_buffered : {layout : Layout} {files : List File} {next control : ℕ} {spent : Option ℕ} (change : Change)
     → IsUnrefused layout files next control spent change → is_some spent ≡ true → IsBuffered files next change
 is_buffered {files = files} {next = next} (Edit handle edit) may inside =
-    let fit = edit_fits handle edit may in
+    let fit = edit_fits may in
     let found = fitting (find (is_called handle) files) edit fit in (
       found_has (is_called handle) (λ file. IsGiven next handle) files found.0
           (given_below handle files next may.theirs.below) found.1,
@@ -100,31 +98,28 @@ is_buffered {spent = None} other may inside = absurd cc
 is_buffered {spent = Some spent} other may inside = absurd (let rows = may.rows in cc)
 
 -- one more is held with what a control has buffered
-may_hold : (mode : Mode) (next : ℕ) (transactions : List (Option (List Change))) (control : ℕ) (buffer : List Change)
+may_hold : (mode : Mode) (next : ℕ) (transactions : List (Option (List Change))) (control : ℕ) {buffer : List Change}
     (change : Change)
     → HaveBuffers mode next transactions → transaction_at transactions control ≡ Some buffer
-    → IsBuffered (files_of mode) next change
-    → MayHold mode next (Some (buffer ++ change ∷ []))
-may_hold Off next transactions control buffer change held some is =
-    absurd (let none = held_at Off next transactions control buffer held some in cc)
-may_hold (Ready files sequence) next transactions control buffer change held some is =
-    all_with (IsBuffered files next) buffer change
-    (held_at (Ready files sequence) next transactions control buffer held some) is
+    → IsBuffered (files_of mode) next change → MayHold mode next (Some (buffer ++ change ∷ []))
+may_hold Off next transactions control change held some is =
+    absurd (let none = held_at Off next transactions control held some in cc)
+may_hold (Ready files sequence) next transactions control {buffer = buffer} change held some is =
+    all_with (IsBuffered files next) buffer (held_at (Ready files sequence) next transactions control held some) is
 
 -- ---- a change that is let through
 
 -- the tags have a place for what the change does to them
 has_place : {layout : Layout} {files : List File} {next control : ℕ} {spent : Option ℕ} (change : Change)
     → IsUnrefused layout files next control spent change → (is_create change && nat_eq next last_number) ≡ false
-    → next < 2 ^ 64
-    → HasPlace (tags_of files) next (file_change files change)
+    → next < 2 ^ 64 → HasPlace (tags_of files) next (file_change files change)
 has_place {layout = layout} {files = files} {next = next} (Create name size) may left small =
     let rows = may.rows in
     let few : length files < (limits_of layout).files = grind (arith, nat_tests) in
     let other = eqb-false next last_number left in
     (grind (arith, length-map files tag_of, few), omega (arith, other, small))
 has_place {files = files} (Delete name) may left small =
-    let found = deleted name may in
+    let found = deleted may in
     omega (arith, length-map files tag_of, found_inside (is_named name) files found.0 found.1)
 has_place (Rename handle name) may left small = tt
 has_place {files = files} {next = next} (Edit handle edit) may left small =
@@ -142,41 +137,37 @@ kept_holdings holdings made = record holdings {
 
 -- What the checks of a change found that lets it through: the totals are ready, and a group takes it.
 pub record Allowed {D : Type 0} (bound : Ghosts D) (store : StoreView D) (holdings : Holdings) (control : ℕ)
-    (change : Change) (made : CheckedUpdate)
-    : Type 0 where
+    (change : Change) (made : CheckedUpdate) : Type 0 where
   pub begins : Begins bound store holdings
   pub ready : IsReady (mode_of holdings.handles.given store.state)
   pub unrefused : first_refusal (refusals_of_change (totals_of store holdings) control change) ≡ None
   pub passes : Passes (totals_limits holdings.layout) (files_of (mode_of holdings.handles.given store.state)) control
       (spent_by (totals_of store holdings) control) change made
-  pub unrefused_here : IsUnrefused holdings.layout
-      (files_of (mode_of holdings.handles.given store.state)) holdings.handles.next control
-      (spent_by (totals_of store holdings) control) change
+  pub unrefused_here : IsUnrefused holdings.layout (files_of (mode_of holdings.handles.given store.state))
+      holdings.handles.next control (spent_by (totals_of store holdings) control) change
   pub tags : tags_of (files_of (mode_of holdings.handles.given store.state)) ≡ holdings.handles.given
 
-pub allowed : {D : Type 0} {bound : Ghosts D} (disk : D) (layout : Layout) (state : State) (tail : ℕ)
-    (holdings : Holdings) (control : ℕ)
-    (change : Change) (made : CheckedUpdate)
+pub allowed : {D : Type 0} {bound : Ghosts D} {disk : D} {layout : Layout} (state : State) {tail : ℕ}
+    {holdings : Holdings} {control : ℕ} {change : Change} {made : CheckedUpdate}
     → Begins bound (record { disk = disk; layout = layout; state = state; tail = tail }) holdings
     → ChecksAt (totals_at state tail holdings) control change (Ok made)
     → Allowed bound (record { disk = disk; layout = layout; state = state; tail = tail }) holdings control change made
-allowed disk layout StoreOff tail holdings control change made begins checks = absurd checks.1
-allowed disk layout (StoreReady files sequence) tail holdings control change made begins checks = record {
+allowed StoreOff begins checks = absurd checks.1
+allowed (StoreReady files sequence) {holdings = holdings} begins checks = record {
   begins = begins;
   ready = tt;
   unrefused = rw checks.0 checks.1.unrefused;
   passes = checks.1;
   unrefused_here = record {
-    theirs = sound_files holdings files begins.directory begins.sound.handles;
+    theirs = sound_files holdings begins.directory begins.sound.handles;
     rows =
         checks.1.unrefused;
   };
   tags = tags_in holdings.handles.given files begins.sound.handles.count;
 }
 
-module _ {D : Type 0} {bound : Ghosts D} {store : StoreView
-    D} {holdings : Holdings} {control : ℕ} {change : Change} {made : CheckedUpdate}
-    (may : Allowed bound store holdings control change made) where
+module _ {D : Type 0} {bound : Ghosts D} {store : StoreView D} {holdings : Holdings} {control : ℕ} {change : Change}
+    {made : CheckedUpdate} (may : Allowed bound store holdings control change made) where
   abbrev old : Totals
   old = totals_of store holdings
 
@@ -187,7 +178,7 @@ module _ {D : Type 0} {bound : Ghosts D} {store : StoreView
   one = rw (makes change may.unrefused_here) refl
 
   pub applicable : IsApplicable store.layout store.state (made.change ∷ [])
-  applicable = rw may.passes.made at (group_applies store.state store.tail holdings (change ∷ []) may.begins.sound one)
+  applicable = rw may.passes.made at (group_applies store.state store.tail (change ∷ []) may.begins.sound one)
 
   lacks_so : (b : Bool) → lacks next made.change ≡ b → (is_create change && nat_eq next last_number) ≡ b
   lacks_so b lacking = sym (numbers_are (files_of old.mode) change next).0 ∙ ap (lacks next) may.passes.made ∙ lacking
@@ -197,7 +188,7 @@ module _ {D : Type 0} {bound : Ghosts D} {store : StoreView
 
   -- a change that finds no memory
   pub wants : Changes bound (view_of store holdings) control change (Err (record {})) (view_of store holdings)
-  wants = stays may.begins control change (Err (record {})) (may.unrefused, refl)
+  wants = stays may.begins (may.unrefused, refl)
 
   -- the change is buffered
   added : (buffer : List Change) → transaction_at holdings.transactions control ≡ Some buffer
@@ -213,11 +204,9 @@ module _ {D : Type 0} {bound : Ghosts D} {store : StoreView
           answer = record { outcome = rw (may.unrefused, some) (refl, refl) };
           disk = rw none (idles may.begins _ [] _ refl (λ refused. absurd (refused tt)));
         },
-        retransacted _ may.begins.sound
-            (held_with old.mode next holdings.transactions control
-            (Some (buffer ++ change ∷ [])) may.begins.sound.buffers
-            (may_hold old.mode next holdings.transactions control buffer change may.begins.sound.buffers some
-            (is_buffered change may.unrefused_here (rw some refl)))),
+        retransacted may.begins.sound (held_with old.mode next holdings.transactions control
+            (Some (buffer ++ change ∷ [])) may.begins.sound.buffers (may_hold old.mode next holdings.transactions
+            control change may.begins.sound.buffers some (is_buffered change may.unrefused_here (rw some refl)))),
       )
 
   -- it is, or finds no memory for it
@@ -233,9 +222,8 @@ module _ {D : Type 0} {bound : Ghosts D} {store : StoreView
       let edits = rw may.passes.made at (only_edits (files_of old.mode) next change
       (is_buffered change may.unrefused_here (rw some.1 refl))) in
       let is : new ≡ slice_set holdings.transactions control (Some (some.0 ++ change ∷ [])) =
-      did.1.added ∙ ap (with_buffered holdings.transactions control)
-      (same_asked change did.1.change made.handle (edit_in made.change) edits may.passes.asked did.1.asked)
-      ∙ ap (λ (t : Option (List Change)). slice_set holdings.transactions control
+      did.1.added ∙ ap (with_buffered holdings.transactions control) (same_asked made.handle (edit_in made.change) edits
+      may.passes.asked did.1.asked) ∙ ap (λ (t : Option (List Change)). slice_set holdings.transactions control
       (option_map (λ b. b ++ change ∷ []) t)) some.1 in
       rw (is, did.0) (added some.0 some.1)
 
@@ -254,8 +242,7 @@ module _ {D : Type 0} {bound : Ghosts D} {store : StoreView
     pub lacking : lacks next made.change ≡ true
         → Changes bound (view_of store holdings) control change (Ok (answer.Refused code.Failure 0))
         (view_of store holdings)
-    lacking out = stays may.begins control change _
-        (outside _ _ _ (record { outcome = rw (lacks_so true out) (refl, refl) }))
+    lacking out = stays may.begins (outside _ _ _ (record { outcome = rw (lacks_so true out) (refl, refl) }))
 
     -- its group, and what it is answered, the handle being there
     grouped : group_by_change old control change ≡ change ∷ []
@@ -268,10 +255,9 @@ module _ {D : Type 0} {bound : Ghosts D} {store : StoreView
 
 -- ---- a change that is put on the disk
 
-module _ {D : Type 0} {bound : Ghosts D} {disk : D} {files : List PlainFile} {sequence
-    tail : ℕ} {holdings : Holdings} {control : ℕ} {change : Change}
-    {made : CheckedUpdate} (may : Allowed bound
-    (ready_store disk files sequence tail holdings) holdings control change made)
+module _ {D : Type 0} {bound : Ghosts D} {disk : D} {files : List PlainFile} {sequence tail : ℕ} {holdings : Holdings}
+    {control : ℕ} {change : Change} {made : CheckedUpdate}
+    (may : Allowed bound (ready_store disk files sequence tail holdings) holdings control change made)
     (free : is_some (transaction_at holdings.transactions control) ≡ false)
     (left : lacks holdings.handles.next made.change ≡ false) where
   abbrev there : List File
@@ -301,10 +287,8 @@ module _ {D : Type 0} {bound : Ghosts D} {disk : D} {files : List PlainFile} {se
         found = refl;
         handles = rw may.tags at (are_after change may.unrefused_here);
         buffers = rw (given, called_again after, (numbers_are there change holdings.handles.next).1)
-            (holds_so there after sequence later holdings.handles.next
-            (next_after holdings.handles.next change) holdings.transactions
-            (λ other was. buffered_after change other may.unrefused_here was)
-            may.begins.sound.buffers);
+            (holds_so there after sequence later holdings.transactions
+            (λ other was. buffered_after change other may.unrefused_here was) may.begins.sound.buffers);
         apart = apart_after holdings.area holdings.handles.given holdings.handles.next
             (file_change there change) may.begins.sound.apart;
       },
@@ -316,24 +300,22 @@ pub put_down : {D : Type 0} {bound : Ghosts D} {store : StoreView
     D} {holdings : Holdings} {control : ℕ} {change : Change} {made : CheckedUpdate}
     → IsFound holdings store → Allowed bound store holdings control change made
     → is_some (transaction_at holdings.transactions control) ≡ false
-    → lacks holdings.handles.next made.change ≡ false → (new : StoreView D) (result : Result (Unit {0}) StoreFault)
+    → lacks holdings.handles.next made.change ≡ false → {new : StoreView D} {result : Result (Unit {0}) StoreFault}
     → Commits bound store (made.change ∷ []) result new → let now =
     later_holdings holdings (kept_holdings holdings made.change) result in
-    Changes bound (view_of store holdings) control change
-    (answer_by (value_after holdings.handles.next made.change) result) (view_of new now)
-    × IsSound new.layout new.state now
-put_down {holdings = holdings} {change = change} (FoundFile disk files sequence tail) may free left new result commits =
+    Changes bound (view_of store holdings) control change (answer_by (value_after holdings.handles.next made.change)
+    result) (view_of new now) × IsSound new.layout new.state now
+put_down {holdings = holdings} {change = change} (FoundFile disk files sequence tail) may free left {new = new} {result = result} commits =
     let did = puts (put may free left) new result (rw (← may.passes.made) at commits) in
     rw (← may.passes.made, (numbers_are (there may free left) change holdings.handles.next).2)
     (record { answer = did.0; disk = rw (grouped may free) did.1 }, did.2)
 
 -- the files of a store that is ready have handles of their own, what is buffered fits them, and claims are apart
-pub theirs : {layout : Layout} (state : State) (tail : ℕ) (holdings : Holdings) → HasDirectory holdings.layout state
-    → IsSound layout state holdings
-    → HasItsFiles (totals_at state tail holdings)
-theirs StoreOff tail holdings directory sound = record { files = tt; buffers = sound.buffers; apart = grind arith }
-theirs (StoreReady files sequence) tail holdings directory sound = record {
-  files = sound_files holdings files directory sound.handles;
+pub theirs : {layout : Layout} (state : State) (tail : ℕ) {holdings : Holdings} → HasDirectory holdings.layout state
+    → IsSound layout state holdings → HasItsFiles (totals_at state tail holdings)
+theirs StoreOff tail directory sound = record { files = tt; buffers = sound.buffers; apart = grind arith }
+theirs (StoreReady files sequence) tail {holdings = holdings} directory sound = record {
+  files = sound_files holdings directory sound.handles;
   buffers = sound.buffers;
   apart = files_apart holdings.area holdings.handles.given files sound.apart;
 }

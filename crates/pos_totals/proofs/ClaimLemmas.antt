@@ -40,18 +40,15 @@ with_claims holdings whose claim = record holdings
     { handles = record { given = map (reclaimed whose claim) holdings.handles.given; next = holdings.handles.next } }
 
 -- they are as sound
-reclaims : {layout : Layout} (state : State) (tail : ℕ) (holdings : Holdings) (whose : ClaimScope) (claim : Option ℕ)
-    → IsSound layout state holdings
-    → IfSome holdings.area (λ holder. is_foreign holder claim ≡ false)
-    → (totals_at state tail (with_claims holdings whose claim)
-    ≡ record (totals_at state tail holdings) {
+reclaims : {layout : Layout} (state : State) (tail : ℕ) {holdings : Holdings} (whose : ClaimScope) (claim : Option ℕ)
+    → IsSound layout state holdings → IfSome holdings.area (λ holder. is_foreign holder claim ≡ false)
+    → (totals_at state tail (with_claims holdings whose claim) ≡ record (totals_at state tail holdings) {
       mode =
           with_files (with_each (meets whose) (claimed claim)) (mode_of holdings.handles.given state);
-    })
-    × IsSound layout state (with_claims holdings whose claim)
-reclaims StoreOff tail holdings whose claim sound own =
+    }) × IsSound layout state (with_claims holdings whose claim)
+reclaims StoreOff tail whose claim sound own =
     (refl, record { found = tt; handles = tt; buffers = sound.buffers; apart = tt })
-reclaims (StoreReady files sequence) tail holdings whose claim sound own =
+reclaims (StoreReady files sequence) tail {holdings = holdings} whose claim sound own =
     let tags = holdings.handles.given in
     let xs = with_tags tags files in
     let same = files_reclaimed whose claim tags files in
@@ -65,8 +62,7 @@ reclaims (StoreReady files sequence) tail holdings whose claim sound own =
           distinct = rw numbers sound.handles.distinct;
           below = rw numbers sound.handles.below;
         };
-        buffers = rw same (holds_so xs
-            (with_each (meets whose) (claimed claim) xs) sequence sequence holdings.handles.next holdings.handles.next
+        buffers = rw same (holds_so xs (with_each (meets whose) (claimed claim) xs) sequence sequence
             holdings.transactions (λ change is. same_buffered xs _ holdings.handles.next change
             (sym (kept outline (meets whose) (claimed claim) xs (λ file. refl))) is) sound.buffers);
         apart = apart_reclaimed whose holdings.area claim tags own sound.apart;
@@ -75,25 +71,23 @@ reclaims (StoreReady files sequence) tail holdings whose claim sound own =
 
 -- ---- the claim of a file
 
-pub claim_changes : {layout : Layout} (state : State) (tail : ℕ) (holdings : Holdings) (control : ℕ) (handle : ℤ)
-    (claiming : ClaimRequest) (number : ℕ)
+pub claim_changes : {layout : Layout} {state : State} (tail : ℕ) {holdings : Holdings} (control : ℕ) {handle : ℤ}
+    (claiming : ClaimRequest) {number : ℕ}
     → LetsThroughAt (totals_at state tail holdings) control (arrangement_by handle claiming) handle (Ok number)
     → IsSound layout state holdings
     → let later = with_claims holdings (whose.File number) (claim_after control claiming) in
     Arranges (totals_at state tail holdings) control (arrangement_by handle claiming) (answer.Done value.Empty)
-    (totals_at state tail later)
-    × IsSound layout state later
-claim_changes state tail holdings control handle claiming number through sound =
+    (totals_at state tail later) × IsSound layout state later
+claim_changes {state = state} tail {holdings = holdings} control {handle = handle} claiming {number = number} through sound =
     let passes = through.0 in
-    let both = reclaims state tail holdings (whose.File number) (claim_after control claiming) sound
+    let both = reclaims state tail (whose.File number) (claim_after control claiming) sound
     (grind (arith, nat_tests)) in
     (record { outcome = rw passes (refl, both.0 ∙ after claiming) }, both.1)
   where
     after : (how : ClaimRequest) → record (totals_at state tail holdings) {
       mode = with_files (with_each (meets (whose.File number)) (claimed (claim_after control how)))
           (mode_of holdings.handles.given state);
-    }
-        ≡ after_arrangement (totals_at state tail holdings) control (arrangement_by handle how)
+    } ≡ after_arrangement (totals_at state tail holdings) control (arrangement_by handle how)
     after how = grind (arith, nat_tests)
 
 -- ---- the end of all that a control has
@@ -106,17 +100,14 @@ without holdings control = record holdings {
       slice_set holdings.transactions control None;
 }
 
-pub control_dropped : {layout : Layout} (state : State) (tail : ℕ) (holdings : Holdings) (control : ℕ)
-    → IsSound layout state holdings
-    → let later = with_claims (without holdings control) (whose.Control control) None in
+pub control_dropped : {layout : Layout} {state : State} (tail : ℕ) {holdings : Holdings} (control : ℕ)
+    → IsSound layout state holdings → let later = with_claims (without holdings control) (whose.Control control) None in
     (totals_at state tail later ≡ without_control (totals_at state tail holdings) control) × IsSound layout state later
-control_dropped state tail holdings control sound =
-    reclaims state tail (without holdings control) (whose.Control control) None (record {
+control_dropped {state = state} tail {holdings = holdings} control sound =
+    reclaims state tail (whose.Control control) None (record {
       found = sound.found;
       handles = sound.handles;
       buffers = held_with (mode_of holdings.handles.given state) holdings.handles.next holdings.transactions control
-          None
-          sound.buffers
-          (none_held (mode_of holdings.handles.given state) holdings.handles.next);
+          None sound.buffers (none_held (mode_of holdings.handles.given state) holdings.handles.next);
       apart = apart_left state holdings.area control holdings.handles.given sound.apart;
     }) (grind (arith, nat_tests))

@@ -28,17 +28,16 @@ ready_so : (state : State) (tail : ℕ) (holdings : Holdings) (control : ℕ)
 ready_so state tail holdings control passes = grind (arith, nat_tests)
 
 -- all that is buffered for files is one group
-one_group : {layout : Layout} (state : State) (tail : ℕ) (holdings : Holdings) (control : ℕ) (buffer : List Change)
+one_group : {layout : Layout} (state : State) (tail : ℕ) {holdings : Holdings} (control : ℕ) {buffer : List Change}
     → HasDirectory holdings.layout state
     → IsSound layout state holdings → first_refusal (refusals_of_commit (totals_at state tail holdings) control) ≡ None
     → transaction_at holdings.transactions control ≡ Some buffer → IsOneGroup (totals_at state tail holdings) buffer
-one_group StoreOff tail holdings control buffer directory sound passes some = absurd (grind (arith, nat_tests))
-one_group (StoreReady files sequence) tail holdings control buffer directory sound passes some =
+one_group StoreOff tail control directory sound passes some = absurd (grind (arith, nat_tests))
+one_group (StoreReady files sequence) tail {holdings = holdings} control {buffer = buffer} directory sound passes some =
     let xs = with_tags holdings.handles.given files in
     let there : list_any (is_of_none xs) buffer ≡ false = grind (arith, nat_tests) in
-    makes_all holdings.layout xs holdings.handles.next buffer
-    (sound_files holdings files directory sound.handles).distinct
-    (held_at (Ready xs sequence) holdings.handles.next holdings.transactions control buffer sound.buffers some) there
+    makes_all holdings.layout xs holdings.handles.next buffer (sound_files holdings directory sound.handles).distinct
+    (held_at (Ready xs sequence) holdings.handles.next holdings.transactions control sound.buffers some) there
 
 -- so is the group of any commit
 is_group : {layout : Layout} (state : State) (tail : ℕ) (holdings : Holdings) (control : ℕ)
@@ -51,18 +50,17 @@ is_group state tail holdings control directory sound =
         → first_refusal (refusals_of_commit (totals_at state tail holdings) control) ≡ None
         → IsOneGroup (totals_at state tail holdings) (changes_in t)
     by None some passes = refl
-    by (Some buffer) some passes = one_group state tail holdings control buffer directory sound passes some
+    by (Some buffer) some passes = one_group state tail control directory sound passes some
 
 -- its group is applicable
-pub applicable : {layout : Layout} (state : State) (tail : ℕ) (holdings : Holdings) (control : ℕ)
-    (group : List FileChange) → HasDirectory holdings.layout state
+pub applicable : {layout : Layout} (state : State) (tail : ℕ) {holdings : Holdings} (control : ℕ)
+    {group : List FileChange} → HasDirectory holdings.layout state
     → IsSound layout state holdings → first_refusal (refusals_of_commit (totals_at state tail holdings) control) ≡ None
     → Gathers (files_of (totals_at state tail holdings).mode) (transaction_at holdings.transactions control) group
     → IsApplicable layout state group
-applicable state tail holdings control group directory sound passes gathered =
-    rw gathered.made (group_applies state tail holdings
-    (gathered.first ∷ gathered.others) sound
-    (one_group state tail holdings control _ directory sound passes gathered.buffered))
+applicable state tail control directory sound passes gathered =
+    rw gathered.made (group_applies state tail (gathered.first ∷ gathered.others) sound
+    (one_group state tail control directory sound passes gathered.buffered))
 
 -- ---- where the disk isn't used
 
@@ -104,8 +102,7 @@ module _ {D : Type 0} {bound : Ghosts D} {store : StoreView D} {holdings : Holdi
       answer = record { outcome = rw (passes, none) (refl, refl) };
       disk = rw (passes, none) (idles begins ended.transactions [] _ refl (λ refused. absurd (refused tt)));
     },
-    retransacted ended.transactions begins.sound
-        (held_with totals.mode totals.next holdings.transactions control None begins.sound.buffers
+    retransacted begins.sound (held_with totals.mode totals.next holdings.transactions control None begins.sound.buffers
         (none_held totals.mode totals.next)),
   )
 
@@ -142,8 +139,7 @@ module _ {D : Type 0} {bound : Ghosts D} {disk : D} {files : List PlainFile} {se
   grouped = rw (passes, some) refl
 
   buffered : AllByRecursion (IsBuffered there next) (first ∷ others)
-  buffered = held_at (Ready there sequence) next holdings.transactions control
-      (first ∷ others) begins.sound.buffers some
+  buffered = held_at (Ready there sequence) next holdings.transactions control begins.sound.buffers some
 
   given : holdings.handles.given ≡ tags_of after
   given = sym ((keeps_all there next (first ∷ others) buffered).1
@@ -156,8 +152,7 @@ module _ {D : Type 0} {bound : Ghosts D} {disk : D} {files : List PlainFile} {se
       (λ F. Committed F old control)
   put = record {
     begins = begins;
-    group = one_group (StoreReady files sequence) tail holdings control
-        (first ∷ others) begins.directory begins.sound passes some;
+    group = one_group (StoreReady files sequence) tail control begins.directory begins.sound passes some;
     wants = λ F. (passes, refl);
     does = λ F result new does. record { outcome = rw (passes, some) does };
     ended = none_left holdings.transactions control;
@@ -171,10 +166,8 @@ module _ {D : Type 0} {bound : Ghosts D} {disk : D} {files : List PlainFile} {se
           below = begins.sound.handles.below;
         };
         buffers = rw mode (held_with (Ready after later) next holdings.transactions control None
-            (holds_so there after sequence later next next
-            holdings.transactions (λ change was. same_buffered there after next change
-            (sym (keeps_all there next (first ∷ others) buffered).0) was)
-            begins.sound.buffers) tt);
+            (holds_so there after sequence later holdings.transactions (λ change was. same_buffered there after next
+            change (sym (keeps_all there next (first ∷ others) buffered).0) was) begins.sound.buffers) tt);
         apart = begins.sound.apart;
       },
     );
@@ -183,14 +176,14 @@ module _ {D : Type 0} {bound : Ghosts D} {disk : D} {files : List PlainFile} {se
 -- a group that the store has answered: it is put down, or the store refused it
 pub put_down : {D : Type 0} {bound : Ghosts D} {store : StoreView D} {holdings : Holdings} → IsFound holdings store
     → (begins : Begins bound store holdings)
-    (control : ℕ) → first_refusal (refusals_of_commit (totals_of store holdings) control) ≡ None → (new : StoreView D)
-    (result : Result (Unit {0}) StoreFault)
+    {control : ℕ} → first_refusal (refusals_of_commit (totals_of store holdings) control) ≡ None → {new : StoreView D}
+    {result : Result (Unit {0}) StoreFault}
     → PutsBuffer bound store (files_of (mode_of holdings.handles.given store.state))
     (transaction_at holdings.transactions control) result new
     → let now = later_holdings holdings (ended begins control) result in
     CommitsBuffer bound (view_of store holdings) control (answer_by value.Empty result) (view_of new now)
     × IsSound new.layout new.state now
-put_down (FoundFile disk files sequence tail) begins control passes new result does =
+put_down (FoundFile disk files sequence tail) begins {control = control} passes {new = new} {result = result} does =
     let it = does.gathered in
     let did = puts (put begins control passes it.first it.others it.buffered) new result (rw it.made at does.commits) in
     (record { answer = did.0; disk = rw (grouped begins control passes it.first it.others it.buffered) did.1 }, did.2)
@@ -204,13 +197,12 @@ found {store = store} {holdings = holdings} begins control passes =
 
 -- a commit that is done, with a group on the disk or with nothing to do
 pub done : {D : Type 0} {bound : Ghosts D} {store : StoreView D} {holdings : Holdings}
-    (begins : Begins bound store holdings) (control : ℕ)
-    (new : StoreView D) → first_refusal (refusals_of_commit (totals_of store holdings) control) ≡ None
+    (begins : Begins bound store holdings) (control : ℕ) {new : StoreView D}
+    → first_refusal (refusals_of_commit (totals_of store holdings) control) ≡ None
     → EndsBuffer bound store (files_of (mode_of holdings.handles.given store.state))
     (transaction_at holdings.transactions control) new
     → CommitsBuffer bound (view_of store holdings) control (Ok (answer.Done value.Empty))
-    (view_of new (ended begins control))
-    × IsSound new.layout new.state (ended begins control)
-done begins control new passes (inl none) = rw none.1 (ends begins control passes none.0)
-done begins control new passes (inr puts) =
-    put_down (found begins control passes) begins control passes new (Ok tt) puts
+    (view_of new (ended begins control)) × IsSound new.layout new.state (ended begins control)
+done begins control passes (inl none) = rw none.1 (ends begins control passes none.0)
+done begins control passes (inr puts) =
+    put_down (found begins control passes) begins passes puts

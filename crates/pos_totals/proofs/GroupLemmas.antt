@@ -33,9 +33,8 @@ pub only_named : (files : List File) (name : List ℕ) → are_distinct (plain f
 only_named [] name distinct = tt
 only_named (first ∷ files) name distinct =
     let parts = and_parts (not (has_name (plain files) first.name)) (are_distinct (plain files)) distinct in (
-      λ same. none_of (find (is_named name) files)
-          (sym (plain_name files name) ∙ ap (has_name (plain files)) (sym ((bytes_eq-Decides first.name name).0 same))
-          ∙ not-true (has_name (plain files) first.name) parts.0),
+      λ same. none_of (find (is_named name) files) (sym (plain_name files name) ∙ ap (has_name (plain files))
+          (sym ((bytes_eq-Decides first.name name).0 same)) ∙ not-true (has_name (plain files) first.name) parts.0),
       only_named files name parts.1,
     )
 
@@ -68,7 +67,7 @@ paired_size tags files same = sym (plain_size (with_tags tags files)) ∙ ap tot
 plain_at : (test : File → Bool) (files : List File) (file : File) → find test files ≡ Some file
     → slice_get (plain files) (index_of test files) ≡ Some (plain_file file)
 plain_at test files file found =
-    slice_get-map plain_file files (index_of test files) ∙ ap (option_map plain_file) (found_at test files file found)
+    slice_get-map plain_file files (index_of test files) ∙ ap (option_map plain_file) (found_at test files found)
 
 -- what the directory makes is what the change makes
 abbrev pub Makes : Layout → List File → Change → ℕ → Type 0
@@ -98,7 +97,7 @@ pub made_edit : (layout : Layout) (files : List File) (handle : ℤ) (edit : Fil
     → fits_file (find (is_called handle) files) edit ≡ true → Makes layout files (Edit handle edit) next
 made_edit layout files handle edit next distinct fit =
     let found = fitting (find (is_called handle) files) edit fit in
-    makes_edit (limits_of layout) (plain files) (index_of (is_called handle) files) edit (plain_file found.0)
+    makes_edit (limits_of layout) (plain files) (index_of (is_called handle) files) edit
     (plain_at (is_called handle) files found.0 found.1) found.2
     ∙ ap Ok (set_plain files handle found.0 (λ f. record f { bytes = edited edit f.bytes }) distinct found.1)
 
@@ -112,16 +111,16 @@ pub record IsUnrefused (layout : Layout) (files : List File) (next control : ℕ
 
 module _ {layout : Layout} {files : List File} {next control : ℕ} {spent : Option ℕ} where
   -- the file of a delete
-  pub deleted : (name : List ℕ) → IsUnrefused layout files next control spent (Delete name)
+  pub deleted : {name : List ℕ} → IsUnrefused layout files next control spent (Delete name)
       → (file : File) × (find (is_named name) files ≡ Some file)
-  deleted name may =
+  deleted {name = name} may =
       let there : has_file (is_named name) files ≡ true = grind (arith, nat_tests, may.rows) in
       some_of (find (is_named name) files) there
 
   -- an edit fits the file
-  pub edit_fits : (handle : ℤ) (edit : FileEdit) → IsUnrefused layout files next control spent (Edit handle edit)
+  pub edit_fits : {handle : ℤ} {edit : FileEdit} → IsUnrefused layout files next control spent (Edit handle edit)
       → fits_file (find (is_called handle) files) edit ≡ true
-  edit_fits handle edit may = grind (arith, nat_tests, may.rows)
+  edit_fits may = grind (arith, nat_tests, may.rows)
 
   -- It makes of the plain files those after it.
   pub makes : (change : Change) → IsUnrefused layout files next control spent change → Makes layout files change next
@@ -137,7 +136,7 @@ module _ {layout : Layout} {files : List File} {next control : ℕ} {spent : Opt
         up_to (free_data (totals_limits layout) files) size,
       ))
   makes (Delete name) may =
-      let found = deleted name may in
+      let found = deleted may in
       rw (
         plain_at (is_named name) files found.0 found.1,
         one_gone (is_named name) files found.0 (only_named files name may.theirs.directory.distinct) found.1,
@@ -152,6 +151,5 @@ module _ {layout : Layout} {files : List File} {next control : ℕ} {spent : Opt
         plain_at (is_called handle) files found.0 found.1,
         free,
         set_plain files handle found.0 (λ f. record f { name = name }) may.theirs.distinct found.1,
-      )
-      refl
-  makes (Edit handle edit) may = made_edit layout files handle edit next may.theirs.distinct (edit_fits handle edit may)
+      ) refl
+  makes (Edit handle edit) may = made_edit layout files handle edit next may.theirs.distinct (edit_fits may)

@@ -18,7 +18,7 @@ module _ {layout : Layout} {files : List File} {next control : ℕ} {spent : Opt
       → given_after (tags_of files) next (file_change files change) ≡ tags_of (files_after next files change)
   given_is (Create name size) may = simp map-append
   given_is (Delete name) may =
-      let found = deleted name may in
+      let found = deleted may in
       rw (
         one_gone (is_named name) files found.0 (only_named files name may.theirs.directory.distinct) found.1,
         map-remove,
@@ -41,10 +41,10 @@ numbers_are files other next = (refl, refl, refl)
 
 -- ---- facts of all handles
 
-pub all_with : {X : Type 0} (P : X → Type 0) (xs : List X) (x : X) → AllByRecursion P xs → P x
+pub all_with : {X : Type 0} (P : X → Type 0) (xs : List X) {x : X} → AllByRecursion P xs → P x
     → AllByRecursion P (xs ++ x ∷ [])
-all_with P [] x all one = (one, tt)
-all_with P (first ∷ xs) x all one = (all.0, all_with P xs x all.1 one)
+all_with P [] all one = (one, tt)
+all_with P (first ∷ xs) all one = (all.0, all_with P xs all.1 one)
 
 pub all_without : {X : Type 0} (P : X → Type 0) (xs : List X) (i : ℕ) → AllByRecursion P xs
     → AllByRecursion P (remove xs i)
@@ -61,7 +61,7 @@ distinct_with : (handles : List ℕ) (next : ℕ) → AreDistinct handles → Al
     → AreDistinct (handles ++ next ∷ [])
 distinct_with [] next distinct below = (tt, tt)
 distinct_with (first ∷ handles) next distinct below = (
-  all_with (λ other. ¬ (other ≡ first)) handles next distinct.0 (λ same. let lt = below.0 in omega (arith, same, lt)),
+  all_with (λ other. ¬ (other ≡ first)) handles distinct.0 (λ same. let lt = below.0 in omega (arith, same, lt)),
   distinct_with handles next distinct.1 below.1,
 )
 
@@ -78,7 +78,7 @@ handles_after : (made : FileChange) (tags : List FileTag) (next : ℕ) → AreDi
 handles_after (file.Create name size) tags next distinct below =
     rw (map-append (λ (tag : FileTag). tag.handle) tags (new_tag next ∷ [])) (
       distinct_with (numbers_of tags) next distinct below,
-      all_with (λ handle. handle < next + 1) (numbers_of tags) next
+      all_with (λ handle. handle < next + 1) (numbers_of tags)
           (all_so (λ handle. handle < next) (λ handle. handle < next + 1) (numbers_of tags)
           (λ handle lt. omega (arith, lt)) below) (omega arith),
     )

@@ -77,18 +77,16 @@ none_meets test P (first ∷ files) none =
     (λ meets. absurd (grind (arith, nat_tests)), none_meets test P files (grind (arith, nat_tests)))
 
 -- what holds of the one file that meets the test holds of each that does
-pub one_meets : (test : File → Bool) (P : File → Type 0) (files : List File) (file : File) → OnlyOne test files
-    → find test files ≡ Some file
-    → P file → AllByRecursion (λ file. test file ≡ true → P file) files
-one_meets test P [] file only found here = absurd cc
-one_meets test P (first ∷ files) file only found here = ⊎_elim
+pub one_meets : (test : File → Bool) (P : File → Type 0) (files : List File) {file : File} → OnlyOne test files
+    → find test files ≡ Some file → P file → AllByRecursion (λ file. test file ≡ true → P file) files
+one_meets test P [] only found here = absurd cc
+one_meets test P (first ∷ files) {file = file} only found here = ⊎_elim
     (λ is. (λ meets. subst P (sym (same_Some first file (rw is at found))) here, none_meets test P files (only.0 is)))
-    (λ is. (λ meets. absurd cc, one_meets test P files file only.1 (rw is at found) here)) (cases_Bool (test first))
+    (λ is. (λ meets. absurd cc, one_meets test P files only.1 (rw is at found) here)) (cases_Bool (test first))
 
 -- what holds of each file that meets the test holds of the one that is found
 pub found_has : (test : File → Bool) (P : File → Type 0) (files : List File) (file : File)
-    → AllByRecursion (λ file. test file ≡ true → P file) files
-    → find test files ≡ Some file → P file
+    → AllByRecursion (λ file. test file ≡ true → P file) files → find test files ≡ Some file → P file
 found_has test P [] file all found = absurd cc
 found_has test P (first ∷ files) file all found = grind (arith, nat_tests, all.0, found_has test P files file all.1)
 

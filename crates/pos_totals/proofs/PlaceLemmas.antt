@@ -9,13 +9,13 @@ OnlyOne test [] = ⊤
 OnlyOne test (file ∷ files) = (test file ≡ true → find test files ≡ None) × OnlyOne test files
 
 -- a file that was found is at the index
-pub found_at : (test : File → Bool) (files : List File) (file : File) → find test files ≡ Some file
+pub found_at : (test : File → Bool) (files : List File) {file : File} → find test files ≡ Some file
     → slice_get files (index_of test files) ≡ Some file
-found_at test files file found = sym (find_at test files) ∙ found
+found_at test files found = sym (find_at test files) ∙ found
 
 pub found_inside : (test : File → Bool) (files : List File) (file : File) → find test files ≡ Some file
     → index_of test files < length files
-found_inside test files file found = slice_get_within files (index_of test files) file (found_at test files file found)
+found_inside test files file found = slice_get_within files (index_of test files) file (found_at test files found)
 
 pub found_meets : (test : File → Bool) (files : List File) (file : File) → find test files ≡ Some file
     → test file ≡ true
@@ -30,8 +30,7 @@ none_changed test change (first ∷ files) none = grind (arith, nat_tests, none_
 
 -- where one file meets the test, it is changed in its place
 pub one_changed : (test : File → Bool) (change : File → File) (files : List File) (file : File) → OnlyOne test files
-    → find test files ≡ Some file
-    → with_each test change files ≡ set files (index_of test files) (change file)
+    → find test files ≡ Some file → with_each test change files ≡ set files (index_of test files) (change file)
 one_changed test change [] file only found = absurd cc
 one_changed test change (first ∷ files) file only found =
     grind (
@@ -45,8 +44,7 @@ one_changed test change (first ∷ files) file only found =
 
 -- a change keeps what it keeps of each file
 pub kept : {X : Type 0} (f : File → X) (test : File → Bool) (change : File → File) (files : List File)
-    → ((file : File) → f (change file) ≡ f file)
-    → map f (with_each test change files) ≡ map f files
+    → ((file : File) → f (change file) ≡ f file) → map f (with_each test change files) ≡ map f files
 kept f test change [] keeps = refl
 kept f test change (first ∷ files) keeps = grind (arith, nat_tests, keeps first, kept f test change files keeps)
 

@@ -45,20 +45,19 @@ answer_by given (Ok _) = Ok (answer.Done given)
 answer_by given (Err cause) = answer_of cause
 
 -- what a store that is sound leaves, in the totals' words
-pub their_files : {layout : Layout} (state : State) (holdings : Holdings) (disk : DiskState)
+pub their_files : {layout : Layout} (state : State) {holdings : Holdings} (disk : DiskState)
     → IsSound layout state holdings
     → LeavesItsFiles layout state disk → LeavesTheirFiles holdings.layout (mode_of holdings.handles.given state) disk
-their_files StoreOff holdings disk sound leaves = tt
-their_files (StoreReady files sequence) holdings disk sound leaves =
+their_files StoreOff disk sound leaves = tt
+their_files (StoreReady files sequence) {holdings = holdings} disk sound leaves =
     rw (plain_of holdings.handles.given files sound.handles.count, ← sound.found) leaves
 
 -- where the records of its disk end, in the totals' words
-pub their_end : {layout : Layout} (state : State) (tail : ℕ) (holdings : Holdings) (bytes : List ℕ)
-    → IsSound layout state holdings
-    → StoreWhenReady state (EndsAt layout tail bytes)
+pub their_end : {layout : Layout} (state : State) (tail : ℕ) {holdings : Holdings} (bytes : List ℕ)
+    → IsSound layout state holdings → StoreWhenReady state (EndsAt layout tail bytes)
     → WhenReady (mode_of holdings.handles.given state) (EndsAt holdings.layout (tail_of state tail) bytes)
-their_end StoreOff tail holdings bytes sound ends = tt
-their_end (StoreReady files sequence) tail holdings bytes sound ends = rw (← sound.found) ends
+their_end StoreOff tail bytes sound ends = tt
+their_end (StoreReady files sequence) tail bytes sound ends = rw (← sound.found) ends
 
 -- a store that is ready, of the layout that was found
 abbrev pub ready_store : {D : Type 0} → D → List PlainFile → ℕ → ℕ → Holdings → StoreView D
@@ -69,12 +68,11 @@ pub data IsFound {D : Type 0} (holdings : Holdings) : StoreView D → Type 0 whe
   FoundFile : (disk : D) (files : List PlainFile) (sequence tail : ℕ)
       → IsFound holdings (ready_store disk files sequence tail holdings)
 
-is_found : {D : Type 0} (disk : D) (layout : Layout) (state : State) (tail : ℕ) (holdings : Holdings)
-    → IsSound layout state holdings
-    → IsReady (mode_of holdings.handles.given state)
+is_found : {D : Type 0} (disk : D) {layout : Layout} (state : State) (tail : ℕ) {holdings : Holdings}
+    → IsSound layout state holdings → IsReady (mode_of holdings.handles.given state)
     → IsFound holdings (record { disk = disk; layout = layout; state = state; tail = tail })
-is_found disk layout StoreOff tail holdings sound ready = absurd ready
-is_found disk layout (StoreReady files sequence) tail holdings sound ready =
+is_found disk StoreOff tail sound ready = absurd ready
+is_found disk (StoreReady files sequence) tail sound ready =
     rw sound.found (FoundFile disk files sequence tail)
 
 -- a disk that no call has touched
@@ -82,31 +80,31 @@ pub keeps : {D : Type 0} (bound : Ghosts D) (disk : D) → KeepsDisk bound disk 
 keeps bound disk = record { size = refl; honest = (λ h. h, λ h. h); later = λ h. omega arith; fixed = refl }
 
 -- a group for which it isn't touched
-passes_here : (disk : DiskState) (layout : Layout) (next : ℕ) (mode : Mode) (changes : List Change)
+passes_here : {disk : DiskState} (layout : Layout) (next : ℕ) (mode : Mode) (changes : List Change)
     (left : List Standing)
     → ((c : List ℕ) → disk.left_since disk.moment c → MayLeave disk c)
     → WhenOff mode (LeavesOneOf left disk) → LeavesTheirFiles layout mode disk
     → Passes disk disk (settled layout mode left) (settled layout mode (in_doubt layout next left changes mode))
-passes_here disk layout next Off changes left only leaves their = stays disk left only leaves
-passes_here disk layout next (Ready files sequence) changes left only leaves their =
+passes_here {disk = disk} layout next Off changes left only leaves their = stays disk left only leaves
+passes_here {disk = disk} layout next (Ready files sequence) changes left only leaves their =
     stays disk (Stands layout (plain files) sequence ∷ []) only their
 
 -- the files that a store has, with their tags, are sound
-pub sound_files : (holdings : Holdings) (files : List PlainFile) → IsDirectory (limits_of holdings.layout) files
+pub sound_files : (holdings : Holdings) {files : List PlainFile} → IsDirectory (limits_of holdings.layout) files
     → AreHandles holdings.handles.given files holdings.handles.next
     → AreTheirFiles holdings.layout (with_tags holdings.handles.given files) holdings.handles.next
-sound_files holdings files directory handles = record {
+sound_files holdings {files = files} directory handles = record {
   distinct = rw (numbers_in holdings.handles.given files handles.count) handles.distinct;
   below = rw (numbers_in holdings.handles.given files handles.count) handles.below;
   directory = rw (plain_of holdings.handles.given files handles.count) directory;
 }
 
 -- other transactions that may be held
-pub retransacted : {layout : Layout} {state : State} {holdings : Holdings} (transactions : List (Option (List Change)))
+pub retransacted : {layout : Layout} {state : State} {holdings : Holdings} {transactions : List (Option (List Change))}
     → IsSound layout state holdings
     → HaveBuffers (mode_of holdings.handles.given state) holdings.handles.next transactions
     → IsSound layout state (record holdings { transactions = transactions })
-retransacted transactions sound buffers =
+retransacted sound buffers =
     record { found = sound.found; handles = sound.handles; buffers = buffers; apart = sound.apart }
 
 -- ---- where the disk isn't touched
@@ -123,7 +121,7 @@ pub record Begins {D : Type 0} (bound : Ghosts D) (store : StoreView D) (holding
 module _ {D : Type 0} {bound : Ghosts D} {store : StoreView D} {holdings : Holdings}
     (begins : Begins bound store holdings) where
   pub as_found : IsReady (mode_of holdings.handles.given store.state) → IsFound holdings store
-  as_found ready = is_found store.disk store.layout store.state store.tail holdings begins.sound ready
+  as_found ready = is_found store.disk store.state store.tail begins.sound ready
 
   -- a call that leaves all but the transactions as it is, whatever its group
   pub idles : (transactions : List (Option (List Change))) (changes : List Change) (outcome : Result Answer NoMemory)
@@ -133,13 +131,11 @@ module _ {D : Type 0} {bound : Ghosts D} {store : StoreView D} {holdings : Holdi
   idles transactions changes outcome group same = record {
     group = group;
     untouched = λ none. refl;
-    unchanged = λ refused. inr
-        (ap (λ (ts : List (Option (List Change))). view_of store (record holdings { transactions = ts }))
-        (same refused));
-    crash = λ h left leaves. passes_here (bound.state store.disk) holdings.layout holdings.handles.next
-        (mode_of holdings.handles.given store.state)
-        changes left (λ c. begins.only c h) leaves
-        (their_files store.state holdings (bound.state store.disk) begins.sound (begins.leaves h));
+    unchanged = λ refused. inr (ap (λ (ts : List (Option (List Change))). view_of store
+        (record holdings { transactions = ts })) (same refused));
+    crash = λ h left leaves. passes_here holdings.layout holdings.handles.next
+        (mode_of holdings.handles.given store.state) changes left (λ c. begins.only c h) leaves
+        (their_files store.state (bound.state store.disk) begins.sound (begins.leaves h));
     counts = λ h. inr refl;
     kept = keeps bound store.disk;
   }
@@ -158,23 +154,22 @@ pub follows : (layout : Layout) (tail : ℕ) (changes : List FileChange) (sequen
 follows layout tail changes sequence left = grind (arith, nat_tests, left)
 
 -- files with one of these sequences
-stands_among : (layout : Layout) (files : List PlainFile) (sequence : ℕ) (sequences : List ℕ)
-    → IsAmong sequence sequences → (bytes : List ℕ)
+stands_among : {layout : Layout} {files : List PlainFile} {sequence : ℕ} (sequences : List ℕ)
+    → IsAmong sequence sequences → {bytes : List ℕ}
     → StandsFor (Stands layout files sequence) bytes → StandsForOneOf (map (λ n. Stands layout files n) sequences) bytes
-stands_among layout files sequence [] among bytes stands = absurd among
-stands_among layout files sequence (first ∷ others) among bytes stands =
+stands_among [] among stands = absurd among
+stands_among {layout = layout} {files = files} (first ∷ others) among {bytes = bytes} stands =
     ⊎_elim (λ same. inl (subst (λ (n : ℕ). StandsFor (Stands layout files n) bytes) same stands))
-    (λ rest. inr (stands_among layout files sequence others rest bytes stands)) among
+    (λ rest. inr (stands_among others rest stands)) among
 
 -- ---- a group that the store takes
 
 -- a group of the files without their handles is applicable to the files of the store
-pub group_applies : {layout : Layout} (state : State) (tail : ℕ) (holdings : Holdings) (changes : List Change)
-    → IsSound layout state holdings
-    → IsOneGroup (totals_at state tail holdings) changes
+pub group_applies : {layout : Layout} (state : State) (tail : ℕ) {holdings : Holdings} (changes : List Change)
+    → IsSound layout state holdings → IsOneGroup (totals_at state tail holdings) changes
     → IsApplicable layout state (group_of (files_of (mode_of holdings.handles.given state)) changes)
-group_applies StoreOff tail holdings changes sound group = tt
-group_applies (StoreReady files sequence) tail holdings changes sound group =
+group_applies StoreOff tail changes sound group = tt
+group_applies (StoreReady files sequence) tail {holdings = holdings} changes sound group =
     rw (sound.found, (rw (plain_of holdings.handles.given files sound.handles.count) at group)) refl
 
 -- What a call is that puts a group on the disk of a store that is ready: its table answers it by what becomes of the
@@ -199,9 +194,8 @@ pub record Puts {D : Type 0} (bound : Ghosts D) (disk : D) (files : List PlainFi
       let files_then =
       plain (files_after_all holdings.handles.next (with_tags holdings.handles.given files) (change ∷ changes)) in
       (totals_at (StoreReady files_then sequence_then) tail_then later ≡ after_changes
-      (totals_at (StoreReady files sequence) tail
-      (record holdings { transactions = later.transactions })) (change ∷ changes) sequence_then)
-      × IsSound holdings.layout (StoreReady files_then sequence_then) later
+      (totals_at (StoreReady files sequence) tail (record holdings { transactions = later.transactions }))
+      (change ∷ changes) sequence_then) × IsSound holdings.layout (StoreReady files_then sequence_then) later
 
 module _ {D : Type 0} {bound : Ghosts D} {disk : D} {files : List PlainFile} {sequence tail : ℕ} {holdings
     later : Holdings} {change : Change}
@@ -241,15 +235,13 @@ module _ {D : Type 0} {bound : Ghosts D} {disk : D} {files : List PlainFile} {se
       → StandsForOneOf (store.left_by layout files sequence tail all) bytes
       → StandsForOneOf (before_or_after layout holdings.handles.next (Ready xs sequence) (change ∷ changes)) bytes
   among left bytes stands = rw plain_is (⊎_elim (λ before. inl before)
-      (λ rest. ⊎_elim (λ behind. inr
-      (stands_among layout (plain after) then_sequence (next_sequences sequence)
-      (follows layout tail all sequence left) bytes behind))
+      (λ rest. ⊎_elim (λ behind. inr (stands_among (next_sequences sequence) (follows layout tail all sequence left)
+      behind))
       (λ none. absurd none) rest) (rw made at stands))
 
   -- what a crash leaves around the store's commit, by the files of the totals before it and the store's state after it
   passes : {result : Result (Unit {0}) StoreFault} (new : StoreView D) (state : State)
-      → Commits bound old all result new → new.state ≡ state
-      → bound.honest disk
+      → Commits bound old all result new → new.state ≡ state → bound.honest disk
       → Passes (bound.state disk) (bound.state new.disk) (Stands layout (plain xs) sequence ∷ [])
       (store_settled layout state (store.left_by layout files sequence tail all))
   passes new state commits is h = rw (plain_is, ← is) (commits.crash h)
@@ -264,9 +256,8 @@ module _ {D : Type 0} {bound : Ghosts D} {disk : D} {files : List PlainFile} {se
   pub puts : (new : StoreView D) (result : Result (Unit {0}) StoreFault) → Commits bound old all result new
       → let outcome = answer_by given result in
       let now = later_holdings holdings later result in
-      A (HasFailed bound disk new.disk) outcome (totals_of new now)
-      × PutsGroup bound (view_of old holdings) (change ∷ changes) outcome (view_of new now)
-      × IsSound new.layout new.state now
+      A (HasFailed bound disk new.disk) outcome (totals_of new now) × PutsGroup bound (view_of old holdings)
+      (change ∷ changes) outcome (view_of new now) × IsSound new.layout new.state now
   puts new (Ok _) commits =
       let down = put_down (Ok tt) new commits.answer in
       let both = it.after in
@@ -275,17 +266,16 @@ module _ {D : Type 0} {bound : Ghosts D} {disk : D} {files : List PlainFile} {se
       × PutsGroup bound (view_of old holdings) (change ∷ changes) (Ok (answer.Done given))
       (record { disk = new.disk; totals = totals_at (StoreReady (plain after) then_sequence) then_tail later }) =
       rw both.0 (
-        it.does _ _ _
-            (inr (inl (
-              refl,
-              record {
-                sequence = then_sequence;
-                follows = follows layout tail all sequence down.0;
-                is =
-                    refl;
-                totals = refl;
-              },
-            ))),
+        it.does _ _ _ (inr (inl (
+          refl,
+          record {
+            sequence = then_sequence;
+            follows = follows layout tail all sequence down.0;
+            is =
+                refl;
+            totals = refl;
+          },
+        ))),
         record {
           group = it.group;
           untouched = λ none. absurd cc;

@@ -41,22 +41,20 @@ none_below handle (first ∷ files) negative = grind (arith, nat_tests, none_bel
 
 -- a file that was found has the handle
 pub called_found : (handle : ℤ) (files : List File) (found : Option FoundFile)
-    → option_map file_of found ≡ find (is_called handle) files
-    → IfSome found (λ f. handle ≡ pos f.handle)
+    → option_map file_of found ≡ find (is_called handle) files → IfSome found (λ f. handle ≡ pos f.handle)
 called_found handle files None is = tt
 called_found handle files (Some f) is =
     grind (arith, nat_tests, found_meets (is_called handle) files (file_of f) (sym is))
 
 -- a store that shows files is ready: they are a directory within the limits of the layout that was found, and each has
 -- a tag
-pub shows : {layout : Layout} (state : State) (holdings : Holdings) (directory : DirectoryView)
-    → IsSound layout state holdings
-    → Some directory.files ≡ store_files_of state → directory.limits ≡ limits_of layout
+pub shows : {layout : Layout} (state : State) {holdings : Holdings} {directory : DirectoryView}
+    → IsSound layout state holdings → Some directory.files ≡ store_files_of state → directory.limits ≡ limits_of layout
     → IsDirectory directory.limits directory.files
     → HasDirectory holdings.layout state × IsDirectory (limits_of holdings.layout) directory.files
     × (length holdings.handles.given ≡ length directory.files)
-shows StoreOff holdings directory sound is limits within = absurd cc
-shows (StoreReady files sequence) holdings directory sound is limits within =
+shows StoreOff sound is limits within = absurd cc
+shows (StoreReady files sequence) {holdings = holdings} {directory = directory} sound is limits within =
     let same : directory.files ≡ files = cc in
     let found : IsDirectory (limits_of holdings.layout) directory.files = rw (limits, sound.found) at within in
     (rw same at found, found, sound.handles.count ∙ ap length (sym same))

@@ -6,10 +6,10 @@ use Rattle.pos_escpos.specs.Printers.{Press, press_after, questioned}
 use Rattle.pos_wire.specs.Frames.{AllDo, Does}
 
 -- a command for a status
-pub asks : (width : ℕ) (sent : List ℕ)
+pub asks : (width : ℕ) {sent : List ℕ}
     → ((press : Press) → press.begun ≡ [] → press_after width press sent ≡ questioned sent press)
     → AllDo false width [] [] (sent ∷ []) sent
-asks width sent h press ready =
+asks width {sent = sent} h press ready =
     subst (λ (new : Press). Does [] [] (sent ∷ []) press new) (sym (h press ready.whole)) (record {
       paper = sym (append-nil press.paper);
       pulses = sym (append-nil press.pulses);

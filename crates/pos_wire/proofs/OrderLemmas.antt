@@ -48,13 +48,13 @@ pulses settings is_new end asked mechanism.Scanner bytes is all = grind arith
 pulses settings is_new end asked (mechanism.Display shown) bytes is all = grind arith
 pulses settings is_new end asked (mechanism.Printer printed) bytes is all = grind arith
 
-pub drawer_sends : (settings : WireSettings) (is_new : Bool) (end : JobEnd) (state : PeripheralState) (asked : Order)
-    (bytes : List ℕ)
+pub drawer_sends : {settings : WireSettings} {is_new : Bool} {end : JobEnd} {state : PeripheralState} {asked : Order}
+    {bytes : List ℕ}
     → IsOn state.plant → IsPlantOf kind.Drawer state.plant → order_fits kind.Drawer asked ≡ true
     → ((width : ℕ) → AllDo is_new width [] (kick_pulse (kick_of settings) ∷ [])
     (asked_first is_new ++ asked_last end) bytes)
     → SendsOrder settings is_new end state asked bytes
-drawer_sends settings is_new end state asked bytes is_on is fits all =
+drawer_sends {settings = settings} {is_new = is_new} {end = end} {state = state} {asked = asked} {bytes = bytes} is_on is fits all =
     let there = opens asked state.plant.mechanism is fits in
     record {
       new = switched_on (mechanism.Drawer true);
@@ -76,10 +76,10 @@ kicks_alone width kick sent h press ready =
     })
 
 -- a printer that prints alone what is sent
-pub prints_alone : (width : ℕ) (items : List OnPaper) (sent : List ℕ)
+pub prints_alone : (width : ℕ) {items : List OnPaper} (sent : List ℕ)
     → ((press : Press) → IsReady press → PrintsOnly press items (press_after width press sent))
     → AllDo false width items [] [] sent
-prints_alone width items sent h press ready =
+prints_alone width sent h press ready =
     let prints = h press ready in
     record {
       paper = prints.paper;
@@ -88,18 +88,17 @@ prints_alone width items sent h press ready =
       ready = prints.ready;
     }
 
-pub printer_sends : (settings : WireSettings) (is_new : Bool) (end : JobEnd) (state : PeripheralState) (asked : Order)
-    (roll : Printer) (bytes : List ℕ)
+pub printer_sends : {settings : WireSettings} {is_new : Bool} {end : JobEnd} {state : PeripheralState} {asked : Order}
+    {roll : Printer} {bytes : List ℕ}
     → Adds state.plant asked roll
     → AllDo is_new settings.width (all_on_paper (cut_of settings) roll.items) []
     (asked_first is_new ++ asked_last end) bytes
     → SendsOrder settings is_new end state asked bytes
-printer_sends settings is_new end state asked roll bytes adds all =
+printer_sends {settings = settings} {is_new = is_new} {end = end} {state = state} {asked = asked} {roll = roll} {bytes = bytes} adds all =
     let printer = adds.printer in
     let left = mechanism.Printer (record roll { items = printer.items ++ roll.items }) in
     let same = subst (λ (items : List Item). AllDo is_new settings.width (all_on_paper (cut_of settings) items) []
-    (asked_first is_new ++ asked_last end) bytes)
-    adds.items all in
+    (asked_first is_new ++ asked_last end) bytes) adds.items all in
     record {
       new = record state.plant { mechanism = left };
       done = adds.done;
@@ -107,54 +106,51 @@ printer_sends settings is_new end state asked roll bytes adds all =
     }
 
 -- a display that is on
-lit_is : (plant : Plant) (shown : Display) → IsOn plant → plant.mechanism ≡ mechanism.Display shown
-    → plant ≡ lit shown
-lit_is plant shown is_on is = grind arith
+lit_is : {plant : Plant} {shown : Display} → IsOn plant → plant.mechanism ≡ mechanism.Display shown → plant ≡ lit shown
+lit_is is_on is = grind arith
 
-pub display_sends : (settings : WireSettings) (is_new : Bool) (end : JobEnd) (state : PeripheralState) (asked : Order)
-    (old new : Display) (bytes : List ℕ)
-    → IsOn state.plant → state.plant.mechanism ≡ mechanism.Display old
-    → Performs asked (lit old) reply.Done (lit new)
+pub display_sends : {settings : WireSettings} {is_new : Bool} (end : JobEnd) {state : PeripheralState} {asked : Order}
+    {old : Display} (new : Display) {bytes : List ℕ}
+    → IsOn state.plant → state.plant.mechanism ≡ mechanism.Display old → Performs asked (lit old) reply.Done (lit new)
     → AllShow settings is_new old new bytes → SendsOrder settings is_new end state asked bytes
-display_sends settings is_new end state asked old new bytes is_on is done shows = record {
+display_sends {settings = settings} {is_new = is_new} end {asked = asked} new {bytes = bytes} is_on is done shows = record {
   new = lit new;
-  done = subst (λ (plant : Plant). Performs asked plant reply.Done (lit new))
-      (sym (lit_is state.plant old is_on is)) done;
+  done = subst (λ (plant : Plant). Performs asked plant reply.Done (lit new)) (sym (lit_is is_on is)) done;
   sends = subst (λ (was : Mechanism). Sends settings is_new end asked was (mechanism.Display new) bytes) (sym is) shows;
 }
 
 -- Orders that have no bytes.
 
 -- a printer that adds nothing carries nothing out
-printer_stays : (chars near : ℕ) (plant : Plant) (asked : Order) (old : Mechanism) → plant.mechanism ≡ old
+printer_stays : (chars near : ℕ) {plant : Plant} (asked : Order) (old : Mechanism) → plant.mechanism ≡ old
     → IsMechanismOf (kind.Printer chars near) old
     → PrintsNothing plant asked → (new : Plant) → Performs asked plant reply.Done new → ⊥
-printer_stays chars near plant asked (mechanism.Printer printed) is kind_is nothing = nothing printed is
-printer_stays chars near plant asked (mechanism.Drawer was) is kind_is nothing = absurd kind_is
-printer_stays chars near plant asked mechanism.Scanner is kind_is nothing = absurd kind_is
-printer_stays chars near plant asked (mechanism.Display shown) is kind_is nothing = absurd kind_is
+printer_stays chars near asked (mechanism.Printer printed) is kind_is nothing = nothing printed is
+printer_stays chars near asked (mechanism.Drawer was) is kind_is nothing = absurd kind_is
+printer_stays chars near asked mechanism.Scanner is kind_is nothing = absurd kind_is
+printer_stays chars near asked (mechanism.Display shown) is kind_is nothing = absurd kind_is
 
 pub adds_nothing : (chars near : ℕ) (is_new : Bool) (state : PeripheralState) (asked : Order)
     → IsPlantOf (kind.Printer chars near) state.plant → PrintsNothing state.plant asked → HasNoBytes is_new state asked
 adds_nothing chars near is_new state asked is nothing =
-    inl (printer_stays chars near state.plant asked state.plant.mechanism refl is nothing)
+    inl (printer_stays chars near asked state.plant.mechanism refl is nothing)
 
 -- a printer's characters a line
-chars_are : (chars near : ℕ) (old : Mechanism) (printer : Printer) → old ≡ mechanism.Printer printer
+chars_are : {chars : ℕ} (near : ℕ) {old : Mechanism} {printer : Printer} → old ≡ mechanism.Printer printer
     → IsMechanismOf (kind.Printer chars near) old → printer.chars ≡ chars
-chars_are chars near old printer is kind_is =
+chars_are {chars = chars} near {printer = printer} is kind_is =
     let there : IsMechanismOf (kind.Printer chars near) (mechanism.Printer printer) =
     subst (λ (f : Mechanism). IsMechanismOf (kind.Printer chars near) f) is kind_is in
     there
 
 -- what a printer adds doesn't fit it
-pub adds_misfit : (chars near : ℕ) (is_new : Bool) (state : PeripheralState) (asked : Order) (roll : Printer)
+pub adds_misfit : (chars near : ℕ) (is_new : Bool) (state : PeripheralState) {asked : Order} {roll : Printer}
     → IsPlantOf (kind.Printer chars near) state.plant → Adds state.plant asked roll → all_fit chars roll.items ≡ false
     → HasNoBytes is_new state asked
-adds_misfit chars near is_new state asked roll is adds misfit =
+adds_misfit chars near is_new state {asked = asked} {roll = roll} is adds misfit =
     let printer = adds.printer in
     let left = mechanism.Printer (record roll { items = printer.items ++ roll.items }) in
-    let same : printer.chars ≡ chars = chars_are chars near state.plant.mechanism printer adds.stands is in
+    let same : printer.chars ≡ chars = chars_are near adds.stands is in
     let by_items : all_fit chars (printed_by printer.chars printer.buffer (pieces_ordered asked)).items ≡ false =
     subst (λ (items : List Item). all_fit chars items ≡ false) adds.items misfit in
     let by_chars : all_fit printer.chars (printed_by printer.chars printer.buffer (pieces_ordered asked)).items
@@ -168,12 +164,11 @@ adds_misfit chars near is_new state asked roll is adds misfit =
     )
 
 -- the cells that a display shows have no bytes
-pub display_misfit : (is_new : Bool) (state : PeripheralState) (asked : Order) (old new : Display)
-    → IsOn state.plant → state.plant.mechanism ≡ mechanism.Display old
-    → Performs asked (lit old) reply.Done (lit new)
+pub display_misfit : (is_new : Bool) (state : PeripheralState) (asked : Order) {old : Display} (new : Display)
+    → IsOn state.plant → state.plant.mechanism ≡ mechanism.Display old → Performs asked (lit old) reply.Done (lit new)
     → can_become (known_before is_new old new) new ≡ false → HasNoBytes is_new state asked
-display_misfit is_new state asked old new is_on is done misfit = inr (
+display_misfit is_new state asked new is_on is done misfit = inr (
   lit new,
-  subst (λ (plant : Plant). Performs asked plant reply.Done (lit new)) (sym (lit_is state.plant old is_on is)) done,
+  subst (λ (plant : Plant). Performs asked plant reply.Done (lit new)) (sym (lit_is is_on is)) done,
   subst (λ (was : Mechanism). has_bytes is_new asked was (mechanism.Display new) ≡ false) (sym is) misfit,
 )

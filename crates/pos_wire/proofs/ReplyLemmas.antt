@@ -33,41 +33,36 @@ Pieces = (reader : Reader) (first next : List ℕ) → reading_of reader (first 
 -- reply, and what had begun is none; or it goes on what has begun
 abbrev Comes : List ℕ → Reader → ℕ → Step → Type 0
 Comes begun reader b step =
-    ((step.received.reply ≡ None → ⊥) × (step.reader.begun ≡ []))
-    ⊎ ((step ≡ skips_all begun reader)
-    ⊎ (((step ≡ reads_none (length begun) (b ∷ []) reader)
-    × (byte_received (idle reader) b ≡ reads_none 0 (b ∷ []) reader))
-    ⊎ (step ≡ reads_none 0 (begun ++ b ∷ []) reader)))
+    ((step.received.reply ≡ None → ⊥) × (step.reader.begun ≡ [])) ⊎ ((step ≡ skips_all begun reader)
+    ⊎ (((step ≡ reads_none (length begun) (b ∷ []) reader) × (byte_received (idle reader) b ≡ reads_none 0 (b ∷ [])
+    reader)) ⊎ (step ≡ reads_none 0 (begun ++ b ∷ []) reader)))
 
 -- the bytes of a step are counted
 abbrev pub Counts : List ℕ → Step → Type 0
 Counts begun step = step.received.skipped + bytes_told step.received.reply + length step.reader.begun ≡ length begun + 1
 
-some_reply : (told : PrinterReply) → Some told ≡ None → ⊥
-some_reply told is = grind arith
+some_reply : {told : PrinterReply} → Some told ≡ None → ⊥
+some_reply is = grind arith
 
 now_comes : (asked : Option NowStatus) (begun : List ℕ) (b : ℕ) (reader : Reader)
     → Comes begun reader b (now_received asked begun b reader)
 now_comes None begun b reader = inr (inl refl)
-now_comes (Some status) begun b reader = inl ((λ none. some_reply _ none), refl)
+now_comes (Some status) begun b reader = inl ((λ none. some_reply none), refl)
 
 lone_comes : (asked : Option OrderStatus) (b : ℕ) (reader : Reader) → Comes [] reader b (lone_received asked b reader)
 lone_comes None b reader = inr (inl refl)
-lone_comes (Some status) b reader = ⊎_elim
-    (λ (plain : is_plain b ≡ true).
+lone_comes (Some status) b reader = ⊎_elim (λ (plain : is_plain b ≡ true).
     let is : lone_received (Some status) b reader ≡ reads_reply 0 (reply.InOrder status (order_status status b))
     (record reader { asked_in_order = None }) =
     rw plain refl in
-    subst (λ (step : Step). Comes [] reader b step) (sym is) (inl ((λ none. some_reply _ none), refl)))
+    subst (λ (step : Step). Comes [] reader b step) (sym is) (inl ((λ none. some_reply none), refl)))
     (λ (other : is_plain b ≡ false).
     let is : lone_received (Some status) b reader ≡ skips_all [] reader = rw other refl in
-    subst (λ (step : Step). Comes [] reader b step) (sym is) (inr (inl refl)))
-    (cases_Bool (is_plain b))
+    subst (λ (step : Step). Comes [] reader b step) (sym is) (inr (inl refl))) (cases_Bool (is_plain b))
 
-continued_comes : (begun : List ℕ) (first b : ℕ) (reader : Reader) → Counts begun (continued begun first b reader)
+continued_comes : (begun : List ℕ) (first : ℕ) {b : ℕ} (reader : Reader) → Counts begun (continued begun first b reader)
     → Comes begun reader b (continued begun first b reader)
-continued_comes begun first b reader count = ⊎_elim
-    (λ (whole : (length begun + 1 == reply_size first) ≡ true).
+continued_comes begun first {b = b} reader count = ⊎_elim (λ (whole : (length begun + 1 == reply_size first) ≡ true).
     let told = whole_reply (begun ++ b ∷ []) in
     let end = step_of (record { skipped = 0; reply = told }) (idle reader) in
     let is : continued begun first b reader ≡ end = rw whole refl in
@@ -77,35 +72,31 @@ continued_comes begun first b reader count = ⊎_elim
     subst (λ (step : Step). Comes begun reader b step) (sym is) ends)
     (λ (more : (length begun + 1 == reply_size first) ≡ false).
     let is : continued begun first b reader ≡ reads_none 0 (begun ++ b ∷ []) reader = rw more refl in
-    inr (inr (inr is)))
-    (cases_Bool (length begun + 1 == reply_size first))
+    inr (inr (inr is))) (cases_Bool (length begun + 1 == reply_size first))
 
-later_comes : (begun : List ℕ) (b : ℕ) (reader : Reader) → Counts begun (later_received begun b reader)
+later_comes : (begun : List ℕ) {b : ℕ} (reader : Reader) → Counts begun (later_received begun b reader)
     → Comes begun reader b (later_received begun b reader)
-later_comes [] b reader count = lone_comes reader.asked_in_order b reader
-later_comes (first ∷ more) b reader count = ⊎_elim
-    (λ (goes : goes_on first (length (first ∷ more)) b ≡ true).
+later_comes [] {b = b} reader count = lone_comes reader.asked_in_order b reader
+later_comes (first ∷ more) {b = b} reader count = ⊎_elim (λ (goes : goes_on first (length (first ∷ more)) b ≡ true).
     let is : later_received (first ∷ more) b reader ≡ continued (first ∷ more) first b reader = rw goes refl in
     let counted : Counts (first ∷ more) (continued (first ∷ more) first b reader) =
     subst (λ (step : Step). Counts (first ∷ more) step) is count in
     subst (λ (step : Step). Comes (first ∷ more) reader b step) (sym is)
-    (continued_comes (first ∷ more) first b reader counted))
+    (continued_comes (first ∷ more) first reader counted))
     (λ (stops : goes_on first (length (first ∷ more)) b ≡ false).
     let is : later_received (first ∷ more) b reader ≡ skips_all (first ∷ more) reader = rw stops refl in
-    inr (inl is))
-    (cases_Bool (goes_on first (length (first ∷ more)) b))
+    inr (inl is)) (cases_Bool (goes_on first (length (first ∷ more)) b))
 
 -- a byte that begins a reply
-begins : (b : ℕ) (reader : Reader) → is_first b ≡ true → (begins_status b || begins_job b) ≡ true
+begins : {b : ℕ} (reader : Reader) → is_first b ≡ true → (begins_status b || begins_job b) ≡ true
     → byte_received (idle reader) b ≡ reads_none 0 (b ∷ []) reader
-begins b reader first starts = rw (first, starts) refl
+begins reader first starts = rw (first, starts) refl
 
-first_comes : (b : ℕ) (reader : Reader) → is_first b ≡ true
+first_comes : {b : ℕ} (reader : Reader) → is_first b ≡ true
     → Comes reader.begun reader b (first_received reader.begun b reader)
-first_comes b reader first = ⊎_elim
-    (λ (starts : (begins_status b || begins_job b) ≡ true).
+first_comes {b = b} reader first = ⊎_elim (λ (starts : (begins_status b || begins_job b) ≡ true).
     let is : first_received reader.begun b reader ≡ reads_none (length reader.begun) (b ∷ []) reader = rw starts refl in
-    inr (inr (inl (is, begins b reader first starts))))
+    inr (inr (inl (is, begins reader first starts))))
     (λ (other : (begins_status b || begins_job b) ≡ false). ⊎_elim
     (λ (answers : answers_now b ≡ true).
     let is : first_received reader.begun b reader ≡ now_received reader.asked_now reader.begun b reader =
@@ -114,21 +105,18 @@ first_comes b reader first = ⊎_elim
     (now_comes reader.asked_now reader.begun b reader))
     (λ (none : answers_now b ≡ false).
     let is : first_received reader.begun b reader ≡ skips_all reader.begun reader = rw (other, none) refl in
-    inr (inl is))
-    (cases_Bool (answers_now b)))
-    (cases_Bool (begins_status b || begins_job b))
+    inr (inl is)) (cases_Bool (answers_now b))) (cases_Bool (begins_status b || begins_job b))
 
-byte_comes : (reader : Reader) (b : ℕ) → Counts reader.begun (byte_received reader b)
+byte_comes : (reader : Reader) {b : ℕ} → Counts reader.begun (byte_received reader b)
     → Comes reader.begun reader b (byte_received reader b)
-byte_comes reader b count = ⊎_elim
-    (λ (first : is_first b ≡ true).
+byte_comes reader {b = b} count = ⊎_elim (λ (first : is_first b ≡ true).
     let is : byte_received reader b ≡ first_received reader.begun b reader = rw first refl in
-    subst (λ (step : Step). Comes reader.begun reader b step) (sym is) (first_comes b reader first))
+    subst (λ (step : Step). Comes reader.begun reader b step) (sym is) (first_comes reader first))
     (λ (other : is_first b ≡ false).
     let is : byte_received reader b ≡ later_received reader.begun b reader = rw other refl in
     let counted : Counts reader.begun (later_received reader.begun b reader) =
     subst (λ (step : Step). Counts reader.begun step) is count in
-    subst (λ (step : Step). Comes reader.begun reader b step) (sym is) (later_comes reader.begun b reader counted))
+    subst (λ (step : Step). Comes reader.begun reader b step) (sym is) (later_comes reader.begun reader counted))
     (cases_Bool (is_first b))
 
 -- Where no reply has come: what has begun is read again, and it is what was not skipped.
@@ -137,10 +125,10 @@ record After (reader : Reader) (b : ℕ) (step : Step) : Type 0 where
   again : reading_of (idle step.reader) step.reader.begun ≡ quiet 0 step.reader
   rest : drop step.received.skipped (reader.begun ++ b ∷ []) ≡ step.reader.begun
 
-after_byte : Pieces → (reader : Reader) (b : ℕ) (step : Step) → reading_of (idle reader) reader.begun ≡ quiet 0 reader
+after_byte : Pieces → {reader : Reader} {b : ℕ} {step : Step} → reading_of (idle reader) reader.begun ≡ quiet 0 reader
     → byte_received reader b ≡ step → Comes reader.begun reader b step → step.received.reply ≡ None
     → After reader b step
-after_byte pieces reader b step again is comes none =
+after_byte pieces {reader = reader} {b = b} {step = step} again is comes none =
     let begun = reader.begun in
     let skips : step ≡ skips_all begun reader → After reader b step = λ e.
     let all : drop (length begun + 1) (begun ++ b ∷ []) ≡ [] =
@@ -158,8 +146,7 @@ after_byte pieces reader b step again is comes none =
     let goes : step ≡ reads_none 0 (begun ++ b ∷ []) reader → After reader b step = λ e.
     let there : After reader b (reads_none 0 (begun ++ b ∷ []) reader) = record {
       same = refl;
-      again = pieces (idle reader) begun (b ∷ [])
-          ∙ ap (λ (r : Reading). joined r (reading_of r.reader (b ∷ []))) again
+      again = pieces (idle reader) begun (b ∷ []) ∙ ap (λ (r : Reading). joined r (reading_of r.reader (b ∷ []))) again
           ∙ ap (λ (s : Step). joined (quiet 0 reader) (after_step s (reading_of s.reader []))) (is ∙ e);
       rest = refl;
     } in
@@ -181,82 +168,77 @@ at_start (asked.Now status) bytes = record { read = refl; same = refl; again = r
 at_start (asked.InOrder status) bytes = record { read = refl; same = refl; again = refl; rest = refl; count = refl }
 
 -- one byte more
-read_more : Pieces → (start reader next : Reader) (bytes : List ℕ) (place none b : ℕ) (received : Received)
+read_more : Pieces → {start reader next : Reader} {bytes : List ℕ} {place none : ℕ} (b : ℕ) {received : Received}
     → At start reader bytes place none → take (place + 1) bytes ≡ take place bytes ++ b ∷ []
     → step_of received next ≡ byte_received reader b
     → reading_of start (take (place + 1) bytes)
     ≡ record { replies = replies_before received.reply []; skipped = none + received.skipped; reader = next }
-read_more pieces start reader next bytes place none b received at more is =
+read_more pieces {start = start} {reader = reader} {next = next} {bytes = bytes} {place = place} {none = none} b {received = received} at more is =
     let count : received.skipped + 0 ≡ received.skipped = omega arith in
-    ap (reading_of start) more
-    ∙ pieces start (take place bytes) (b ∷ [])
-    ∙ ap (λ (r : Reading). joined r (reading_of r.reader (b ∷ []))) at.read
-    ∙ ap (λ (s : Step). joined (quiet none reader) (after_step s (reading_of s.reader []))) (sym is)
-    ∙ ap (λ (k : ℕ). record { replies = replies_before received.reply []; skipped = none + k; reader = next }) count
+    ap (reading_of start) more ∙ pieces start (take place bytes) (b ∷ []) ∙ ap
+    (λ (r : Reading). joined r (reading_of r.reader (b ∷ []))) at.read ∙ ap
+    (λ (s : Step). joined (quiet none reader) (after_step s (reading_of s.reader []))) (sym is) ∙ ap
+    (λ (k : ℕ). record { replies = replies_before received.reply []; skipped = none + k; reader = next }) count
 
-byte_taken : (bytes : List ℕ) (place b : ℕ) → place < length bytes → get_or bytes place 0 ≡ b
+byte_taken : (bytes : List ℕ) {place b : ℕ} → place < length bytes → get_or bytes place 0 ≡ b
     → take (place + 1) bytes ≡ take place bytes ++ b ∷ []
-byte_taken bytes place b within here = take_more bytes place 0 within ∙ ap (λ (k : ℕ). take place bytes ++ k ∷ []) here
+byte_taken bytes {place = place} within here = take_more bytes place 0 within ∙ ap (λ (k : ℕ). take place bytes ++ k ∷ []) here
 
-pub goes_past : Pieces → (start reader next : Reader) (bytes : List ℕ) (place none b : ℕ) (received : Received)
+pub goes_past : Pieces → {start reader next : Reader} {bytes : List ℕ} {place none b : ℕ} {received : Received}
     → At start reader bytes place none → place < length bytes → get_or bytes place 0 ≡ b
-    → step_of received next ≡ byte_received reader b
-    → Counts reader.begun (step_of received next) → received.reply ≡ None
-    → At start next bytes (place + 1) (none + received.skipped)
-goes_past pieces start reader next bytes place none b received at within here is count told =
+    → step_of received next ≡ byte_received reader b → Counts reader.begun (step_of received next)
+    → received.reply ≡ None → At start next bytes (place + 1) (none + received.skipped)
+goes_past pieces {reader = reader} {next = next} {bytes = bytes} {place = place} {none = none} {b = b} {received = received} at within here is count told =
     let prefix = take place bytes in
-    let more : take (place + 1) bytes ≡ prefix ++ b ∷ [] = byte_taken bytes place b within here in
+    let more : take (place + 1) bytes ≡ prefix ++ b ∷ [] = byte_taken bytes within here in
     let counted : Counts reader.begun (byte_received reader b) = subst (λ (s : Step). Counts reader.begun s) is count in
     let comes : Comes reader.begun reader b (step_of received next) =
-    subst (λ (s : Step). Comes reader.begun reader b s) (sym is) (byte_comes reader b counted) in
-    let after = after_byte pieces reader b (step_of received next) at.again (sym is) comes told in
+    subst (λ (s : Step). Comes reader.begun reader b s) (sym is) (byte_comes reader counted) in
+    let after = after_byte pieces at.again (sym is) comes told in
     let zero : bytes_told received.reply ≡ 0 = ap bytes_told told in
     let long : length prefix ≡ place = length-take-le place bytes (omega arith) in
     record {
-      read = read_more pieces start reader next bytes place none b received at more is
-          ∙ ap (λ (r : Option PrinterReply).
+      read = read_more pieces b at more is ∙ ap (λ (r : Option PrinterReply).
           record { replies = replies_before r []; skipped = none + received.skipped; reader = next }) told;
       same = at.same ∙ sym after.same;
       again = after.again;
-      rest = ap (drop (none + received.skipped)) more
-          ∙ sym (drop-drop received.skipped none (prefix ++ b ∷ []))
-          ∙ ap (drop received.skipped) (drop-append-le none prefix (b ∷ []) (omega (arith, at.count)))
-          ∙ ap (λ (xs : List ℕ). drop received.skipped (xs ++ b ∷ [])) at.rest
-          ∙ after.rest;
+      rest = ap (drop (none + received.skipped)) more ∙ sym (drop-drop received.skipped none (prefix ++ b ∷ [])) ∙ ap
+          (drop received.skipped) (drop-append-le none prefix (b ∷ []) (omega (arith, at.count))) ∙ ap
+          (λ (xs : List ℕ). drop received.skipped (xs ++ b ∷ [])) at.rest ∙ after.rest;
       count = omega (arith, at.count, count, zero);
     }
 
 -- none has begun behind a reply
-none_begun : (begun : List ℕ) (reader : Reader) (b : ℕ) (step : Step) (told : PrinterReply)
-    → step.received.reply ≡ Some told → Comes begun reader b step
-    → step.reader.begun ≡ []
-none_begun begun reader b step told is = ⊎_elim
+none_begun : (begun : List ℕ) (reader : Reader) {b : ℕ} {step : Step} {told : PrinterReply}
+    → step.received.reply ≡ Some told → Comes begun reader b step → step.reader.begun ≡ []
+none_begun begun reader {b = b} {step = step} is = ⊎_elim
     (λ (ends : (step.received.reply ≡ None → ⊥) × (step.reader.begun ≡ [])). ends.1)
-    (⊎_elim (λ (e : step ≡ skips_all begun reader).
-    absurd (some_reply told (sym is ∙ ap (λ (s : Step). s.received.reply) e)))
-    (⊎_elim (λ (e : (step ≡ reads_none (length begun) (b ∷ []) reader)
-    × (byte_received (idle reader) b ≡ reads_none 0 (b ∷ []) reader)).
-    absurd (some_reply told (sym is ∙ ap (λ (s : Step). s.received.reply) e.0)))
-    (λ (e : step ≡ reads_none 0 (begun ++ b ∷ []) reader).
-    absurd (some_reply told (sym is ∙ ap (λ (s : Step). s.received.reply) e)))))
+    (⊎_elim (λ (e : step ≡ skips_all begun reader). absurd (some_reply (sym is ∙ ap (λ (s : Step). s.received.reply)
+    e))) (⊎_elim (λ (e : (step ≡ reads_none (length begun) (b ∷ []) reader)
+    × (byte_received (idle reader) b ≡ reads_none 0 (b ∷ []) reader)). absurd
+    (some_reply (sym is ∙ ap (λ (s : Step). s.received.reply) e.0)))
+    (λ (e : step ≡ reads_none 0 (begun ++ b ∷ []) reader). absurd (some_reply
+    (sym is ∙ ap (λ (s : Step). s.received.reply) e)))))
 
-pub one_ends : Pieces → (start reader next : Reader) (bytes : List ℕ) (place none b : ℕ) (received : Received)
-    (told : PrinterReply) (read : ReplyRead)
+pub one_ends : Pieces → {start reader next : Reader} {bytes : List ℕ} {place none b : ℕ} {received : Received}
+    {told : PrinterReply} {read : ReplyRead}
     → At start reader bytes place none → place < length bytes → get_or bytes place 0 ≡ b
     → step_of received next ≡ byte_received reader b
     → Counts reader.begun (step_of received next) → received.reply ≡ Some told
     → read.used ≡ place + 1 → read.skipped ≡ none + received.skipped → EndsWith start bytes read told
-one_ends pieces start reader next bytes place none b received told read at within here is count ends used skipped =
-    let more : take (place + 1) bytes ≡ take place bytes ++ b ∷ [] = byte_taken bytes place b within here in
+one_ends pieces {start = start} {reader = reader} {next = next} {bytes = bytes} {place = place} {none = none} {b = b} {received = received} {told = told} at within here is count ends used skipped =
+    let more : take (place + 1) bytes ≡ take place bytes ++ b ∷ [] = byte_taken bytes within here in
     let counted : Counts reader.begun (byte_received reader b) = subst (λ (s : Step). Counts reader.begun s) is count in
     let comes : Comes reader.begun reader b (step_of received next) =
-    subst (λ (s : Step). Comes reader.begun reader b s) (sym is) (byte_comes reader b counted) in
+    subst (λ (s : Step). Comes reader.begun reader b s) (sym is) (byte_comes reader counted) in
     record {
       left = next;
-      one = ap (λ (k : ℕ). reading_of start (take k bytes)) used
-          ∙ read_more pieces start reader next bytes place none b received at more is
-          ∙ ap (λ (r : Option PrinterReply).
-          record { replies = replies_before r []; skipped = none + received.skipped; reader = next }) ends
-          ∙ ap (λ (k : ℕ). record { replies = told ∷ []; skipped = k; reader = next }) (sym skipped);
-      whole = none_begun reader.begun reader b (step_of received next) told ends comes;
+      one = ap (λ (k : ℕ). reading_of start (take k bytes)) used ∙ read_more pieces b at more is ∙ ap
+          (λ (r : Option PrinterReply). record {
+            replies = replies_before r [];
+            skipped = none + received.skipped;
+            reader = next;
+          }) ends ∙ ap (λ (k : ℕ). record { replies = told ∷ []; skipped = k; reader = next })
+          (sym skipped);
+      whole = none_begun reader.begun reader ends comes;
     }

@@ -6,5 +6,4 @@ use Rattle.kijolvar.proofs.orders.order_line.Given as goal
 abbrev pub invariant-loop-argument : goal.invariant-loop-argument
 invariant-loop-argument l =
     with_arguments l.line.items (filter_map (λ (given : Option Argument). given)
-    (drop l.argument-index l.argument-items))
-    ≡ order_text l.device l.order
+    (drop l.argument-index l.argument-items)) ≡ order_text l.device l.order

@@ -27,17 +27,15 @@ put_spec 𝓤 𝓛 𝓜 𝓡 wired =
     let owned = ‵ (owns (types_at ended.signature.params lifetimes) arguments values) in
     let asked = raw ((c lifetimes arguments).requires ghost) in
     qed 𝓛 ((tokens ⊛ owned) ∷ asked ∷ []) ∵ split ! $
-    move ! (1 ∷ []) $ fsplit ! $ loose_out R Z LZ g ! (as_loose till) words (λ b o h e ws fits.
+    move ! (1 ∷ []) $ fsplit ! $ loose_out R Z LZ g ! (as_loose till) (λ b o h e ws fits.
     let w : Val = both (vptr b o) h in let typed = loose_good R Z LZ g b o h fits in
     suffices ! (Run (w ∷ [])) (subst (λ (us : List Val). ent 𝓤 (Run (w ∷ [])) (Run us)) (sym (λ i. ws i ++ []))
-    (id⊢ 𝓤 (Run (w ∷ [])))) $
-    enter ! 𝓣.C 𝓣.Λ code.function (w ∷ []) Post $ alloc_all ! (λ l. pass_all ! refl (typed, tt) $
-    sets ! (of_opd ! (get_in ! (fld ! refl (stop !)) (sub ! 0 refl (whole !)))) refl (tt, tt) $
-    sets ! (of_opd ! (get_in ! (fld ! refl (stop !)) (sub ! 1 refl (whole !)))) refl fits $
-    sets ! (agg ! (and_then ! (get ! refl) (and_then ! (get ! refl) (no_more !)))) refl typed $
-    loose_in R Z LZ g ! b o h till.alloc till.session $
-    use0 𝓛 (raw (fact 𝓤 (Some till.session ≡ Some till.session)))
-    (fact_i 𝓤 (Some till.session ≡ Some till.session) (emp 𝓤) refl) $ nothing ! $ nothing ! $ fjoin ! $
-    returns ! (look_at ! 0 refl) $ free_all ! refl $ keep ! (4 ∷ 0 ∷ 2 ∷ 1 ∷ []) $
+    (id⊢ 𝓤 (Run (w ∷ [])))) $ enter ! 𝓣.C 𝓣.Λ code.function (w ∷ []) Post $ alloc_all !
+    (λ l. pass_all ! refl (typed, tt) $ sets ! (of_opd ! (get_in ! (fld ! refl (stop !)) (sub ! 0 refl (whole !)))) refl
+    (tt, tt) $ sets ! (of_opd ! (get_in ! (fld ! refl (stop !)) (sub ! 1 refl (whole !)))) refl fits $ sets !
+    (agg ! (and_then ! (get ! refl) (and_then ! (get ! refl) (no_more !)))) refl typed $ loose_in R Z LZ g ! b o h
+    till.alloc till.session $ use0 𝓛 (raw (fact 𝓤 (Some till.session ≡ Some till.session)))
+    (fact_i 𝓤 (Some till.session ≡ Some till.session) (emp 𝓤) refl) $ nothing ! $ nothing ! $ fjoin ! $ returns !
+    (look_at ! 0 refl) $ free_all ! refl $ keep ! (4 ∷ 0 ∷ 2 ∷ 1 ∷ []) $
     by ! (leaves 𝓛 ended hs c z w (record { at = block_ptr b o; alloc = till.alloc; left = Some till.session }) (tt, tt)
     (tt, tt)))))

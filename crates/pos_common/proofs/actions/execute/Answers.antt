@@ -6,5 +6,4 @@ pub returns-in-Queues-clause-done : goal.returns-in-Queues-clause-done
 returns-in-Queues-clause-done g c =
     let at = hardware_of (g.P.Peripheral.state c.args.peripheral.now) in
     rw c.in-Queues.is (queued_of c.in-Queues.order c.args.number c.args.place c.queue.result
-    (controls_of c.args.controls.now)
-    (controls_of c.queue.new.controls) at (c.queue.ensures at))
+    (controls_of c.args.controls.now) (controls_of c.queue.new.controls) at (c.queue.ensures at))

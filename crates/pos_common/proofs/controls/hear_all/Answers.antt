@@ -10,15 +10,13 @@ loop-control-preserved c =
     let lt : c.loop-control.control-index < length hs = omega arith in
     record {
       heard = mapped_more (if_listening place (heard_signs c.args.old c.args.new)) c.args.controls.now hs _
-          c.control-item.result _ lt
-          c.hear.ensures.heard c.loop-control.invariant.heard (omega arith);
+          c.control-item.result _ lt c.hear.ensures.heard c.loop-control.invariant.heard (omega arith);
       room = rest_after_set (HasRoom place sign_events) hs _ _ lt c.loop-control.invariant.room;
       left = λ count all.
           let so_far = c.loop-control.invariant.left count all in
           let before = first_of_rest (HasRoom place (sign_events + count)) hs _ c.control-item.result lt so_far.1 in (
-            front_after_set (HasRoom place count) hs _ _ lt
-                (room_left place count c.args.old c.args.new _ _ c.hear.ensures.heard c.hear.ensures.room before)
-                so_far.0,
+            front_after_set (HasRoom place count) hs _ _ lt (room_left place c.args.old c.args.new _
+                c.hear.ensures.heard c.hear.ensures.room before) so_far.0,
             rest_after_set (HasRoom place (sign_events + count)) hs _ _ lt so_far.1,
           );
     }

@@ -10,6 +10,5 @@ returns-in-Scan-clause-taken g c =
     let place = c.args.place in
     let fed : Fed (state c.args.peripheral.now) c.args.input.now (Ok taken.Scan) (state c.feed.new.self) =
     grind arith in
-    scan_taken _ _ c.args.input.now place _ _ _ _ c.requires.fits fed c.prepare_all.ensures.same
-    c.in_ok-copies.ensures.copies
+    scan_taken _ _ place _ _ c.requires.fits fed c.prepare_all.ensures.same c.in_ok-copies.ensures.copies
     (λ scan are. c.read_all.ensures place scan (record { each = are; room = search rules }))

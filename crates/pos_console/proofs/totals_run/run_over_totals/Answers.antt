@@ -6,8 +6,6 @@ pub returns : goal.returns
 returns g c =
     let ran = c.run_over_profile-outcome.ensures in
     let mirrored = c.file_is_mirrored.ensures in
-    ⊎_elim (λ nothing. inl nothing.0) (λ keys.
-    ⊎_elim (λ nothing. inl nothing.0)
+    ⊎_elim (λ nothing. inl nothing.0) (λ keys. ⊎_elim (λ nothing. inl nothing.0)
     (λ runs. totals_leave _ _ c.args.totals c.requires _ _ _ mirrored.file mirrored.cut _ keys
-    (λ left leaves. (runs.0 left tt leaves).0))
-    ran.leaves) ran.keys
+    (λ left leaves. (runs.0 left tt leaves).0)) ran.leaves) ran.keys

@@ -19,4 +19,4 @@ returns-clause-after g c left steps old mid same = same_after g.D.Disk _ same c.
 
 pub returns-clause-join : goal.returns-clause-join
 returns-clause-join g c left steps more first mid runs =
-    runs_on g.D.Disk _ first mid c.args.counter.now left steps more runs
+    runs_on g.D.Disk _ first mid left steps more runs

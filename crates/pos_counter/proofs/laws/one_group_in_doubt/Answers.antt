@@ -46,11 +46,10 @@ recovered files sequence failures =
     with_one one_enabled (Ready (numbered 1 files) sequence) (1 + length files)
     (Stands Layout1 (plain (numbered 1 files)) sequence ∷ []) failures
 
-recovers : (left : List Standing) (failures : ℕ) (files : List PlainFile) (sequence : ℕ)
-    → IsOneOf left (Stands Layout1 files sequence)
-    → AreLeft 1 (length files) → Step (disabled left failures) (sets_enabled true).0 (sets_enabled true).1
-    (recovered files sequence failures)
-recovers left failures files sequence found handles = search rules
+recovers : {left : List Standing} (failures : ℕ) (files : List PlainFile) {sequence : ℕ}
+    → IsOneOf left (Stands Layout1 files sequence) → AreLeft 1 (length files)
+    → Step (disabled left failures) (sets_enabled true).0 (sets_enabled true).1 (recovered files sequence failures)
+recovers failures files found handles = search rules
 
 abbrev in_doubt : Machine
 in_doubt = with_one one_enabled Off 1 both 1
@@ -63,7 +62,7 @@ doubts = search rules
 abbrev behind_doubt : (steps : List (Request × Response)) (last : Machine) → Run in_doubt steps last
     → Run new_machine (steps_into_doubt ++ steps) last
 behind_doubt steps last rest =
-    let found = recovers (Stands Layout1 [] 1 ∷ []) 0 [] 1 (inl refl) (omega arith) in (
+    let found = recovers 0 [] (inl refl) (omega arith) in (
       _,
       (omega arith, refl, refl),
       (_, record { outcome = (refl, refl) }, (recovered [] 1 0, found, (in_doubt, doubts, rest))),
@@ -71,13 +70,12 @@ behind_doubt steps last rest =
 
 -- the next recovery decides on the group
 abbrev decided : (files : List PlainFile) (sequence : ℕ) → IsOneOf both (Stands Layout1 files sequence)
-    → AreLeft 1 (length files)
-    → Run new_machine steps_through_doubt (recovered files sequence 1)
+    → AreLeft 1 (length files) → Run new_machine steps_through_doubt (recovered files sequence 1)
 decided files sequence found handles =
     behind_doubt (sets_enabled false ∷ sets_enabled true ∷ []) (recovered files sequence 1) (
       _,
       record { outcome = (refl, refl) },
-      (recovered files sequence 1, recovers both 1 files sequence found handles, refl),
+      (recovered files sequence 1, recovers 1 files found handles, refl),
     )
 
 pub returns-clause-doubt : goal.returns-clause-doubt

@@ -16,7 +16,7 @@ returns-clause-now g c history left old result each moves bytes may =
 pub returns-clause-along : goal.returns-clause-along
 returns-clause-along g c history standing is first last steps run starts bytes left =
     let now = resumed is.layout history is.prefix in
-    bytes_along now first steps last run (fits_start now is.files is.sequence first.totals is.made starts) bytes left
+    bytes_along now first steps last run (fits_start is.made starts) left
 
 pub returns-clause-held : goal.returns-clause-held
 returns-clause-held g c history standing is first last steps run =

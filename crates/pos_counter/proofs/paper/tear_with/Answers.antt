@@ -3,6 +3,4 @@ use Rattle.pos_counter.proofs.paper.tear_with.Goals as goal
 
 pub returns-clause-in_service : goal.returns-clause-in_service
 returns-clause-in_service g c =
-    let state = g.P.Peripheral.state in
-    stays_in_service (state c.args.peripheral.now)
-    (state c.tear_off.new.self) c.tear_off.result c.requires.unparked c.tear_off.ensures.state
+    stays_in_service c.tear_off.result c.requires.unparked c.tear_off.ensures.state

@@ -8,5 +8,5 @@ returns c =
     let read = some_read (items_at file_at c.in_ok-count.count c.in_ok-count.rest.now) c.in_ok-end.end.now
     (grind (arith, nat_tests)) in
     let none : c.in_ok-end.end.now ≡ [] = nil_from_length c.in_ok-end.end.now (grind (arith, nat_tests)) in
-    let many = length_items file_at c.in_ok-count.count c.in_ok-count.rest.now (read.0, c.in_ok-end.end.now) read.1 in
+    let many = length_items file_at c.in_ok-count.count c.in_ok-count.rest.now read.1 in
     (read.0, grind (arith, nat_tests, read.1, many), grind (arith, read.1))

@@ -31,12 +31,12 @@ ends c files rest read =
     )
 
 -- a flaw of a file is one of the bytes
-file_flaw : (limits : Limits) (bytes : List ℕ) (at : ℕ) (broken : Flaw) → HasFileFlaw limits bytes at broken
+file_flaw : {limits : Limits} {bytes : List ℕ} {at : ℕ} (broken : Flaw) → HasFileFlaw limits bytes at broken
     → HasFlaw limits bytes at broken
-file_flaw limits bytes at flaw.TooManyFiles has = absurd has.why
-file_flaw limits bytes at flaw.BytesMissing has = inr has
-file_flaw limits bytes at flaw.BytesLeft has = absurd has.why
-file_flaw limits bytes at other has = has
+file_flaw flaw.TooManyFiles has = absurd has.why
+file_flaw flaw.BytesMissing has = inr has
+file_flaw flaw.BytesLeft has = absurd has.why
+file_flaw other has = has
 
 pub overflow_sub-result : goal.overflow_sub-result
 overflow_sub-result c = omega (arith, ends (goal.at.overflow_sub-result c).In-Some _ _ c.in-Err.ensures.stopped.read)
@@ -70,7 +70,7 @@ returns-else-is_empty-clause-flaw c =
 pub returns-in-Err-clause-flaw : goal.returns-in-Err-clause-flaw
 returns-in-Err-clause-flaw c =
     let stops = c.in-Err.ensures.stopped in
-    file_flaw c.args.limits c.args.bytes.now _ c.in-Err.flaw (record {
+    file_flaw c.in-Err.flaw (record {
       count = c.in-Some.count;
       files = stops.files;
       rest = c.in-Err.rest.now;

@@ -40,9 +40,7 @@ loop-i-preserved c =
     record {
       files = read.files ++ file ∷ [];
       count = omega (arith, length-append read.files (file ∷ []), read.count);
-      read = rw (length-append, add-one)
-          (items_push file_at _ c.args.text.now read.files c.loop-i.rest.now file c.in-Some.after.now read.read
-          (sym c.in-Some.ensures));
+      read = rw (length-append, add-one) (items_push file_at _ c.args.text.now read.read (sym c.in-Some.ensures));
       room = omega (arith, sum_by_push (λ f. length f.bytes) read.files file, read.room, c.if-file-left.false);
       distinct = are_distinct-append read.files file read.distinct (grind (arith, nat_tests, read.read, read.count));
     }

@@ -2,8 +2,7 @@ use Rattle.pos_dir.proofs.DirectoryLemmas.{length-spelling}
 use Rattle.pos_dir.proofs.laws.is_directory.Goals as goal
 
 pub returns-clause-length : goal.returns-clause-length
-returns-clause-length c = length-spelling c.args.directory.now.limits c.args.directory.now.files
-    (rw (← c.directory.view_is) c.directory.invariant.directory)
+returns-clause-length c = length-spelling (rw (← c.directory.view_is) c.directory.invariant.directory)
 
 pub returns-clause-writable : goal.returns-clause-writable
 returns-clause-writable c = rw (← c.directory.view_is) c.directory.invariant.writable

@@ -8,6 +8,5 @@ returns c = λ limits.
     grind (
       arith,
       nat_tests,
-      answered limits c.args.files.now c.args.change.now
-          (c.in_ok-index.index, c.in_ok-index.least) place,
+      answered limits c.args.files.now c.args.change.now (c.in_ok-index.index, c.in_ok-index.least) place,
     )

@@ -5,20 +5,16 @@ use Rattle.pos_dir.proofs.outlines.check_within.Goals as goal
 
 pub check-requires : goal.check-requires
 check-requires g c =
-    let total = stage_room c.args.limits c.loop-change.outlines.items
-    (drop c.loop-change.change-index c.deref-change-items.result.now)
-    (outcome_of_all c.args.limits c.args.files.now c.args.group.now) c.loop-change.invariant in
+    let total = stage_room c.loop-change.outlines.items
+    (drop c.loop-change.change-index c.deref-change-items.result.now) c.loop-change.invariant in
     search rules
 
 pub returns-in_err-check : goal.returns-in_err-check
 returns-in_err-check g c =
     let p = err_from_is_err_and c.from_residual.result c.from_residual.ensures.1 in
-    rw (p.1, p.2)
-    (stage_stops c.args.limits c.loop-change.outlines.items c.deref-change-items.result.now
-    c.loop-change.change-index
-    c.change-item.result (outcome_of_all c.args.limits c.args.files.now c.args.group.now) c.loop-change-test.true
-    c.change-item.is
-    c.loop-change.invariant c.in_err-check.field-0.0 c.in_err-check.ensures)
+    rw (p.1, p.2) (stage_stops c.args.limits c.loop-change.outlines.items c.deref-change-items.result.now
+    c.loop-change.change-index c.change-item.result (outcome_of_all c.args.limits c.args.files.now c.args.group.now)
+    c.loop-change-test.true c.change-item.is c.loop-change.invariant c.in_err-check.field-0.0 c.in_err-check.ensures)
 
 pub loop-change-preserved : goal.loop-change-preserved
 loop-change-preserved g c =
@@ -28,7 +24,6 @@ loop-change-preserved g c =
     let change = c.change-item.result in
     let takes : IsChange change = rw c.change-item.is
     (All-from_recursion IsChange changes each i change c.loop-change-test.true) in
-    stage_on c.args.limits c.loop-change.outlines.items changes i change
-    (outcome_of_all c.args.limits c.args.files.now c.args.group.now)
-    c.loop-change-test.true c.change-item.is c.loop-change.invariant c.check.new.outlines.items takes
+    stage_on c.args.limits c.loop-change.outlines.items changes i change (outcome_of_all c.args.limits c.args.files.now
+    c.args.group.now) c.loop-change-test.true c.change-item.is c.loop-change.invariant c.check.new.outlines.items takes
     c.in_ok-check.ensures

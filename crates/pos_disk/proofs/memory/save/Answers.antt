@@ -7,7 +7,5 @@ returns-else-is_any_loose c =
     let at = c.args.at in
     let len : at + c.args.len - at ≡ c.args.len = omega arith in
     let none = rw len at c.is_any_loose.ensures in
-    rw (c.overwrite.ensures, len)
-    (saved_at_once c.args.stamps.now c.args.stamp c.args.bytes.now at c.args.len c.args.saved.now.items
-    c.requires.stamps
-    c.requires.bytes c.requires.saved (sym none ∙ c.if-is_any_loose.false))
+    rw (c.overwrite.ensures, len) (saved_at_once at c.requires.stamps c.requires.bytes c.requires.saved
+    (sym none ∙ c.if-is_any_loose.false))

@@ -3,5 +3,5 @@ use Rattle.pos_escpos.proofs.inputs.drawer_inputs.Goals as goal
 
 pub returns-clause-shows : goal.returns-clause-shows
 returns-clause-shows c old new fits is taken =
-    drawer_told c.args.sensors old c.args.signs c.args.status new fits is
+    drawer_told c.args.sensors old c.args.status new fits is
     (rw (c.power_input.ensures, c.drawer_input.ensures, c.open_told.ensures) at taken)

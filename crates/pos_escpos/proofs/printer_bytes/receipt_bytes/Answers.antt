@@ -12,4 +12,4 @@ returns-clause-prints c press ready =
     let sent : c.push_items.new.out.items ≡ items_bytes c.args.cut items = search rules in
     let fit : all_fit line.columns items ≡ true = search rules in
     subst (λ (bytes : List ℕ). PrintsOnly press (all_on_paper c.args.cut items) (press_after line.width press bytes))
-    (sym sent) (prints_items line.width line.columns c.args.cut items line.fits fit press ready)
+    (sym sent) (prints_items line.width c.args.cut items line.fits fit press ready)

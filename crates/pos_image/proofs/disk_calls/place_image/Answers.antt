@@ -28,7 +28,6 @@ returns-clause-any_moment g c honest =
     let still : (i : ℕ) → s1.loose i → s0.loose i = first_of (search rules, grind (arith, common_steps) steps 300000) in
     let honest1 : g.D.Disk.honest c.close_gate.new.disk = search rules in
     followed_by s0 s1 _ _ (weaker s0 s1 _ _
-    (λ f closed. closing_stages slot s0.loose s0.reading f settled closed) closing)
-    (weaker s1 _ _ _
+    (λ f closed. closing_stages slot s0.loose s0.reading f settled closed) closing) (weaker s1 _ _ _
     (λ f after. writing_stages slot s0.loose s1.loose s0.reading s1.reading f settled still same shut after)
     (c.write_image.ensures.any_moment honest1))

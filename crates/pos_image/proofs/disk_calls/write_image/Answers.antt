@@ -13,18 +13,25 @@ IsBehind slot old new = IsRun (start slot + 1) (slot_size (layout_of slot) - 1) 
 first_run : (g : Over) (c : After-write g) → g.D.Disk.honest c.args.disk.now
     → IsBehind c.args.image.now.slot (g.D.Disk.state c.args.disk.now) (g.D.Disk.state c.write.new.self)
 first_run g c honest =
-    run_write (omega (arith, c.start-at.ensures))
-    (omega (arith, places c.args.image.now.slot, c.start-at.ensures, ap length c.head_of.ensures.bytes))
-    (c.write.ensures.writes honest)
-    (run_start (λ f left. g.met.D.Disk.only_now c.args.disk.now f honest left))
+    run_write (omega (arith, c.start-at.ensures)) (omega (
+      arith,
+      places c.args.image.now.slot,
+      c.start-at.ensures,
+      ap
+          length c.head_of.ensures.bytes,
+    )) (c.write.ensures.writes honest) (run_start
+    (λ f left. g.met.D.Disk.only_now c.args.disk.now f honest left))
 
 second_run : (g : Over) (c : After-write-2 g) → g.D.Disk.honest c.args.disk.now
     → IsBehind c.args.image.now.slot (g.D.Disk.state c.args.disk.now) (g.D.Disk.state c.write.new.self)
     → IsBehind c.args.image.now.slot (g.D.Disk.state c.args.disk.now) (g.D.Disk.state c.write-2.new.self)
 second_run g c honest run =
-    run_write (omega (arith, c.start-at.ensures))
-    (omega (arith, places c.args.image.now.slot, c.start-at.ensures, c.requires.short))
-    (c.write-2.ensures.writes (c.write.ensures.honest.0 honest)) run
+    run_write (omega (arith, c.start-at.ensures)) (omega (
+      arith,
+      places c.args.image.now.slot,
+      c.start-at.ensures,
+      c.requires.short,
+    )) (c.write-2.ensures.writes (c.write.ensures.honest.0 honest)) run
 
 third_run : (g : Over) (c : After-write-3 g) → g.D.Disk.honest c.args.disk.now
     → IsBehind c.args.image.now.slot (g.D.Disk.state c.args.disk.now) (g.D.Disk.state c.write-2.new.self)
@@ -54,8 +61,7 @@ pub returns-clause-any_moment : goal.returns-clause-any_moment
 returns-clause-any_moment g c honest =
     let at = goal.at.returns-clause-any_moment g c in
     let honest3 = c.write-3.ensures.honest.0 (c.write-2.ensures.honest.0 (c.write.ensures.honest.0 honest)) in
-    (run_sync (c.sync.ensures.syncs honest3)
-    (third_run g at.After-write-3 honest
+    (run_sync (c.sync.ensures.syncs honest3) (third_run g at.After-write-3 honest
     (second_run g at.After-write-2 honest (first_run g at.After-write honest)))).moments
 
 pub returns-clause-written : goal.returns-clause-written
@@ -71,6 +77,5 @@ returns-clause-written g c honest =
     let size : c.len.result ≡ length c.args.image.now.body.items = search rules in
     where_ok c.sync.result _ (rw (same, third, second, first, log_is, c.start-at.ensures, c.deref.ensures.value)
     (fields_written (g.D.Disk.state c.args.disk.now).reading c.head_of.result c.args.image.now.body.items
-    c.args.image.now.slot c.args.image.now.sequence
-    (omega (arith, whole, c.requires.large)) c.requires.short c.head_of.ensures.counted
-    (rw size at c.head_of.ensures.bytes)))
+    c.args.image.now.slot c.args.image.now.sequence (omega (arith, whole, c.requires.large)) c.requires.short
+    c.head_of.ensures.counted (rw size at c.head_of.ensures.bytes)))

@@ -28,6 +28,5 @@ returns-clause-found g c honest =
     let same2 = (c.read_heads.ensures.watches honest1).reading ∙ same1 in
     let heads = rw same1 at (c.in_ok-heads.ensures.heads honest1) in
     let found = c.in_ok-slot.ensures.found (g.D.Disk.state c.args.disk.now).reading heads in
-    found_current heads.whole found
-    (c.in_ok-body.ensures.body honest2
-    ∙ ap (λ (b : List ℕ). part (start c.in_ok-slot.slot + 13) c.in_ok-slot.head.length b) same2)
+    found_current heads.whole found (c.in_ok-body.ensures.body honest2 ∙ ap
+    (λ (b : List ℕ). part (start c.in_ok-slot.slot + 13) c.in_ok-slot.head.length b) same2)

@@ -9,10 +9,8 @@ returns-clause-text c =
     let buffer = c.args.buffer.now in
     let slice = c.as_mut_slice.ensures in
     let long = ap length slice.value in
-    ap (take (5 + length c.args.group.now))
-    (put_back buffer.len whole buffer.items (omega (arith, slice.len, long)) (search rules))
-    ∙ laid_out _ _ behind c.args.group.now
-    (c.copy_from_slice.ensures.after ∙ c.to_be_bytes.ensures) c.copy_from_slice-2.ensures.after
-    (let front = c.split_at_mut-body.ensures.back_len in let all = c.split_at_mut-head.ensures.back_len in let fits =
-    c.requires.fits in omega
-    (arith, slice.len, long))
+    ap (take (5 + length c.args.group.now)) (put_back whole buffer.items (omega (arith, slice.len, long))
+    (search rules)) ∙ laid_out behind (c.copy_from_slice.ensures.after ∙ c.to_be_bytes.ensures)
+    c.copy_from_slice-2.ensures.after (let front = c.split_at_mut-body.ensures.back_len
+    in let all = c.split_at_mut-head.ensures.back_len in let fits =
+    c.requires.fits in omega (arith, slice.len, long))

@@ -7,6 +7,5 @@ returns-clause-any_moment g c honest =
     let images = c.args.images.now in
     let wrote = c.log_write.ensures in
     sync_moments images (c.args.at - log_place (layout_of images.slot)) c.args.bytes.now c.log_write.result _ _
-    (c.requires.ready.sound honest)
-    (wrote.span honest) (wrote.any_moment honest) c.log_write.new.self c.log_write.new.self.disk wrote.same _
-    (c.log_sync.ensures.any_moment (wrote.keeps.honest.0 honest))
+    (c.requires.ready.sound honest) (wrote.span honest) (wrote.any_moment honest) c.log_write.new.self
+    c.log_write.new.self.disk wrote.same _ (c.log_sync.ensures.any_moment (wrote.keeps.honest.0 honest))

@@ -20,8 +20,6 @@ loop-alloc-preserved c =
     ++ one.items ∷ [] =
     ap (map (λ (v : Vec ℕ Global). v.items)) items ∙ map-append (λ (v : Vec ℕ Global). v.items) old (one ∷ []) in
     let size : c.loop-alloc.at + 5 + c.in-Some.length - (c.loop-alloc.at + 5) ≡ c.in-Some.length = omega arith in
-    rw groups
-    (begins_more (map (λ (v : Vec ℕ Global). v.items) old) c.loop-alloc.at c.in-Some.length c.args.span.now one.items
-    c.loop-alloc.invariant
-    (open_byte _ (search rules)) c.in-Some.ensures
+    rw groups (begins_more (map (λ (v : Vec ℕ Global). v.items) old) c.loop-alloc.at c.in-Some.length c.args.span.now
+    one.items c.loop-alloc.invariant (open_byte _ (search rules)) c.in-Some.ensures
     (c.in_ok-group.ensures.items ∙ ap (λ (k : ℕ). part (c.loop-alloc.at + 5) k c.args.span.now) size))

@@ -12,8 +12,7 @@ returns-clause-replaces g c =
       any_moment = λ honest.
           let now = prepares.keeps.honest.0 honest in
           both_moments _ _ _ _ _ _ prepares.prepared (prepares.ready.sound now).at_rest (prepares.log honest)
-          (prepares.any_moment honest)
-          (c.publish.ensures.any_moment now);
+          (prepares.any_moment honest) (c.publish.ensures.any_moment now);
       too_large = search rules;
       exhausted = search rules;
       unchanged = search rules;
@@ -26,5 +25,5 @@ returns-clause-replaces g c =
 pub returns-clause-rest : goal.returns-clause-rest
 returns-clause-rest g c honest =
     let prepares = c.in_ok-prepare_layout2.ensures.prepares in
-    beside_on _ _ _ _ _ _ (ap (λ v. (next_of v).slot) prepares.prepared) (prepares.rest honest)
+    beside_on (ap (λ v. (next_of v).slot) prepares.prepared) (prepares.rest honest)
     (c.publish.ensures.rest (prepares.keeps.honest.0 honest))

@@ -20,5 +20,5 @@ returns-clause-replaces g c = record {
 pub returns-clause-rest : goal.returns-clause-rest
 returns-clause-rest g c honest =
     let prepares = c.in_ok-prepare_owned.ensures.prepares in
-    beside_on _ _ _ _ _ _ (ap (λ v. (next_of v).slot) prepares.prepared) (prepares.rest honest)
+    beside_on (ap (λ v. (next_of v).slot) prepares.prepared) (prepares.rest honest)
     (c.publish.ensures.rest (prepares.keeps.honest.0 honest))

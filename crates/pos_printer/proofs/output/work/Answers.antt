@@ -23,21 +23,17 @@ fail-requires-clause-request g c =
 pub returns-in-Done-clause-worked : goal.returns-in-Done-clause-worked
 returns-in-Done-clause-worked g c =
     let asked = rw (c.in_ok-said.was, c.in-Done.is) at c.ask_for.ensures in
-    does _ c.in-Some.holder c.args.place c.complete.result
-    (controls_of c.args.controls.now) _ c.room_all.new.controls _ _ _
-    (sym c.holder.ensures ∙ c.in-Some.is)
-    (ap is_printer (sym c.kind.ensures.kind) ∙ sym c.is_printer.ensures ∙ c.if-not-is_printer.false)
-    (sym c.has_work.ensures.work ∙ c.if-not-has_work.false) c.room_all.ensures.same
-    _ _ _ asked c.signs-old.ensures c.signs.ensures c.hear_all.ensures.heard c.complete.ensures
+    does _ c.in-Some.holder c.args.place c.complete.result (controls_of c.args.controls.now) _ c.room_all.new.controls _
+    _ _ (sym c.holder.ensures ∙ c.in-Some.is) (ap is_printer (sym c.kind.ensures.kind) ∙ sym c.is_printer.ensures
+    ∙ c.if-not-is_printer.false) (sym c.has_work.ensures.work ∙ c.if-not-has_work.false) c.room_all.ensures.same _ _ _
+    asked c.signs-old.ensures c.signs.ensures c.hear_all.ensures.heard c.complete.ensures
 
 pub returns-in_default-2-clause-worked : goal.returns-in_default-2-clause-worked
 returns-in_default-2-clause-worked g c =
     let asked = rw c.in_ok-said.was at c.ask_for.ensures in
     let answer = rw (c.code.ensures, c.extended.ensures) at c.fail.ensures.said in
     let changed = rw (c.code.ensures, c.extended.ensures) at c.fail.ensures.failed in
-    fails _ c.in-Some.holder c.args.place c.fail.result
-    (controls_of c.args.controls.now) _ c.room_all.new.controls _ _ _
-    (sym c.holder.ensures ∙ c.in-Some.is)
-    (ap is_printer (sym c.kind.ensures.kind) ∙ sym c.is_printer.ensures ∙ c.if-not-is_printer.false)
-    (sym c.has_work.ensures.work ∙ c.if-not-has_work.false) c.room_all.ensures.same
+    fails _ c.in-Some.holder c.args.place c.fail.result (controls_of c.args.controls.now) _ c.room_all.new.controls _ _
+    _ (sym c.holder.ensures ∙ c.in-Some.is) (ap is_printer (sym c.kind.ensures.kind) ∙ sym c.is_printer.ensures
+    ∙ c.if-not-is_printer.false) (sym c.has_work.ensures.work ∙ c.if-not-has_work.false) c.room_all.ensures.same
     c.in_ok-said.said c.in_default-2.not-Done asked answer changed

@@ -30,6 +30,8 @@ loop-place-preserved c =
 
 pub returns : goal.returns
 returns c =
-    all_single (names_of c.args.entries.now) c.loop-place.place
-    (omega (arith, length-map c.args.entries.now (λ (e : Entry). e.name)))
-    c.loop-place.invariant.single
+    all_single (names_of c.args.entries.now) c.loop-place.place (omega (
+      arith,
+      length-map c.args.entries.now
+          (λ (e : Entry). e.name),
+    )) c.loop-place.invariant.single

@@ -1,4 +1,4 @@
-use Rattle.pos_profile.proofs.Common.{Entry, arith, contents_of, length-map, refl, table_view}
+use Rattle.pos_profile.proofs.Common.{Entry, arith, contents_of, length-map, refl}
 use Rattle.pos_profile.proofs.ListLemmas.{name_at, repeated_within}
 use Rattle.pos_profile.proofs.DocumentLemmas.{profile_sound}
 use Rattle.pos_profile.proofs.profile.from_table.Goals as goal
@@ -7,7 +7,7 @@ pub invariant_of-result : goal.invariant_of-result
 invariant_of-result c =
     let found = rw c.in-Ok-None.field-0-is at c.in-Ok-None.ensures in
     let single = rw c.deref.ensures.value at found in
-    profile_sound (table_view c.args.root.now) (contents_of c.in-Ok.lists) c.in-Ok.ensures single
+    profile_sound c.in-Ok.ensures single
 
 pub returns-in-Ok-Some : goal.returns-in-Ok-Some
 returns-in-Ok-Some c =

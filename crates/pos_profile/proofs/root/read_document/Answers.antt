@@ -8,14 +8,13 @@ returns-in-Err-Flawed-read_list c =
     let flawed = rw fault.field-0-is at fault.ensures in
     grind (
       arith,
-      device_mistaken (table_view c.args.root.now) c.in-Ok.ensures fault.flaw.place fault.flaw.reason
-          flawed,
+      device_mistaken (table_view c.args.root.now) c.in-Ok.ensures fault.flaw.place fault.flaw.reason flawed,
     )
 
 pub returns-in-Ok-read_list-2 : goal.returns-in-Ok-read_list-2
 returns-in-Ok-read_list-2 c =
     document_read (table_view c.args.root.now) c.in-Ok.ensures c.in-Ok-read_list.devices.items c.in-Ok-read_list.ensures
-    c.in-Ok-read_list-2.spares.items c.in-Ok-read_list-2.ensures
+    c.in-Ok-read_list-2.ensures
 
 pub returns-in-Err-Flawed-read_list-2 : goal.returns-in-Err-Flawed-read_list-2
 returns-in-Err-Flawed-read_list-2 c =
@@ -24,6 +23,5 @@ returns-in-Err-Flawed-read_list-2 c =
     grind (
       arith,
       spare_mistaken (table_view c.args.root.now) c.in-Ok.ensures c.in-Ok-read_list.devices.items
-          c.in-Ok-read_list.ensures c.len.result
-          fault.flaw.place fault.flaw.reason (omega arith) flawed,
+          c.in-Ok-read_list.ensures c.len.result fault.flaw.place fault.flaw.reason (omega arith) flawed,
     )

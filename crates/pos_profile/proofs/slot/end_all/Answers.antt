@@ -11,8 +11,7 @@ IsParked device = IfSome device.peripheral (λ state. state.is_parked ≡ true)
 
 -- the last of some slots is out of service, and so are those before it
 last_parked : {P : Type 0} (peripherals : Ghosts P) (all before : List (Slot P)) (last : Slot P)
-    → all ≡ before ++ last ∷ []
-    → AreParked (devices_of peripherals all)
+    → all ≡ before ++ last ∷ [] → AreParked (devices_of peripherals all)
     → AreParked (devices_of peripherals before) × IsParked (device_of peripherals last)
 last_parked peripherals all before last is parked =
     All-pop IsParked (devices_of peripherals all) (devices_of peripherals before) (Some (device_of peripherals last))

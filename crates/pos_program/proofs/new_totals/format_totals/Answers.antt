@@ -14,6 +14,5 @@ returns-in-Err g c =
     let after = c.in-Err.after in (
       after,
       leaves_unformatted c.args.totals after c.requires.new c.file_is_mirrored-in-Err.ensures.file
-          (c.in-Err.ensures.rest tt) c.in-Err.fault
-          (c.in-Err.ensures.refused tt),
+          (c.in-Err.ensures.rest tt) c.in-Err.fault (c.in-Err.ensures.refused tt),
     )

@@ -11,7 +11,6 @@ loop-index-preserved c =
     let name = c.in-Some.name.now in
     let text = (alone c.args.other.now.files) name in
     let before = all_alone (take i files) c.args.other.now.files in
-    c.in_ok-put_alone.ensures ∙ ap (λ t. t ++ text) c.loop-index.invariant
-    ∙ append_assoc c.args.text.now.items before text
-    ∙ ap (λ t. c.args.text.now.items ++ t)
-    (sym (one_name_more (alone c.args.other.now.files) files i name (slice_get files i) refl c.in-Some.ensures))
+    c.in_ok-put_alone.ensures ∙ ap (λ t. t ++ text) c.loop-index.invariant ∙ append_assoc c.args.text.now.items before
+    text ∙ ap (λ t. c.args.text.now.items ++ t) (sym (one_name_more (alone c.args.other.now.files) files i name
+    (slice_get files i) refl c.in-Some.ensures))

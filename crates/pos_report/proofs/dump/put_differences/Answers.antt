@@ -12,8 +12,6 @@ loop-index-preserved c =
     let bytes = c.in-Some-Some.bytes.now in
     let text = (difference c.args.other.now.files) name bytes in
     let before = differences (take i files) c.args.other.now.files in
-    c.in_ok-put_difference.ensures ∙ ap (λ t. t ++ text) c.loop-index.invariant
-    ∙ append_assoc c.args.text.now.items before text
-    ∙ ap (λ t. c.args.text.now.items ++ t)
-    (sym (one_text_more (difference c.args.other.now.files) files i name bytes
-    (slice_get files i) refl c.in-Some-Some.ensures c.in-Some-Some.ensures'))
+    c.in_ok-put_difference.ensures ∙ ap (λ t. t ++ text) c.loop-index.invariant ∙ append_assoc c.args.text.now.items
+    before text ∙ ap (λ t. c.args.text.now.items ++ t) (sym (one_text_more (difference c.args.other.now.files) files i
+    name bytes (slice_get files i) refl c.in-Some-Some.ensures c.in-Some-Some.ensures'))

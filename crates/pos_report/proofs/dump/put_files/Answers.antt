@@ -12,8 +12,6 @@ loop-index-preserved c =
     let bytes = c.in-Some-Some.bytes.now in
     let text = (dump_line) name bytes in
     let before = dump_lines (take i files) in
-    c.in_ok-put_file.ensures ∙ ap (λ t. t ++ text) c.loop-index.invariant
-    ∙ append_assoc c.args.text.now.items before text
-    ∙ ap (λ t. c.args.text.now.items ++ t)
-    (sym (one_text_more (dump_line) files i name bytes
-    (slice_get files i) refl c.in-Some-Some.ensures c.in-Some-Some.ensures'))
+    c.in_ok-put_file.ensures ∙ ap (λ t. t ++ text) c.loop-index.invariant ∙ append_assoc c.args.text.now.items before
+    text ∙ ap (λ t. c.args.text.now.items ++ t) (sym (one_text_more (dump_line) files i name bytes (slice_get files i)
+    refl c.in-Some-Some.ensures c.in-Some-Some.ensures'))

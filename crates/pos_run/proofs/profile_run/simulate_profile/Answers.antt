@@ -1,11 +1,9 @@
 use Rattle.pos_run.proofs.Common.{None, Some, [], ap, arith, length, machine, map, map-append, option_map}
 use Rattle.pos_run.proofs.Common.{simulated_all, simulated_for, subst, sym, take, take_all, ◌∙◌, ◌∷◌, ◌≡◌, ◌≤◌}
-use Rattle.pos_profile.specs.declared.entry.Role.TheVariants.{Device, Spare}
 use Rattle.pos_run.proofs.DeviceLemmas.{begins_partly, ends_whole, serves_more, skips}
 use Rattle.pos_run.proofs.ProfileLemmas.{all_serve, one_more, simulable, spares_more}
 use Rattle.pos_run.proofs.MountLemmas.{mounted_as, offered_mounted, spares_mounted, vacant_mounted}
 use Rattle.pos_run.specs.Simulations.{IsMountedFor}
-use Rattle.pos_counter.specs.KeptDevices.{slots_in}
 use Rattle.pos_run.proofs.profile_run.simulate_profile.Goals as goal
 
 pub loop-entry-init : goal.loop-entry-init
@@ -13,15 +11,13 @@ loop-entry-init g c = record {
   sound = c.in-Ok.ensures.sound;
   totals = c.in-Ok.ensures.begins.totals;
   served = λ part. c.in-Ok.ensures.begins.machine part ∙ begins_partly c.args.profile.now.devices part;
-  mounted = vacant_mounted g.M.Mount.mounts c.args.profile.now.devices g.P.Peripheral c.in-Ok.counter c.args.disk
-      c.in-Ok.ensures.begins;
+  mounted = vacant_mounted g.M.Mount.mounts c.args.profile.now.devices c.in-Ok.ensures.begins;
 }
 
 pub simulate_mounted-requires : goal.simulate_mounted-requires
 simulate_mounted-requires g c =
-    simulable Device c.args.profile.now.devices c.loop-entry.entry-index c.entry-item.result
-    c.is_profile.ensures.devices
-    (rw c.devices-entry-items.ensures at c.loop-entry-test.true) (rw c.devices-entry-items.ensures at c.entry-item.is)
+    simulable c.args.profile.now.devices c.is_profile.ensures.devices (rw c.devices-entry-items.ensures at
+    c.loop-entry-test.true) (rw c.devices-entry-items.ensures at c.entry-item.is)
 
 pub loop-entry-preserved-in_default-made : goal.loop-entry-preserved-in_default-made
 loop-entry-preserved-in_default-made g c =
@@ -31,9 +27,8 @@ loop-entry-preserved-in_default-made g c =
     record {
       sound = c.loop-entry.invariant.sound;
       totals = c.loop-entry.invariant.totals;
-      served = λ part. c.loop-entry.invariant.served part
-          ∙ skips c.args.profile.now.devices c.loop-entry.entry-index entry
-          (rw c.devices-entry-items.ensures at c.loop-entry-test.true)
+      served = λ part. c.loop-entry.invariant.served part ∙ skips c.args.profile.now.devices c.loop-entry.entry-index
+          entry (rw c.devices-entry-items.ensures at c.loop-entry-test.true)
           (rw c.devices-entry-items.ensures at c.entry-item.is) part none;
       mounted = c.loop-entry.invariant.mounted;
     }
@@ -58,21 +53,15 @@ loop-entry-preserved g c =
           (machine g.P.Peripheral c.offer.new.counter part) state step.0 some
           (c.is_profile.ensures.names c.loop-entry.entry-index)
           (c.loop-entry.invariant.served part) (rw c.as_bytes.ensures at (step.1.step part));
-      mounted = offered_mounted mounts entries (slots_in c.loop-entry.counter.devices)
-          (slots_in c.offer.new.counter.devices) c.as_bytes.result.now
-          c.in-Some.peripheral c.offer.ensures.puts
-          (mounted_as mounts entries c.loop-entry.entry-index entry c.as_bytes.result.now c.in-Some.peripheral
-          (rw c.devices-entry-items.ensures at c.loop-entry-test.true)
-          (rw c.devices-entry-items.ensures at c.entry-item.is) c.as_bytes.ensures there)
-          c.loop-entry.invariant.mounted;
+      mounted = offered_mounted mounts entries c.offer.ensures.puts (mounted_as mounts entries
+          (rw c.devices-entry-items.ensures at c.loop-entry-test.true) (rw c.devices-entry-items.ensures at
+          c.entry-item.is) c.as_bytes.ensures there) c.loop-entry.invariant.mounted;
     }
 
 pub simulate_mounted-requires-in-loop-entry-2 : goal.simulate_mounted-requires-in-loop-entry-2
 simulate_mounted-requires-in-loop-entry-2 g c =
-    simulable Spare c.args.profile.now.spares c.loop-entry-2.entry-index c.entry-item-in-loop-entry-2.result
-    c.is_profile.ensures.spares
-    (rw c.spares-entry-items.ensures at c.loop-entry-2-test.true)
-    (rw c.spares-entry-items.ensures at c.entry-item-in-loop-entry-2.is)
+    simulable c.args.profile.now.spares c.is_profile.ensures.spares (rw c.spares-entry-items.ensures at
+    c.loop-entry-2-test.true) (rw c.spares-entry-items.ensures at c.entry-item-in-loop-entry-2.is)
 
 pub loop-entry-2-preserved : goal.loop-entry-2-preserved
 loop-entry-2-preserved g c =
@@ -88,14 +77,12 @@ loop-entry-2-preserved g c =
         c.push_reserved.ensures.items,
         one_more spares i entry (rw c.spares-entry-items.ensures at c.loop-entry-2-test.true)
             (rw c.spares-entry-items.ensures at c.entry-item-in-loop-entry-2.is),
-      )
-          (spares_mounted mounts (take i spares) front entry made c.loop-entry-2.invariant.mounted
+      ) (spares_mounted mounts (take i spares) front entry made c.loop-entry-2.invariant.mounted
           c.in-Ok-simulate_mounted-2.ensures.mounted);
       states = rw (c.push_reserved.ensures.items, map-append state front (made ∷ []))
-          (spares_more c.args.profile.now.spares c.loop-entry-2.entry-index
-          c.entry-item-in-loop-entry-2.result (rw c.spares-entry-items.ensures at c.loop-entry-2-test.true)
-          (rw c.spares-entry-items.ensures at c.entry-item-in-loop-entry-2.is) (map state front)
-          (state made) c.loop-entry-2.invariant.states
+          (spares_more c.args.profile.now.spares c.loop-entry-2.entry-index c.entry-item-in-loop-entry-2.result
+          (rw c.spares-entry-items.ensures at c.loop-entry-2-test.true) (rw c.spares-entry-items.ensures at
+          c.entry-item-in-loop-entry-2.is) (map state front) (state made) c.loop-entry-2.invariant.states
           c.in-Ok-simulate_mounted-2.ensures.state);
       count = omega (arith, c.push_reserved.ensures.len, c.loop-entry-2.invariant.count);
       room = omega (arith, c.push_reserved.ensures.capacity, c.loop-entry-2.invariant.room);
@@ -119,7 +106,7 @@ returns-clause-made g c =
     let every : length profile.spares ≤ j =
     subst (λ xs. length xs ≤ j) c.spares-entry-items.ensures (omega (arith, c.loop-entry-2-test.false)) in
     record {
-      served = λ part. c.loop-entry.invariant.served part ∙ ends_whole profile.devices i part all;
+      served = λ part. c.loop-entry.invariant.served part ∙ ends_whole profile.devices part all;
       totals = c.loop-entry.invariant.totals;
       left = c.new-3.ensures.spares ∙ c.loop-entry-2.invariant.states
           ∙ ap simulated_all (take_all j profile.spares every);

@@ -26,9 +26,8 @@ returns-clause-script g c =
     c.run_named.new.writer in
     let left = session_with (names_of c.run_named.new.names) (spares_in g.P.Peripheral c.run_named.new.spares) in
     let script : RunsScript Runs old session streams result left new =
-    subst (λ names. RunsScript Runs old
-    (session_with names (spares_in g.P.Peripheral c.args.spares.now)) streams result left new)
-    c.new-names.ensures c.run_named.ensures.script in
+    subst (λ names. RunsScript Runs old (session_with names (spares_in g.P.Peripheral c.args.spares.now)) streams result
+    left new) c.new-names.ensures c.run_named.ensures.script in
     let run = carried_run Runs (λ counter. refl) (runs_join g.D.Disk g.P.Peripheral) old session
     (lines_read streams.reader_after.state script.input)
     streams.writer streams.writer_after result left new script.run in (

@@ -25,6 +25,8 @@ returns-in-Words-clause-line g c = λ bytes is.
     let line = c.run_words.ensures.line in
     let carried = line.carried in
     let session = session_in g.P.Peripheral c.args.session.now in
-    one_line session refl bytes (Some line.reply) _ _ _ _ _
-    (record { steps = carried.steps; run = carried.run; becomes = rw (loud, spelled, ← same) carried.becomes })
-    line.written
+    one_line session refl bytes (Some line.reply) _ _ _ _ _ (record {
+      steps = carried.steps;
+      run = carried.run;
+      becomes = rw (loud, spelled, ← same) carried.becomes;
+    }) line.written

@@ -7,7 +7,7 @@ use Rattle.pos_run.proofs.scripts.run_piece.Goals as goal
 
 pub loop-ended-init : goal.loop-ended-init
 loop-ended-init g c = (
-  keeps_here g.P.Peripheral c.args.session.now c.requires.sound,
+  keeps_here c.requires.sound,
   λ read stands. ([], [], refl, simp append-nil, finishes_none refl _, rw append-nil stands),
 )
 
@@ -43,8 +43,7 @@ returns-in_default-run_and_print-clause-piece g c = λ read stands.
         go_on_lines ((read ++ seen) ++ taken) c.in-Some.rest.now,
         ends,
         are,
-      )
-          (simp append_assoc),
+      ) (simp append_assoc),
       stops_more more (stops_join (runs_join g.D.Disk g.P.Peripheral) done
           (c.in_default-run_and_print.ensures.line line (c.ended_line-line.ensures line is))),
       tt,

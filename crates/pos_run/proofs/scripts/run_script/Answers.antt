@@ -7,7 +7,7 @@ use Rattle.pos_run.proofs.scripts.run_script.Goals as goal
 
 pub loop-reader-init : goal.loop-reader-init
 loop-reader-init g c = (
-  keeps_here g.P.Peripheral c.args.session.now c.requires.sound,
+  keeps_here c.requires.sound,
   [],
   taken_none _,
   c.requires.empty,
@@ -35,7 +35,7 @@ returns-in_default-read-clause-script g c =
     let reads = c.in_default-read.ensures in
     record {
       input = input;
-      reader = fails first old new input c.read.new.buffer took fault _ refl failed reads;
+      reader = fails first old new input c.read.new.buffer took _ refl failed reads;
       run = (
         rw (same_lines first old new input c.read.new.buffer took fault _ refl reads same)
             (finishes_flushed done c.in-Ok.ensures.given),
@@ -47,8 +47,7 @@ pub returns-in-Ok-run_end-clause-script : goal.returns-in-Ok-run_end-clause-scri
 returns-in-Ok-run_end-clause-script g c =
     let (keeps, input, took, stands, same, failed, done) = c.loop-reader.invariant in
     let end = ends (reading_of g.R.Source c.args.reader.now) (reading_of g.R.Source c.loop-reader.reader)
-    (reading_of g.R.Source c.read.new.self) input
-    c.read.new.buffer took c.in-Ok-read.count c.if-count-eq0.true c.in-Ok-read.ensures in
+    (reading_of g.R.Source c.read.new.self) input c.read.new.buffer took c.if-count-eq0.true c.in-Ok-read.ensures in
     let (lines, are, rest) = c.in-Ok-run_end.ensures.end input stands in
     record {
       input = input;
@@ -64,8 +63,7 @@ pub returns-in-Err-clause-script : goal.returns-in-Err-clause-script
 returns-in-Err-clause-script g c =
     let (keeps, input, took, stands, same, failed, done) = c.loop-reader.invariant in
     let end = ends (reading_of g.R.Source c.args.reader.now) (reading_of g.R.Source c.loop-reader.reader)
-    (reading_of g.R.Source c.read.new.self) input
-    c.read.new.buffer took c.in-Ok-read.count c.if-count-eq0.true c.in-Ok-read.ensures in
+    (reading_of g.R.Source c.read.new.self) input c.read.new.buffer took c.if-count-eq0.true c.in-Ok-read.ensures in
     let (lines, are, wrong) = c.in-Err.ensures.end input stands in
     record {
       input = input;

@@ -1,8 +1,8 @@
-use Rattle.std.proofs.Common.{All, Global, List, Vec, arith, drop, refl, ℕ}
+use Rattle.std.proofs.Common.{All, Global, List, Vec, arith, refl, ℕ}
 use Rattle.std.proofs.lemmas.List.Elements.{All-tail}
 use Rattle.pos_drive.specs.declared.courses.Progress.{Progress}
 use Rattle.pos_script.specs.Lines.{lines_of}
-use Rattle.pos_run.proofs.Common.{Err, Ok, ap, session_of, subst, sym, true, ◌∙◌, ◌≡◌}
+use Rattle.pos_run.proofs.Common.{Ok, ap, session_of, subst, sym, true, ◌∙◌, ◌≡◌}
 use Rattle.pos_run.proofs.WaitingLemmas.{carries_held, carries_line, carries_none, carries_stay, cuts_off, first_of}
 use Rattle.pos_run.proofs.WaitingLemmas.{leaves_as, none_left}
 use Rattle.pos_run.specs.WaitingLines.{CarriesOn, IsOneLine, IsReady, is_out}
@@ -11,17 +11,15 @@ use Rattle.pos_run.proofs.waiting_lines.carry_on.Goals as goal
 
 pub returns-then-is_out-clause-carried : goal.returns-then-is_out-clause-carried
 returns-then-is_out-clause-carried g c = (
-  carries_none g.D.Disk g.P.Peripheral c.args.counter.now
-      (session_of g.P.Peripheral c.args.names.now c.args.spares.now) c.args.lines.now.items
-      (g.W.Sink.given c.args.writer.now),
+  carries_none g.D.Disk g.P.Peripheral c.args.counter.now (session_of g.P.Peripheral c.args.names.now c.args.spares.now)
+      c.args.lines.now.items (g.W.Sink.given c.args.writer.now),
   subst (λ (p : Progress). is_out p ≡ true) c.progress.ensures (sym c.is_out.ensures ∙ c.if-is_out.true),
 )
 
 pub loop-line-init : goal.loop-line-init
 loop-line-init g c = record {
-  carries = carries_none g.D.Disk g.P.Peripheral c.args.counter.now
-      (session_of g.P.Peripheral c.args.names.now c.args.spares.now) c.args.lines.now.items
-      (g.W.Sink.given c.args.writer.now);
+  carries = carries_none g.D.Disk g.P.Peripheral c.args.counter.now (session_of g.P.Peripheral c.args.names.now
+      c.args.spares.now) c.args.lines.now.items (g.W.Sink.given c.args.writer.now);
   lines = c.requires.lines;
   sound = c.requires.sound;
   spares = c.requires.spares;
@@ -35,24 +33,19 @@ loop-line-preserved-in-Ok-Printed g c =
     let before = g.W.Sink.given c.loop-line.writer in
     let after = g.W.Sink.given c.run_settled.new.writer in
     let rest = c.pop_front.new.self.items in
-    let split = first_of c.loop-line.lines.items rest c.in-Some.line.now
+    let split = first_of c.loop-line.lines.items
     (grind (arith, c.in-Some.ensures.variant)) c.in-Some.ensures.lookup c.pop_front.ensures.rest in
     let lines = subst (All IsOneLine) split c.loop-line.invariant.lines in
     let (line, is) = lines 0 c.in-Some.line.now (omega arith) in
     let told : c.run_settled.result ≡ Ok held.Printed = grind (arith, c.in-Ok-Printed.is, c.in-Ok-Printed.field-0-is) in
     let (tells, ready) = leaves_as g.D.Disk g.P.Peripheral g.P.Awaits.course IsReady c.loop-line.counter
-    c.run_settled.new.counter old new line before after
-    c.run_settled.result (Ok held.Printed) told
+    c.run_settled.new.counter old new line before after told
     (c.run_settled.ensures.line line (ap lines_of c.as_slice.ensures.value ∙ is)) in
     record {
-      carries = carries_line g.D.Disk g.P.Peripheral c.args.counter.now c.loop-line.counter c.run_settled.new.counter
-          first old new c.args.lines.now.items
-          (g.W.Sink.given c.args.writer.now) before after c.in-Some.line.now rest line is
-          (subst (λ (xs : List (Vec ℕ Global)).
-          CarriesOn g.D.Disk g.P.Peripheral c.args.counter.now first c.args.lines.now.items xs
-          (g.W.Sink.given c.args.writer.now) before
-          c.loop-line.counter old) split c.loop-line.invariant.carries)
-          tells;
+      carries = carries_line g.D.Disk g.P.Peripheral c.args.counter.now c.loop-line.counter first new
+          (g.W.Sink.given c.args.writer.now) after is (subst (λ (xs : List (Vec ℕ Global)). CarriesOn g.D.Disk
+          g.P.Peripheral c.args.counter.now first c.args.lines.now.items xs (g.W.Sink.given c.args.writer.now) before
+          c.loop-line.counter old) split c.loop-line.invariant.carries) tells;
       lines = All-tail IsOneLine c.in-Some.line.now rest lines;
       sound = c.run_settled.ensures.sound;
       spares = c.run_settled.ensures.spares;
@@ -65,17 +58,15 @@ returns-in-Ok-Waits-clause-carried g c =
     let new = session_of g.P.Peripheral c.run_settled.new.names c.run_settled.new.spares in
     let before = g.W.Sink.given c.loop-line.writer in
     let after = g.W.Sink.given c.run_settled.new.writer in
-    let split = first_of c.loop-line.lines.items (drop 1 c.loop-line.lines.items) c.in-Some.line.now
+    let split = first_of c.loop-line.lines.items
     (grind (arith, c.in-Some.ensures.variant)) c.in-Some.ensures.lookup refl in
     let (line, is) = subst (All IsOneLine) split c.loop-line.invariant.lines 0 c.in-Some.line.now (omega arith) in
     let waits : c.run_settled.result ≡ Ok held.Waits = grind (arith, c.in-Ok-Waits.is, c.in-Ok-Waits.field-0-is) in
     let (holds, out) = leaves_as g.D.Disk g.P.Peripheral g.P.Awaits.course IsReady c.loop-line.counter
-    c.run_settled.new.counter old new line before after
-    c.run_settled.result (Ok held.Waits) waits
+    c.run_settled.new.counter old new line before after waits
     (c.run_settled.ensures.line line (ap lines_of c.as_slice.ensures.value ∙ is)) in (
-      carries_held g.D.Disk g.P.Peripheral c.args.counter.now c.loop-line.counter c.run_settled.new.counter first old
-          new c.args.lines.now.items
-          (g.W.Sink.given c.args.writer.now) before after c.loop-line.lines.items c.loop-line.invariant.carries holds,
+      carries_held g.D.Disk g.P.Peripheral c.args.counter.now c.loop-line.counter first new
+          (g.W.Sink.given c.args.writer.now) after c.loop-line.invariant.carries holds,
       out,
     )
 
@@ -86,18 +77,16 @@ returns-in-Ok-NoMemory-clause-carried g c =
     let new = session_of g.P.Peripheral c.run_settled.new.names c.run_settled.new.spares in
     let before = g.W.Sink.given c.loop-line.writer in
     let after = g.W.Sink.given c.run_settled.new.writer in
-    let split = first_of c.loop-line.lines.items (drop 1 c.loop-line.lines.items) c.in-Some.line.now
+    let split = first_of c.loop-line.lines.items
     (grind (arith, c.in-Some.ensures.variant)) c.in-Some.ensures.lookup refl in
     let (line, is) = subst (All IsOneLine) split c.loop-line.invariant.lines 0 c.in-Some.line.now (omega arith) in
     let wants : c.run_settled.result ≡ Ok held.NoMemory =
     grind (arith, c.in-Ok-NoMemory.is, c.in-Ok-NoMemory.field-0-is) in
     let (holds, reported) = leaves_as g.D.Disk g.P.Peripheral g.P.Awaits.course IsReady c.loop-line.counter
-    c.run_settled.new.counter old new line before after
-    c.run_settled.result (Ok held.NoMemory) wants
+    c.run_settled.new.counter old new line before after wants
     (c.run_settled.ensures.line line (ap lines_of c.as_slice.ensures.value ∙ is)) in (
-      carries_held g.D.Disk g.P.Peripheral c.args.counter.now c.loop-line.counter c.run_settled.new.counter first old
-          new c.args.lines.now.items
-          (g.W.Sink.given c.args.writer.now) before after c.loop-line.lines.items c.loop-line.invariant.carries holds,
+      carries_held g.D.Disk g.P.Peripheral c.args.counter.now c.loop-line.counter first new
+          (g.W.Sink.given c.args.writer.now) after c.loop-line.invariant.carries holds,
       reported,
     )
 
@@ -108,39 +97,29 @@ returns-in-Err-clause-carried g c =
     let new = session_of g.P.Peripheral c.run_settled.new.names c.run_settled.new.spares in
     let before = g.W.Sink.given c.loop-line.writer in
     let after = g.W.Sink.given c.run_settled.new.writer in
-    let rest = c.pop_front-in-Err.new.self.items in
-    let split = first_of c.loop-line.lines.items rest c.in-Some.line.now
+    let split = first_of c.loop-line.lines.items
     (grind (arith, c.in-Some.ensures.variant)) c.in-Some.ensures.lookup c.pop_front-in-Err.ensures.rest in
     let (line, is) = subst (All IsOneLine) split c.loop-line.invariant.lines 0 c.in-Some.line.now (omega arith) in
     let (cuts, ready) = leaves_as g.D.Disk g.P.Peripheral g.P.Awaits.course IsReady c.loop-line.counter
-    c.run_settled.new.counter old new line before after
-    c.run_settled.result (Err c.in-Err.field-0) c.in-Err.is
+    c.run_settled.new.counter old new line before after c.in-Err.is
     (c.run_settled.ensures.line line (ap lines_of c.as_slice.ensures.value ∙ is)) in (
-      cuts_off g.D.Disk g.P.Peripheral c.args.counter.now c.loop-line.counter c.run_settled.new.counter first old new
-          c.args.lines.now.items
-          (g.W.Sink.given c.args.writer.now) before after c.in-Some.line.now rest line is
-          (subst (λ (xs : List (Vec ℕ Global)).
-          CarriesOn g.D.Disk g.P.Peripheral c.args.counter.now first c.args.lines.now.items xs
-          (g.W.Sink.given c.args.writer.now) before
-          c.loop-line.counter old) split c.loop-line.invariant.carries)
-          cuts,
+      cuts_off g.D.Disk g.P.Peripheral c.args.counter.now c.loop-line.counter first new
+          (g.W.Sink.given c.args.writer.now) after is (subst (λ (xs : List (Vec ℕ Global)). CarriesOn g.D.Disk
+          g.P.Peripheral c.args.counter.now first c.args.lines.now.items xs (g.W.Sink.given c.args.writer.now) before
+          c.loop-line.counter old) split c.loop-line.invariant.carries) cuts,
       ready,
     )
 
 pub returns-in-Err-clause-lines : goal.returns-in-Err-clause-lines
 returns-in-Err-clause-lines g c =
     let rest = c.pop_front-in-Err.new.self.items in
-    let split = first_of c.loop-line.lines.items rest c.in-Some.line.now
+    let split = first_of c.loop-line.lines.items
     (grind (arith, c.in-Some.ensures.variant)) c.in-Some.ensures.lookup c.pop_front-in-Err.ensures.rest in
     All-tail IsOneLine c.in-Some.line.now rest (subst (All IsOneLine) split c.loop-line.invariant.lines)
 
 pub returns-clause-carried : goal.returns-clause-carried
 returns-clause-carried g c = (
-  carries_stay g.D.Disk g.P.Peripheral c.args.counter.now c.loop-line.counter c.settle.new.self
-      (session_of g.P.Peripheral c.args.names.now c.args.spares.now)
-      (session_of g.P.Peripheral c.loop-line.names c.loop-line.spares) c.args.lines.now.items c.loop-line.lines.items
-      (g.W.Sink.given c.args.writer.now)
-      (g.W.Sink.given c.loop-line.writer) c.loop-line.invariant.carries c.settle.ensures.stays,
+  carries_stay g.D.Disk g.P.Peripheral c.loop-line.invariant.carries c.settle.ensures.stays,
   (
     none_left c.loop-line.lines.items (λ some. c.in_default.ensures.variant.1 (grind (arith, some))),
     c.settle.ensures.progress,

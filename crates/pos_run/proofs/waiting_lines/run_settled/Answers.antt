@@ -12,20 +12,11 @@ returns-in-Ok-Printed-clause-line g c line_in one =
     let before = g.W.Sink.given c.args.writer.now in
     let after = g.W.Sink.given c.run_held.new.writer in
     let told : c.run_held.result ≡ Ok held.Printed = grind (arith, c.in-Ok-Printed.is, c.in-Ok-Printed.field-0-is) in
-    tells_settled g.D.Disk g.P.Peripheral c.args.counter.now c.run_held.new.counter c.settle.new.self old new line_in
-    before after
-    (progress_in g.P.Awaits.course c.settle.new.self) (IsNotHeld (progress_in g.P.Awaits.course c.run_held.new.counter))
+    tells_settled g.D.Disk g.P.Peripheral (IsNotHeld (progress_in g.P.Awaits.course c.run_held.new.counter))
     (leaves_as g.D.Disk g.P.Peripheral g.P.Awaits.course IsNotHeld c.args.counter.now c.run_held.new.counter old new
-    line_in before after c.run_held.result
-    (Ok held.Printed) told (c.run_held.ensures.line line_in one))
-    c.settle.ensures.stays c.settle.ensures.progress
+    line_in before after told (c.run_held.ensures.line line_in one)) c.settle.ensures.stays c.settle.ensures.progress
 
 pub returns-in-Err-clause-line : goal.returns-in-Err-clause-line
 returns-in-Err-clause-line g c line_in one =
-    cuts_settled g.D.Disk g.P.Peripheral c.args.counter.now c.run_held.new.counter c.settle-in-Err.new.self
-    (session_of g.P.Peripheral c.args.names.now c.args.spares.now)
-    (session_of g.P.Peripheral c.run_held.new.names c.run_held.new.spares) line_in (g.W.Sink.given c.args.writer.now)
-    (g.W.Sink.given c.run_held.new.writer)
-    (progress_in g.P.Awaits.course c.settle-in-Err.new.self)
-    (IsNotHeld (progress_in g.P.Awaits.course c.run_held.new.counter)) (c.in-Err.ensures.line line_in one)
-    c.settle-in-Err.ensures.stays c.settle-in-Err.ensures.progress
+    cuts_settled g.D.Disk g.P.Peripheral (IsNotHeld (progress_in g.P.Awaits.course c.run_held.new.counter))
+    (c.in-Err.ensures.line line_in one) c.settle-in-Err.ensures.stays c.settle-in-Err.ensures.progress

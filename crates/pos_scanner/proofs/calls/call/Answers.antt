@@ -22,9 +22,8 @@ returns-in-Ok-clause-orders g c =
 pub returns-in-Err-clause-called : goal.returns-in-Err-clause-called
 returns-in-Err-clause-called g c =
     refused_call category.Scanner c.args.caller c.args.claims.now c.args.call.now _ _ (λ control. [])
-    (λ control. scanner_action c.args.call.now)
-    (given_at c.args.controls.now c.args.caller c.index-controls-caller.result c.requires.caller) _ _
-    (c.in-Err.ensures [])
+    (λ control. scanner_action c.args.call.now) (given_at c.args.controls.now c.args.caller
+    c.index-controls-caller.result c.requires.caller) _ _ (c.in-Err.ensures [])
 
 pub returns-in-Err-clause-orders : goal.returns-in-Err-clause-orders
 returns-in-Err-clause-orders g c =

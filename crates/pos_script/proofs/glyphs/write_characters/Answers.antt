@@ -7,11 +7,9 @@ use Rattle.pos_script.proofs.glyphs.write_characters.Goals as goal
 pub returns-in_err-write_hex : goal.returns-in_err-write_hex
 returns-in_err-write_hex g c =
     let character = g.G.Glyph.character in
-    rw (← hex_of_glyphs character c.args.glyphs.now)
-    (failed_part _ _ _ _ (λ glyph. encode_lower (character glyph ∷ [])) c.args.glyphs.now c.loop-glyph.glyph-index _ _ _
-    c.from_residual.ensures.1
-    c.loop-glyph-test.true (ap (λ n. encode_lower (n ∷ [])) (c.character.ensures ∙ ap character c.glyph-item.is))
-    c.loop-glyph.invariant c.in_err-write_hex.ensures)
+    rw (← hex_of_glyphs character c.args.glyphs.now) (failed_part _ _ _ _ (λ glyph. encode_lower (character glyph ∷ []))
+    c.args.glyphs.now _ _ c.from_residual.ensures.1 c.loop-glyph-test.true (ap (λ n. encode_lower (n ∷ []))
+    (c.character.ensures ∙ ap character c.glyph-item.is)) c.loop-glyph.invariant c.in_err-write_hex.ensures)
 
 pub returns : goal.returns
 returns g c = rw (

@@ -11,14 +11,13 @@ some_bytes [] e = cc
 some_bytes (b ∷ bs) e = refl
 
 pub returns-in_err-write_parts : goal.returns-in_err-write_parts
-returns-in_err-write_parts g c = failed_front _ _ _ _ _ _ c.from_residual.ensures.1 c.in_err-write_parts.ensures
+returns-in_err-write_parts g c = failed_front _ _ _ _ c.from_residual.ensures.1 c.in_err-write_parts.ensures
 
 pub returns-in_err-write_hex : goal.returns-in_err-write_hex
 returns-in_err-write_hex g c =
-    rw (some_bytes c.args.bytes.now c.if-is_empty.ensures)
-    (failed_between _ _ _ _ _ _ _ _ c.from_residual-in_err-write_hex.ensures.1 c.in_ok-write_parts.ensures
-    c.in_err-write_hex.ensures)
+    rw (some_bytes c.args.bytes.now c.if-is_empty.ensures) (failed_between _ _ _ _ _
+    c.from_residual-in_err-write_hex.ensures.1 c.in_ok-write_parts.ensures c.in_err-write_hex.ensures)
 
 pub returns : goal.returns
 returns g c = rw (some_bytes c.args.bytes.now c.if-is_empty.ensures)
-    (behind_two _ _ _ _ _ _ _ _ c.in_ok-write_parts.ensures c.in_ok-write_hex.ensures c.write_parts-3.ensures)
+    (behind_two _ _ _ _ _ _ c.in_ok-write_parts.ensures c.in_ok-write_hex.ensures c.write_parts-3.ensures)

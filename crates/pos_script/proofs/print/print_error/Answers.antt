@@ -12,8 +12,7 @@ returns g c =
       ← c.format-code.ensures.text,
       ← c.format-extended.ensures.text,
       ← c.format-locus.ensures.text,
-    )
-    (rw (
+    ) (rw (
       append_assoc (a ++ codes " " ++ b ++ codes " ") c.format-locus.result.now (10 ∷ []),
       append_assoc (a ++ codes " " ++ b) (codes " "),
       append_assoc (a ++ codes " ") b,

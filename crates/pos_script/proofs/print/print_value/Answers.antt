@@ -9,9 +9,7 @@ returns-in-Pair g c =
     let first : to_z w128 (of_z w128 c.in-Pair.first) ≡ c.in-Pair.first = search rules in
     let second : to_z w128 (of_z w128 c.in-Pair.second) ≡ c.in-Pair.second = search rules in
     let number = signed_decimal c.in-Pair.first in
-    rw c.in-Pair.is
-    (rw (
+    rw c.in-Pair.is (rw (
       append_assoc (number ++ codes " ") (signed_decimal c.in-Pair.second) (10 ∷ []),
       append_assoc number (codes " "),
-    )
-    (rw (first, second) at c.print_pair.ensures))
+    ) (rw (first, second) at c.print_pair.ensures))

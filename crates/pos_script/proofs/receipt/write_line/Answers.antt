@@ -12,8 +12,7 @@ pub returns-in_err-write_parts : goal.returns-in_err-write_parts
 returns-in_err-write_parts g c =
     let letter = c.letter_of.result.now in
     rw (← c.letter_of.ensures, item_line letter (codes ":") (printed_text c.args.characters.now))
-    (failed_front _ _ _ (codes " " ++ (letter ++ (codes ":" ++ []))) _ _ c.from_residual.ensures.1
-    c.in_err-write_parts.ensures)
+    (failed_front _ _ _ _ c.from_residual.ensures.1 c.in_err-write_parts.ensures)
 
 pub returns : goal.returns
 returns g c =

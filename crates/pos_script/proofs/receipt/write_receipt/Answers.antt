@@ -20,8 +20,7 @@ returns-in_err-write_parts g c =
       ← c.lines_left.ensures,
       ← c.format-left.ensures.text,
       line,
-    )
-    (failed_front _ _ _ _ _ _ c.from_residual.ensures.1 c.in_err-write_parts.ensures)
+    ) (failed_front _ _ _ _ c.from_residual.ensures.1 c.in_err-write_parts.ensures)
 
 pub returns-in_err-write_printed : goal.returns-in_err-write_printed
 returns-in_err-write_printed g c =
@@ -33,8 +32,7 @@ returns-in_err-write_printed g c =
       ← c.lines_left.ensures,
       ← c.format-left.ensures.text,
       line,
-    )
-    (failed_between _ _ _ _ _ _ _ _ c.from_residual-in_err-write_printed.ensures.1 c.in_ok-write_parts.ensures
+    ) (failed_between _ _ _ _ _ c.from_residual-in_err-write_printed.ensures.1 c.in_ok-write_parts.ensures
     (rw (c.line_buffer.ensures ∙ c.printed.ensures.buffer) at c.in_err-write_printed.ensures))
 
 pub returns : goal.returns
@@ -47,7 +45,5 @@ returns g c =
       ← c.lines_left.ensures,
       ← c.format-left.ensures.text,
       line,
-    )
-    (behind_two _ _ _ _ _ _ _ _ c.in_ok-write_parts.ensures
-    (rw (c.line_buffer.ensures ∙ c.printed.ensures.buffer) at c.in_ok-write_printed.ensures)
-    (rw c.printed.ensures.items at c.write_items.ensures))
+    ) (behind_two _ _ _ _ _ _ c.in_ok-write_parts.ensures (rw (c.line_buffer.ensures ∙ c.printed.ensures.buffer) at
+    c.in_ok-write_printed.ensures) (rw c.printed.ensures.items at c.write_items.ensures))

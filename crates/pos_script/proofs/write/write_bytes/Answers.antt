@@ -8,7 +8,6 @@ pub returns : goal.returns
 returns g c =
     let bytes = c.args.bytes.now in
     let n = c.in-Ok.count in
-    subst (λ (text : List ℕ). Writes (g.W.Sink.given c.args.writer.now)
-    (g.W.Sink.given c.write_rest.new.writer) text c.write_rest.result)
-    (ap (λ rest. take n bytes ++ rest) (take_rest bytes n) ∙ take-append-drop n bytes)
+    subst (λ (text : List ℕ). Writes (g.W.Sink.given c.args.writer.now) (g.W.Sink.given c.write_rest.new.writer) text
+    c.write_rest.result) (ap (λ rest. take n bytes ++ rest) (take_rest bytes n) ∙ take-append-drop n bytes)
     (behind _ _ _ _ _ _ c.in-Ok.ensures.2 c.write_rest.ensures)

@@ -18,7 +18,7 @@ returns-in_err-write_hex_chunk g c =
     let text : encode_lower c.args.bytes.now ≡ encode_lower done ++ (encode_lower chunk ++ encode_lower left) =
     ap encode_lower (split ∙ ap (λ xs. done ++ xs) rest) ∙ encodes_on done (chunk ++ left)
     ∙ ap (λ xs. encode_lower done ++ xs) (encodes_on chunk left) in
-    rw text (failed_between _ _ _ _ _ _ _ _ c.from_residual.ensures.1 appended c.in_err-write_hex_chunk.ensures)
+    rw text (failed_between _ _ _ _ _ c.from_residual.ensures.1 appended c.in_err-write_hex_chunk.ensures)
 
 pub loop-rest-preserved : goal.loop-rest-preserved
 loop-rest-preserved g c =

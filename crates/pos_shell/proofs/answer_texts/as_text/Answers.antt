@@ -6,4 +6,4 @@ pub returns-in-Ok : goal.returns-in-Ok
 returns-in-Ok c = let (same, valid) = c.in-Ok.ensures.cases in (is_utf8-from_IsUtf8 c.args.bytes.now valid, same)
 
 pub returns-in-Err : goal.returns-in-Err
-returns-in-Err c = not_text c.args.bytes.now c.in-Err.ensures.cases.0
+returns-in-Err c = not_text c.in-Err.ensures.cases.0

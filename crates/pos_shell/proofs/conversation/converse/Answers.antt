@@ -31,10 +31,9 @@ loop-turn-preserved g c =
     let (last, ran, told) = c.exchange-told.ensures.told in
     let new = streams_of g.R.Source c.exchange-told.new.reader g.W.Sink c.exchange-told.new.writer in
     let left = session_of g.P.Peripheral c.exchange-told.new.names c.exchange-told.new.spares in
-    let one = subst (λ (told : Result Next ScriptsFault).
-    PrintsExchange c.args.style.now middle last between new told left)
-    (c.in-Ok-Asked.is ∙ ap (λ (next : Next). Ok next) (rw c.in-Ok-Asked.is at c.in-Ok-Asked.field-0-is)) told in
-    let (turn, more) = answers_more c.args.style.now turns session middle left first last _ between new done one in (
+    let one = subst (λ (told : Result Next ScriptsFault). PrintsExchange c.args.style.now middle last between new told
+    left) (c.in-Ok-Asked.is ∙ ap (λ (next : Next). Ok next) (rw c.in-Ok-Asked.is at c.in-Ok-Asked.field-0-is)) told in
+    let (turn, more) = answers_more turns session middle left first last _ done one in (
       c.exchange-told.ensures.sound,
       c.exchange-told.ensures.spares,
       first ++ last,
@@ -53,9 +52,8 @@ returns-in-Ok-Ended-clause-told g c =
     let (last, ran, told) = c.exchange-told.ensures.told in
     let new = streams_of g.R.Source c.exchange-told.new.reader g.W.Sink c.exchange-told.new.writer in
     let left = session_of g.P.Peripheral c.exchange-told.new.names c.exchange-told.new.spares in
-    let one = subst (λ (told : Result Next ScriptsFault).
-    PrintsExchange c.args.style.now middle last between new told left)
-    (c.in-Ok-Ended.is ∙ ap (λ (next : Next). Ok next) (rw c.in-Ok-Ended.is at c.in-Ok-Ended.field-0-is)) told in (
+    let one = subst (λ (told : Result Next ScriptsFault). PrintsExchange c.args.style.now middle last between new told
+    left) (c.in-Ok-Ended.is ∙ ap (λ (next : Next). Ok next) (rw c.in-Ok-Ended.is at c.in-Ok-Ended.field-0-is)) told in (
       first ++ last,
       runs_join g.D.Disk g.P.Peripheral _ _ _ _ _ run ran,
       record {
@@ -66,8 +64,7 @@ returns-in-Ok-Ended-clause-told g c =
         between = between;
         middle = middle;
         done = done;
-        last = inl (ends_typed c.args.style.now middle last between new
-            (output_of g.W.Sink c.end_line.new.writer) c.end_line.result left one c.end_line.ensures);
+        last = inl (ends_typed new (output_of g.W.Sink c.end_line.new.writer) c.end_line.result one c.end_line.ensures);
       },
     )
 

@@ -24,9 +24,8 @@ returns-in-Ok-told-clause-told g c =
         told = subst (λ (text : List ℕ). PrintsText c.args.style.now [] text
             (session_of g.P.Peripheral c.args.names.now c.args.spares.now) steps
             (output_of g.W.Sink c.write_text.new.writer) (output_of g.W.Sink c.print_text-told.new.writer)
-            (Ok c.in-Ok-told.field-0)
-            (session_of g.P.Peripheral c.print_text-told.new.names c.print_text-told.new.spares))
-            c.deref-2.ensures.value told;
+            (Ok c.in-Ok-told.field-0) (session_of g.P.Peripheral c.print_text-told.new.names
+            c.print_text-told.new.spares)) c.deref-2.ensures.value told;
       },
     )
 
@@ -48,8 +47,7 @@ returns-in-Ok-2-clause-told g c =
         told = subst (λ (text : List ℕ). PrintsText c.args.style.now [] text
             (session_of g.P.Peripheral c.args.names.now c.args.spares.now) steps
             (output_of g.W.Sink c.write_text.new.writer) (output_of g.W.Sink c.print_text-told.new.writer)
-            (Ok c.in-Ok-told.field-0)
-            (session_of g.P.Peripheral c.print_text-told.new.names c.print_text-told.new.spares))
-            c.deref-2.ensures.value told;
+            (Ok c.in-Ok-told.field-0) (session_of g.P.Peripheral c.print_text-told.new.names
+            c.print_text-told.new.spares)) c.deref-2.ensures.value told;
       },
     )

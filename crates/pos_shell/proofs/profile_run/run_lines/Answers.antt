@@ -8,7 +8,7 @@ pub returns-in-Err : goal.returns-in-Err
 returns-in-Err g c = record {
   runs = inl (refl, refl, c.in-Err.ensures.handed_back);
   moments = λ left honest leaves. leaves_nothing g.D.Disk
-      (λ disk bytes honest since. g.met.D.Disk.only_now disk bytes honest since) _ _ _ left
+      (λ disk bytes honest since. g.met.D.Disk.only_now disk bytes honest since) _ _ left
       c.in-Err.ensures.handed_back honest leaves;
 }
 

@@ -21,9 +21,7 @@ loop-path-preserved g c =
     let path = slice_index_or paths i (record { ref_ptr = (0, 0); now = [] }) in
     let script : Script = record { name = path; text = c.in-Ok.text } in
     subst (λ xs. AreRead g.S.FileSystem c.args.system.now xs c.push.new.self.items)
-    (sym (taken_at paths i _ c.loop-path-test.true))
-    (subst (λ (ss : List Script). AreRead g.S.FileSystem c.args.system.now (take i paths ++ path ∷ []) ss)
-    (sym c.in-Ok-push.ensures.items)
-    (reads_more g.S.FileSystem c.args.system.now
-    (take i paths) c.loop-path.scripts.items path script c.loop-path.invariant
+    (sym (taken_at paths i _ c.loop-path-test.true)) (subst (λ (ss : List Script). AreRead g.S.FileSystem
+    c.args.system.now (take i paths ++ path ∷ []) ss) (sym c.in-Ok-push.ensures.items)
+    (reads_more g.S.FileSystem c.args.system.now (take i paths) c.loop-path.scripts.items script c.loop-path.invariant
     (refl, rw c.path_of.ensures at c.in-Ok.ensures)))

@@ -42,10 +42,9 @@ returns-in-Err-clause-told g c =
         done = done;
         stopped = subst (λ (text : List ℕ). PrintsText c.args.style.now script.name.now text
             (session_of g.P.Peripheral c.loop-script.names c.loop-script.spares) last
-            (output_of g.W.Sink c.loop-script.writer)
-            (output_of g.W.Sink c.print_text-done.new.writer) (Err c.in-Err.fault)
-            (session_of g.P.Peripheral c.print_text-done.new.names c.print_text-done.new.spares)) c.deref.ensures.value
-            stopped;
+            (output_of g.W.Sink c.loop-script.writer) (output_of g.W.Sink c.print_text-done.new.writer)
+            (Err c.in-Err.fault) (session_of g.P.Peripheral c.print_text-done.new.names c.print_text-done.new.spares))
+            c.deref.ensures.value stopped;
       },
     )
 
@@ -62,9 +61,8 @@ loop-script-preserved g c =
       first ++ last,
       turns ++ turn ∷ [],
       runs_join g.D.Disk g.P.Peripheral _ _ _ _ _ ran run,
-      subst (λ xs. AreTurns xs (turns ++ turn ∷ []))
-          (sym (one_taken scripts i script c.loop-script-test.true c.script-item.is))
-          (are_join (take i scripts) turns script turn
-          (ap (λ (t : List ℕ). (script.name.now, t)) c.deref.ensures.value) are),
-      turns_join c.args.style.now turns turn _ _ _ first last _ _ _ done prints written,
+      subst (λ xs. AreTurns xs (turns ++ turn ∷ [])) (sym (one_taken scripts i script c.loop-script-test.true
+          c.script-item.is)) (are_join (take i scripts) turns script turn (ap (λ (t : List ℕ). (script.name.now, t))
+          c.deref.ensures.value) are),
+      turns_join turns turn last done prints written,
     )

@@ -36,15 +36,13 @@ returns-in-Ok g c =
     let (fits, spelled) = draft in
     let did = rw (c.deref.ensures.value, spelled) at c.in-Ok.ensures.appends in
     let it = given g here outcome in
-    let kept = same_layout c.in-Ready.log c.append_fitting.new.self c.append_fitting.new.self.images.disk _
-    did.appended in
+    let kept = same_layout c.in-Ready.log did.appended in
     let (ready, holds, limits) = sound g here in
     record {
       sound = (
         did.ready,
         appended_holds it c.append_fitting.new.self fits did,
-        c.make_draft.ensures.limits ∙ limits
-            ∙ ap limits_of (sym kept),
+        c.make_draft.ensures.limits ∙ limits ∙ ap limits_of (sym kept),
       );
       commits = rw c.in-Ready.is (appended_commits it c.append_fitting.new.self fits did);
     }
@@ -58,12 +56,10 @@ returns-in-Err-append_fitting-clause-commits g c =
     let it = given g here outcome in
     let failed : IsErrOf c.append_fitting.result log.Device =
     rw (c.in-Err-append_fitting.is, c.in-Err-append_fitting.ensures.faults) refl in
-    rw (c.in-Ready.is, c.fail.ensures.store, c.fail.ensures.fault)
-    (failed_commits it c.append_fitting.new.self.images.disk
-    (layout_of c.append_fitting.new.self.images.slot) c.in-Ready.log.images.sequence
-    (same_layout c.in-Ready.log c.append_fitting.new.self c.append_fitting.new.self.images.disk c.in-Ready.log.tail
-    (did.failed failed))
-    (rw fits refl) (λ exhausted. let over = exhausted.0 in cc)
+    rw (c.in-Ready.is, c.fail.ensures.store, c.fail.ensures.fault) (failed_commits it
+    c.append_fitting.new.self.images.disk (layout_of c.append_fitting.new.self.images.slot)
+    c.in-Ready.log.images.sequence (same_layout c.in-Ready.log (did.failed failed)) (rw fits refl)
+    (λ exhausted. let over = exhausted.0 in cc)
     (λ h. weaker _ _ _ _ (appending_stands it h) (did.any_moment h))
     (λ h bytes. g.met.D.Disk.counts_now c.append_fitting.new.self.images.disk
     (g.D.Disk.state c.in-Ready.log.images.disk).moment bytes (did.keeps.honest.0 h))
@@ -96,15 +92,12 @@ returns-in-Err-renew-clause-commits g c =
     let it = given g here outcome in
     let body = c.in-Ok-Image.body.items in
     let inside = short (layout_of c.in-Ready.log.images.slot) body fits in
-    let device : c.in-Err-renew.field-0 ≡ image.Device = ⊎_elim
-    (λ large. absurd (omega (
+    let device : c.in-Err-renew.field-0 ≡ image.Device = ⊎_elim (λ large. absurd (omega (
       arith,
       inside,
       did.too_large.0 (c.in-Err-renew.is ∙ ap (λ (f : ImageFault). Err f) large),
-    )))
-    (⊎_elim (λ last. absurd (more (did.exhausted.0 (c.in-Err-renew.is ∙ ap (λ (f : ImageFault). Err f) last)).1))
-    (λ is. is))
-    c.in-Err-renew.ensures.faults in
+    ))) (⊎_elim (λ last. absurd (more (did.exhausted.0 (c.in-Err-renew.is ∙ ap (λ (f : ImageFault). Err f) last)).1))
+    (λ is. is)) c.in-Err-renew.ensures.faults in
     rw (c.in-Ready.is, c.fail-in-Err-renew.ensures.store, c.fail-in-Err-renew.ensures.fault)
     (failed_commits it c.renew.new.self.images.disk (layout_of c.renew.new.self.images.slot)
     (c.in-Ready.log.images.sequence + 1)
@@ -117,7 +110,6 @@ returns-in-Err-renew-clause-commits g c =
 pub returns-in-Err-clause-commits : goal.returns-in-Err-clause-commits
 returns-in-Err-clause-commits g c =
     let (ready, holds, limits) = rw c.in-Ready.is at c.requires.sound in
-    rw (c.in-Ready.is, c.in-Err.ensures.unchanged)
-    (unmade_commits g.D.Disk c.in-Ready.log c.in-Ready.directory.files c.args.changes.now c.in-Err.fault ready holds
-    (λ h f left. g.met.D.Disk.only_now c.in-Ready.log.images.disk f h left)
-    (rw c.in-Ready.is at c.requires.applicable) c.in-Err.ensures.made)
+    rw (c.in-Ready.is, c.in-Err.ensures.unchanged) (unmade_commits ready holds
+    (λ h f left. g.met.D.Disk.only_now c.in-Ready.log.images.disk f h left) (rw c.in-Ready.is at c.requires.applicable)
+    c.in-Err.ensures.made)

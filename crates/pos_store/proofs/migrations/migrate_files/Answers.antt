@@ -10,9 +10,8 @@ pub returns-then-eq-clause-migrates : goal.returns-then-eq-clause-migrates
 returns-then-eq-clause-migrates g c =
     let sound = rw c.in-Ready.is at c.requires.sound in
     let second : layout_of c.in-Ready.log.images.slot ≡ Layout2 = search rules in
-    rw c.in-Ready.is
-    (refused_migrates g.D.Disk c.in-Ready.log c.in-Ready.directory.files sound.0 sound.1 fault.AlreadyLayout2
-    (rw second (refl, refl)) (λ is. absurd cc) (g.met.D.Disk.only_now c.in-Ready.log.images.disk))
+    rw c.in-Ready.is (refused_migrates g.D.Disk c.in-Ready.log c.in-Ready.directory.files sound.0 sound.1
+    fault.AlreadyLayout2 (rw second (refl, refl)) (λ is. absurd cc) (g.met.D.Disk.only_now c.in-Ready.log.images.disk))
 
 pub returns-in_default-clause-migrates : goal.returns-in_default-clause-migrates
 returns-in_default-clause-migrates g c =
@@ -31,8 +30,7 @@ moves g c =
       holds = sound.1;
       first = first;
       sound = c.wider_directory.ensures (limits_of Layout1) (limits_of Layout2) c.in-Ready.directory.files
-          (search rules)
-          (rw limits at c.encode.ensures.directory);
+          (search rules) (rw limits at c.encode.ensures.directory);
       spelled = c.in-Ok.ensures.spelling;
     }
 
@@ -44,21 +42,19 @@ returns-in-Ok-migrate g c =
       sound = (
         renews.ready,
         moved_holds it c.migrate.new.self renews,
-        c.limits_of.ensures
-            ∙ ap limits_of (sym renews.layout_is),
+        c.limits_of.ensures ∙ ap limits_of (sym renews.layout_is),
       );
-      migrates = moved_migrates it c.migrate.new.self renews (λ h. keeps_first _ _ _ (c.in-Ok-migrate.ensures.rest h));
+      migrates = moved_migrates it c.migrate.new.self renews (λ h. keeps_first (c.in-Ok-migrate.ensures.rest h));
     })
 
 pub returns-in-Device-clause-migrates : goal.returns-in-Device-clause-migrates
 returns-in-Device-clause-migrates g c =
     let here = (goal.at.returns-in-Device-clause-migrates g c).After-migrate in
     let renews = rw c.in-Device.is at c.in-Err.ensures.migrates in
-    rw (c.in-Ready.is, c.turn_off.ensures)
-    (failed_migrates (moves g here) c.migrate.new.self renews
-    (λ h bytes. g.met.D.Disk.counts_now c.migrate.new.self.images.disk
-    (g.D.Disk.state c.in-Ready.log.images.disk).moment bytes (renews.keeps.honest.0 h))
-    (λ h. keeps_first _ _ _ (c.in-Err.ensures.rest h)))
+    rw (c.in-Ready.is, c.turn_off.ensures) (failed_migrates (moves g here) c.migrate.new.self renews
+    (λ h bytes. g.met.D.Disk.counts_now c.migrate.new.self.images.disk (g.D.Disk.state
+    c.in-Ready.log.images.disk).moment bytes (renews.keeps.honest.0 h))
+    (λ h. keeps_first (c.in-Err.ensures.rest h)))
 
 pub returns-in-NoMemory : goal.returns-in-NoMemory
 returns-in-NoMemory g c =

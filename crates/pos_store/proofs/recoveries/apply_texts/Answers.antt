@@ -15,8 +15,7 @@ loop-text-preserved c =
       back = λ last applies.
           let here = rw rest at (before.back last applies) in
           rw (one_step c.args.directory.now.limits c.loop-text.directory.files c.text-item.result.items here.0
-          c.apply_text.new.directory.files here.1 step)
-          at here.2;
+          c.apply_text.new.directory.files here.1 step) at here.2;
     }
 
 pub returns-in-Err-clause-damaged : goal.returns-in-Err-clause-damaged

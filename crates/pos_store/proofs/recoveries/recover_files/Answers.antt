@@ -17,60 +17,51 @@ use Rattle.pos_store.proofs.recoveries.recover_files.Goals as goal
 pub returns-in-Err-clause-recovers : goal.returns-in-Err-clause-recovers
 returns-in-Err-clause-recovers g c =
     let opened = c.in-Err.ensures in
-    let told = told_alone c.in-Err.fault c.fault_of_images.result c.fault_of_images.ensures in
+    let told = told_alone c.fault_of_images.ensures in
     rw c.in-Off.is (off_recovers g.D.Disk c.in-Off.disk c.in-Off.layout _ _
-    (told_finds (DiskStandsFor g.D.Disk c.in-Off.disk) c.in-Off.layout c.in-Err.fault c.fault_of_images.result
+    (told_finds (DiskStandsFor g.D.Disk c.in-Off.disk) c.in-Off.layout c.fault_of_images.result
     c.fault_of_images.ensures
     (λ is h. opened.unformatted h is) (λ is h. damaged_stands _ (opened.damaged h is)) opened.faults)
-    (λ err. refl)
-    opened.any_moment
+    (λ err. refl) opened.any_moment
     (λ h. tt)
     (λ h. tt)
     (λ h is. opened.device h (told.0 is))
-    (λ h. ⊎_elim (λ is. inl (told.1 (cc is))) (λ same. inr same) (opened.counts h))
-    opened.keeps)
+    (λ h. ⊎_elim (λ is. inl (told.1 (cc is))) (λ same. inr same) (opened.counts h)) opened.keeps)
 
 pub returns-in-Err-Malformed-clause-recovers : goal.returns-in-Err-Malformed-clause-recovers
 returns-in-Err-Malformed-clause-recovers g c =
     let opened = c.in-Ok.ensures in
-    rw (c.in-Off.is, c.into_disk.ensures)
-    (refused_recovers g.D.Disk c.in-Off.disk _ c.in-Off.layout _ (λ is. absurd cc) (
+    rw (c.in-Off.is, c.into_disk.ensures) (refused_recovers _ (λ is. absurd cc) (
       λ h. no_body_stands _ (layout_of c.in-Ok.images.slot) c.in-Ok.images.body c.in-Ok.images.sequence (opened.found h)
-          (λ spelled. malformed_none (limits_of (layout_of c.in-Ok.images.slot)) c.body.result.now _
-          c.in-Err-Malformed.field-0-is
-          (subst (λ (l : Limits). Decodes l c.body.result.now (Err c.in-Err-Malformed.field-0))
-          (c.limits_of-limits.ensures ∙ ap limits_of c.layout.ensures)
-          c.in-Err-Malformed.ensures) (subst (IsBody (limits_of (layout_of c.in-Ok.images.slot)))
-          (sym c.body.ensures) spelled)),
+          (λ spelled. malformed_none c.in-Err-Malformed.field-0-is (subst (λ (l : Limits). Decodes l c.body.result.now
+          (Err c.in-Err-Malformed.field-0)) (c.limits_of-limits.ensures ∙ ap limits_of c.layout.ensures)
+          c.in-Err-Malformed.ensures) (subst (IsBody (limits_of (layout_of c.in-Ok.images.slot))) (sym c.body.ensures)
+          spelled)),
       refl,
     ) opened.any_moment (λ h. never_failed _ _ _ images.Device (opened.counts h)) opened.keeps)
 
 pub returns-in-Err-decode-clause-recovers : goal.returns-in-Err-decode-clause-recovers
 returns-in-Err-decode-clause-recovers g c =
     let opened = c.in-Ok.ensures in
-    rw (c.in-Off.is, c.into_disk-in-Err-decode.ensures)
-    (refused_recovers g.D.Disk c.in-Off.disk _ c.in-Off.layout _ (λ is. absurd cc) refl
-    opened.any_moment (λ h. never_failed _ _ _ images.Device (opened.counts h)) opened.keeps)
+    rw (c.in-Off.is, c.into_disk-in-Err-decode.ensures) (refused_recovers _ (λ is. absurd cc) refl opened.any_moment
+    (λ h. never_failed _ _ _ images.Device (opened.counts h)) opened.keeps)
 
 pub returns-in-Err-open-clause-recovers : goal.returns-in-Err-open-clause-recovers
 returns-in-Err-open-clause-recovers g c =
     let opened = c.in-Ok.ensures in
     let logged = c.in-Err-open.ensures in
-    let told = told_log_alone c.in-Err-open.fault c.fault_of_log.result c.fault_of_log.ensures in
+    let told = told_log_alone c.fault_of_log.ensures in
     rw (c.in-Off.is, c.into_disk-in-Err-open.ensures) (off_recovers g.D.Disk c.in-Off.disk c.in-Off.layout _ _
-    (told_log_finds (DiskStandsFor g.D.Disk c.in-Off.disk) c.in-Off.layout c.in-Err-open.fault c.fault_of_log.result
-    c.fault_of_log.ensures
+    (told_log_finds (DiskStandsFor g.D.Disk c.in-Off.disk) c.in-Off.layout c.fault_of_log.result c.fault_of_log.ensures
     (λ is h. no_log_stands _ (layout_of c.in-Ok.images.slot) c.in-Ok.images.body c.in-Ok.images.sequence
-    (opened.found h)
-    (rw (opened.any_moment h).reading at (logged.damaged (opened.keeps.honest.0 h) is))))
+    (opened.found h) (rw (opened.any_moment h).reading at (logged.damaged (opened.keeps.honest.0 h) is))))
     (λ err. refl)
     (λ h. watches_on _ _ _ (opened.any_moment h) (logged.any_moment (opened.keeps.honest.0 h)))
     (λ h. tt)
     (λ h. tt)
-    (λ h is. later g.D.Disk _ _ _ opened.keeps logged.keeps h (logged.device (opened.keeps.honest.0 h) (told.0 is)))
+    (λ h is. later opened.keeps logged.keeps h (logged.device (opened.keeps.honest.0 h) (told.0 is)))
     (λ h. ⊎_elim (λ is. inl (told.1 (cc is))) (λ same. inr (same ∙ never_failed _ _ _ images.Device (opened.counts h)))
-    (logged.counts (opened.keeps.honest.0 h)))
-    (both_keep g.D.Disk _ _ _ opened.keeps logged.keeps))
+    (logged.counts (opened.keeps.honest.0 h))) (both_keep g.D.Disk _ _ _ opened.keeps logged.keeps))
 
 module _ (g : Over) (c : After-apply_texts g) where
   -- the layout of the disk, and its limits
@@ -143,19 +134,14 @@ returns-in-Ok-apply_texts g c =
       sound = (
         c.in-Ok-open.ensures.ready,
         now,
-        c.apply_texts.ensures.limits ∙ limits g here
-            ∙ ap limits_of (sym (layout_is g here)),
+        c.apply_texts.ensures.limits ∙ limits g here ∙ ap limits_of (sym (layout_is g here)),
       );
       recovers = rw c.in-Off.is (off_recovers g.D.Disk c.in-Off.disk c.in-Off.layout _ _
           (found g here files c.in-Ok-apply_texts.ensures.ok)
-          (λ err. absurd cc)
-          (watches g here)
-          (λ h. leaves_files g.D.Disk c.in-Ok-open.log.images files c.in-Ok-open.ensures.ready.images now
-          ((keeps g here).honest.0 h))
-          (ends g here)
+          (λ err. absurd cc) (watches g here)
+          (λ h. leaves_files c.in-Ok-open.ensures.ready.images now ((keeps g here).honest.0 h)) (ends g here)
           (λ h is. absurd cc)
-          (λ h. inr (not_failed g here h))
-          (keeps g here));
+          (λ h. inr (not_failed g here h)) (keeps g here));
     }
 
 pub returns-in-Err-apply_texts-clause-recovers : goal.returns-in-Err-apply_texts-clause-recovers
@@ -163,10 +149,9 @@ returns-in-Err-apply_texts-clause-recovers g c =
     let here = (goal.at.returns-in-Err-apply_texts-clause-recovers g c).After-apply_texts in
     let faults = c.in-Err-apply_texts.ensures.faults in
     rw (c.in-Off.is, c.into_disk-in-Err-apply_texts.ensures, c.into_images.ensures)
-    (refused_recovers g.D.Disk c.in-Off.disk _ c.in-Off.layout _ (not_device c.in-Err-apply_texts.fault faults)
-    (told_text_finds (DiskStandsFor g.D.Disk c.in-Off.disk) c.in-Off.layout c.in-Err-apply_texts.fault faults
+    (refused_recovers _ (not_device faults) (told_text_finds (DiskStandsFor g.D.Disk c.in-Off.disk) c.in-Off.layout
+    faults
     (λ is h. no_groups_stand _ (layout g here) c.in-Ok.images.body c.in-Ok.images.sequence
-    c.in-Ok-decode.directory.files _
-    (c.in-Ok.ensures.found h) (sound g here) (spelled g here) (records g here h)
+    c.in-Ok-decode.directory.files _ (c.in-Ok.ensures.found h) (sound g here) (spelled g here) (records g here h)
     (λ last applies. c.in-Err-apply_texts.ensures.damaged is last (rw (limits g here, c.deref.ensures.value) applies))))
     (watches g here) (not_failed g here) (keeps g here))

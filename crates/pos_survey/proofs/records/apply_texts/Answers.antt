@@ -13,21 +13,18 @@ returns-in-Err-clause-broken c =
     let i = c.loop-text.text-index in
     let texts = c.args.texts.now in
     let text_of = λ (t : Vec ℕ Global). t.items in
-    stops c.args.directory.now.limits c.args.directory.now.files c.loop-text.directory.files (map text_of texts)
-    (map text_of (take i texts))
-    (map text_of (drop (i + 1) texts)) item.items c.args.first c.loop-text.at c.in-Err.fault
-    (in_three text_of texts i item c.loop-text-test.true c.text-item.is) c.loop-text.invariant.place
-    c.loop-text.invariant.applied
-    (rw (c.loop-text.invariant.limits, c.deref.ensures.value) at c.in-Err.ensures.broken)
+    stops c.args.directory.now.limits c.args.directory.now.files c.loop-text.directory.files
+    (map text_of (take i texts)) (map text_of (drop (i + 1) texts)) item.items c.args.first c.in-Err.fault
+    (in_three text_of texts i c.loop-text-test.true c.text-item.is) c.loop-text.invariant.place
+    c.loop-text.invariant.applied (rw (c.loop-text.invariant.limits, c.deref.ensures.value) at c.in-Err.ensures.broken)
 
 pub overflow_add-at-in-Ok : goal.overflow_add-at-in-Ok
 overflow_add-at-in-Ok c =
     let item = c.text-item.result in
     let i = c.loop-text.text-index in
     let text_of = λ (t : Vec ℕ Global). t.items in
-    let within = ends_within (map text_of c.args.texts.now) (map text_of (take i c.args.texts.now))
-    (map text_of (drop (i + 1) c.args.texts.now)) item.items
-    (in_three text_of c.args.texts.now i item c.loop-text-test.true c.text-item.is) in
+    let within = ends_within (map text_of (take i c.args.texts.now)) (map text_of (drop (i + 1) c.args.texts.now))
+    item.items (in_three text_of c.args.texts.now i c.loop-text-test.true c.text-item.is) in
     let place = c.loop-text.invariant.place in
     omega (arith, within, place, c.len.ensures, c.requires)
 
@@ -47,9 +44,7 @@ loop-text-preserved c =
     let step = rw (c.loop-text.invariant.limits, c.deref.ensures.value) at c.in-Ok.ensures.ok in
     record {
       limits = c.apply_text.ensures.limits ∙ c.loop-text.invariant.limits;
-      applied = rw more
-          (applies_more limits before c.args.directory.now.files c.loop-text.directory.files item.items
-          c.apply_text.new.directory.files
-          c.loop-text.invariant.applied step);
+      applied = rw more (applies_more limits before c.args.directory.now.files c.loop-text.directory.files item.items
+          c.apply_text.new.directory.files c.loop-text.invariant.applied step);
       place = omega (arith, size, place, c.len.ensures);
     }

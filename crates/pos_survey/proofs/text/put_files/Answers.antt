@@ -10,7 +10,6 @@ loop-index-preserved c =
     let i = c.loop-index.index in
     let name = c.in-Some-Some.name.now in
     let bytes = c.in-Some-Some.bytes.now in
-    c.in_ok-put_file.ensures ∙ ap (λ t. t ++ file_text name bytes) c.loop-index.invariant
-    ∙ append_assoc c.args.text.now.items (files_text (take i files)) (file_text name bytes)
-    ∙ ap (λ t. c.args.text.now.items ++ t)
+    c.in_ok-put_file.ensures ∙ ap (λ t. t ++ file_text name bytes) c.loop-index.invariant ∙ append_assoc
+    c.args.text.now.items (files_text (take i files)) (file_text name bytes) ∙ ap (λ t. c.args.text.now.items ++ t)
     (sym (one_file_more files i name bytes (slice_get files i) refl c.in-Some-Some.ensures c.in-Some-Some.ensures'))

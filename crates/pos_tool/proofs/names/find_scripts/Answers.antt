@@ -19,10 +19,8 @@ loop-path-preserved g c =
     let i = c.loop-path.path-index in
     let path = slice_index_or paths i (record { ref_ptr = (0, 0); now = [] }) in
     subst (λ (ps : List (Bor (List ℕ))). FindsAll g.S.Folder c.args.system.now ps (texts c.append.new.self.items))
-    (sym (taken_at paths i _ c.loop-path-test.true))
-    (subst (λ (all : List (List ℕ)). FindsAll g.S.Folder c.args.system.now (take i paths ++ path ∷ []) all)
-    (sym (ap texts c.in-Ok-append.ensures.items
-    ∙ map-append (λ name. string_bytes name) c.loop-path.found.items c.in-Ok.more.items))
+    (sym (taken_at paths i _ c.loop-path-test.true)) (subst (λ (all : List (List ℕ)). FindsAll g.S.Folder
+    c.args.system.now (take i paths ++ path ∷ []) all) (sym (ap texts c.in-Ok-append.ensures.items ∙ map-append
+    (λ name. string_bytes name) c.loop-path.found.items c.in-Ok.more.items))
     (finds_more g.S.Folder c.args.system.now (take i paths) (texts c.loop-path.found.items) path
-    (texts c.in-Ok.more.items)
-    c.loop-path.invariant c.in-Ok.ensures))
+    (texts c.in-Ok.more.items) c.loop-path.invariant c.in-Ok.ensures))

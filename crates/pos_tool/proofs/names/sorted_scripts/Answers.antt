@@ -9,8 +9,7 @@ use Rattle.pos_tool.proofs.names.sorted_scripts.Goals as goal
 pub returns : goal.returns
 returns c = record {
   all = subst (λ (scripts : List (List ℕ)). IsPermutation scripts (texts c.sort_unstable.new.self.items))
-      c.in_ok-scripts.ensures
-      (IsPermutation-map (λ name. string_bytes name) c.in_ok-scripts.scripts.items c.sort_unstable.new.self.items
-      c.sort_unstable.ensures.permutation);
+      c.in_ok-scripts.ensures (IsPermutation-map (λ name. string_bytes name) c.in_ok-scripts.scripts.items
+      c.sort_unstable.new.self.items c.sort_unstable.ensures.permutation);
   sorted = sorted_texts c.sort_unstable.new.self.items c.sort_unstable.ensures.sorted;
 }

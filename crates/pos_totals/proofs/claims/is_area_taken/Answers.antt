@@ -16,6 +16,5 @@ pub returns-in-Some : goal.returns-in-Some
 returns-in-Some g c =
     let mode = mode_of c.args.holdings.now.handles.given c.args.store.now.state in
     c.has_foreign_claim.ensures ∙ foreign_seen mode c.in-Some.files c.args.control c.in-Some.ensures.seen
-    c.in-Some.ensures.files.paired
-    ∙ sym (ap (λ (b : Bool). b || list_any (is_foreign_claim c.args.control) (files_of mode))
-    (sym c.is_foreign.ensures ∙ c.if-is_foreign.false))
+    c.in-Some.ensures.files.paired ∙ sym (ap (λ (b : Bool). b || list_any (is_foreign_claim c.args.control)
+    (files_of mode)) (sym c.is_foreign.ensures ∙ c.if-is_foreign.false))

@@ -5,6 +5,4 @@ pub commit_applicable-requires-clause-applicable : goal.commit_applicable-requir
 commit_applicable-requires-clause-applicable g c =
     let store = c.args.store.now in
     let plans = rw (c.in-Ok-Group.is, c.in-Ok-Group.field-0-is) at c.make_plan.ensures.plans in
-    applicable store.state store.tail c.args.holdings.now c.args.control c.in-Ok-Group.group
-    c.make_plan.ensures.directory c.requires.sound
-    plans.0 plans.1
+    applicable store.state store.tail c.args.control c.make_plan.ensures.directory c.requires.sound plans.0 plans.1

@@ -1,4 +1,3 @@
-use Rattle.pos_totals.proofs.Common.{Err}
 use Rattle.pos_totals.proofs.CommitLemmas.{refuses, finds_none, found, done, put_down}
 use Rattle.pos_totals.proofs.PutGroupLemmas.{Begins}
 use Rattle.pos_totals.proofs.commits.commit_trans.Given.{Over}
@@ -22,16 +21,14 @@ returns-in-Ok-Refused-clause-commits g c =
 pub returns-in-Ok-Done : goal.returns-in-Ok-Done
 returns-in-Ok-Done g c =
     let did = rw (c.in-Ok-Done.is, c.in-Ok-Done.field-0-is) at c.commit_buffer.ensures.commits in
-    let both = done (begins g (goal.at.returns-in-Ok-Done g c).After-commit_buffer) c.args.control
-    c.commit_buffer.new.store did.0 did.1 in
+    let both = done (begins g (goal.at.returns-in-Ok-Done g c).After-commit_buffer) c.args.control did.0 did.1 in
     rw c.set.ensures (record { sound = both.1; commits = both.0 })
 
 pub returns-in-Ok-Failed : goal.returns-in-Ok-Failed
 returns-in-Ok-Failed g c =
     let did = rw (c.in-Ok-Failed.is, c.in-Ok-Failed.field-0-is) at c.commit_buffer.ensures.commits in
     let b = begins g (goal.at.returns-in-Ok-Failed g c).After-commit_buffer in
-    let both = put_down (found b c.args.control did.0) b c.args.control did.0 c.commit_buffer.new.store
-    (Err c.in-Ok-Failed.fault) did.1 in
+    let both = put_down (found b c.args.control did.0) b did.0 did.1 in
     rw (c.answer_fault.ensures, c.end_at.ensures) (record { sound = both.1; commits = both.0 })
 
 pub returns-in-Err-clause-commits : goal.returns-in-Err-clause-commits

@@ -11,6 +11,5 @@ pub returns : goal.returns
 returns c =
     let files = with_tags c.args.files.tags.now c.args.files.directory.now.files in
     let finds : FindsFile (is_called c.args.handle) files c.find_number.result =
-    rw (← to_z-of_z w128 c.args.handle c.ranges.handle, c.in-Some.ensures)
-    c.find_number.ensures in
+    rw (← to_z-of_z w128 c.args.handle c.ranges.handle, c.in-Some.ensures) c.find_number.ensures in
     record { finds = finds; called = called_found c.args.handle files c.find_number.result finds.file }

@@ -4,8 +4,7 @@ use Rattle.pos_totals.proofs.files.see_files.Goals as goal
 
 pub returns : goal.returns
 returns g c =
-    let shown = shows c.args.store.now.state c.args.holdings.now c.in-Some.directory.now c.requires
-    c.in-Some.ensures.files c.in-Some.ensures.limits
+    let shown = shows c.args.store.now.state c.requires c.in-Some.ensures.files c.in-Some.ensures.limits
     c.is_directory.ensures.directory in record {
       seen = grind arith;
       files = record { directory = shown.1; paired = ap length c.as_slice.ensures ∙ shown.2 };

@@ -5,4 +5,4 @@ pub returns : goal.returns
 returns g c =
     let inside = c.totals.inside in
     rw (← c.totals.view_is)
-    (theirs inside.store.state inside.store.tail inside.holdings c.see_files.ensures.directory c.totals.invariant)
+    (theirs inside.store.state inside.store.tail c.see_files.ensures.directory c.totals.invariant)

@@ -5,5 +5,5 @@ pub returns : goal.returns
 returns g c =
     let inside = c.totals.inside in
     rw (← c.totals.view_is)
-    (λ h. their_files inside.store.state inside.holdings (g.D.Disk.state inside.store.disk) c.totals.invariant
+    (λ h. their_files inside.store.state (g.D.Disk.state inside.store.disk) c.totals.invariant
     (c.leaves_its_files.ensures h))

@@ -3,7 +3,7 @@ use Rattle.pos_totals.proofs.RecoveryLemmas.{is_told, shown, store_failed, store
 use Rattle.pos_totals.proofs.recoveries.recover_off.Goals as goal
 
 pub recovery_fault-requires : goal.recovery_fault-requires
-recovery_fault-requires g c = is_told (was_off c.args.store.now c.requires.off) c.in-Err.fault c.in-Err.ensures
+recovery_fault-requires g c = is_told (was_off c.requires.off) c.in-Err.ensures
 
 pub number-requires : goal.number-requires
 number-requires g c =
@@ -13,24 +13,19 @@ number-requires g c =
 
 pub returns-in-Err : goal.returns-in-Err
 returns-in-Err g c =
-    let both = store_failed (was_off c.args.store.now c.requires.off) c.args.holdings.now c.requires.sound
-    c.in-Err.fault c.recovery_fault.result c.in-Err.ensures
-    c.recovery_fault.ensures in
+    let both = store_failed (was_off c.requires.off) c.requires.sound c.in-Err.ensures c.recovery_fault.ensures in
     record { sound = both.1; recovers = both.0 }
 
 pub returns-then-number : goal.returns-then-number
 returns-then-number g c =
-    let shows = shown c.recover.new.self c.in-Some.files.now.files (sym c.in-Some.ensures.files) in
-    let both = store_found (was_off c.args.store.now c.requires.off) shows c.args.holdings.now c.requires.sound
-    c.number.new.self c.in-Ok.ensures
+    let shows = shown (sym c.in-Some.ensures.files) in
+    let both = store_found (was_off c.requires.off) shows c.requires.sound c.in-Ok.ensures
     (rw (c.if-number.true, c.len-count.ensures) at c.number.ensures) in
     rw c.layout-holdings.ensures (record { sound = both.1; recovers = both.0 })
 
 pub returns : goal.returns
 returns g c =
-    let shows = shown c.recover.new.self c.in-Some.files.now.files (sym c.in-Some.ensures.files) in
-    let both = store_found_more (was_off c.args.store.now c.requires.off) shows c.args.holdings.now c.requires.sound
-    c.number.new.self
-    c.replace_with.new.dest c.in-Ok.ensures
+    let shows = shown (sym c.in-Some.ensures.files) in
+    let both = store_found_more (was_off c.requires.off) shows c.requires.sound c.in-Ok.ensures
     (rw (c.if-number.false, c.len-count.ensures) at c.number.ensures) c.replace_with.ensures in
     record { sound = both.1; recovers = both.0 }

@@ -9,8 +9,6 @@ returns-in-Job c =
     let sent = c.job_bytes.result in
     let asked : sent ∷ [] ≡ asked_last c.args.end =
     ap (λ (s : List ℕ). s ∷ []) c.job_bytes.ensures.bytes ∙ ap asked_last (sym c.in-Job.is) in
-    IfOk-weaker c.from_slice.result _ _ (λ bytes is width.
-    subst (λ (all : List ℕ). AllDo false width [] [] (asked_last c.args.end) all) (sym is)
-    (subst (λ (questions : List (List ℕ)). AllDo false width [] [] questions sent) asked
-    (asks width sent (c.job_bytes.ensures.asks width))))
-    c.from_slice.ensures.items
+    IfOk-weaker c.from_slice.result _ _ (λ bytes is width. subst (λ (all : List ℕ). AllDo false width [] []
+    (asked_last c.args.end) all) (sym is) (subst (λ (questions : List (List ℕ)). AllDo false width [] [] questions sent)
+    asked (asks width (c.job_bytes.ensures.asks width)))) c.from_slice.ensures.items

@@ -15,11 +15,8 @@ returns-clause-sends g c =
     let shown : state.plant.mechanism ≡ mechanism.Display c.in-Display.before = search rules in
     let done : Performs c.args.order.now (lit c.in-Display.before) reply.Done (lit c.in_ok-after.after) =
     rw (← is) c.in_ok-after.ensures.done in
-    IfOk-weaker c.row_bytes.result _ _ (λ bytes shows end.
-    display_sends c.args.settings.now c.args.is_new end state c.args.order.now c.in-Display.before c.in_ok-after.after _
-    is_on shown
-    done (rw (← is) shows))
-    c.row_bytes.ensures.shows
+    IfOk-weaker c.row_bytes.result _ _ (λ bytes shows end. display_sends end c.in_ok-after.after is_on shown done
+    (rw (← is) shows)) c.row_bytes.ensures.shows
 
 pub returns-clause-no_bytes : goal.returns-clause-no_bytes
 returns-clause-no_bytes g c = λ none.
@@ -29,5 +26,5 @@ returns-clause-no_bytes g c = λ none.
     let shown : state.plant.mechanism ≡ mechanism.Display c.in-Display.before = search rules in
     let done : Performs c.args.order.now (lit c.in-Display.before) reply.Done (lit c.in_ok-after.after) =
     rw (← is) c.in_ok-after.ensures.done in
-    display_misfit c.args.is_new state c.args.order.now c.in-Display.before c.in_ok-after.after is_on shown done
+    display_misfit c.args.is_new state c.args.order.now c.in_ok-after.after is_on shown done
     (rw (← is) (c.row_bytes.ensures.no_bytes none))

@@ -15,6 +15,4 @@ returns-clause-sends g c =
     (kick_pulse (kick_of c.args.settings.now) ∷ []) [] c.bytes-pulse.result = λ width.
     subst (λ (kick : DrawerKick). AllDo false width [] (kick_pulse kick ∷ []) [] c.bytes-pulse.result) c.kick.ensures
     (kicks_alone width c.kick.result c.bytes-pulse.result (c.bytes-pulse.ensures width)) in
-    drawer_sends c.args.settings.now c.args.is_new c.args.end state c.args.order.now _ is_on c.requires.plant
-    c.requires.fits
-    (λ width. c.in_ok-framed.ensures width [] _ (alone width))
+    drawer_sends is_on c.requires.plant c.requires.fits (λ width. c.in_ok-framed.ensures width [] _ (alone width))

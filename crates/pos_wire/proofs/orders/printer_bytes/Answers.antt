@@ -22,14 +22,11 @@ returns-in-Ok-clause-sends g c =
     let adds : Adds state.plant c.args.order.now roll = search rules in
     let given : AllDo false settings.width (all_on_paper cut roll.items) [] [] c.as_slice.result.now =
     subst (λ (bytes : List ℕ). AllDo false settings.width (all_on_paper cut roll.items) [] [] bytes)
-    (sym c.as_slice.ensures.value)
-    c.in-Ok.ensures.prints in
-    printer_sends settings c.args.is_new c.args.end state c.args.order.now roll _ adds
-    (c.in_ok-framed-in-Ok.ensures settings.width (all_on_paper cut roll.items) [] given)
+    (sym c.as_slice.ensures.value) c.in-Ok.ensures.prints in
+    printer_sends adds (c.in_ok-framed-in-Ok.ensures settings.width (all_on_paper cut roll.items) [] given)
 
 pub returns-clause-no_bytes : goal.returns-clause-no_bytes
 returns-clause-no_bytes g c = λ is.
     let state = g.P.Peripheral.state c.args.twin.now in
     let adds : Adds state.plant c.args.order.now c.in-Some.roll = search rules in
-    adds_misfit c.args.chars 0 c.args.is_new state c.args.order.now c.in-Some.roll (c.requires.plant 0) adds
-    (c.in-Err.ensures.no_bytes is)
+    adds_misfit c.args.chars 0 c.args.is_new state (c.requires.plant 0) adds (c.in-Err.ensures.no_bytes is)

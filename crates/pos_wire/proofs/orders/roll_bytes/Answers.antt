@@ -14,7 +14,7 @@ returns-in-Ok-clause-prints c =
     let made = items_from c.printed.result.0.now c.printed.result.1.now in
     let sent = c.in-Ok.sent.items in
     let raw : AllDo false c.line-line.result.width (all_on_paper c.cut-cut.result made) [] [] sent =
-    prints_alone c.line-line.result.width (all_on_paper c.cut-cut.result made) sent c.in-Ok.ensures.prints in
+    prints_alone c.line-line.result.width sent c.in-Ok.ensures.prints in
     let by_cut : AllDo false c.line-line.result.width (all_on_paper cut made) [] [] sent =
     subst (λ (is : CutSettings). AllDo false c.line-line.result.width (all_on_paper is made) [] [] sent)
     c.cut-cut.ensures raw in

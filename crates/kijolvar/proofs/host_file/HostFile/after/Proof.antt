@@ -29,10 +29,7 @@ after_spec 𝓤 𝓛 𝓜 𝓡 wired =
     (λ κs qs bounds a g are.
     let types = types_at f.signature.params κs in let values = empty.values passed κs a in
     qed 𝓛 (raw (alive 𝓛 f.signature κs qs) ∷ ‵ (owns types a values) ∷ []) ∵ enter ! _ _ code.function
-    (flat types values) _ $
-    alloc_all ! (λ l. pass_all ! refl are $ sets ! (agg ! (no_more !)) refl (tt, tt) $ returns !
-    (look_at ! 0 refl) $ free_all ! refl $
-    suffices ! _ (empty.ends 𝓛 passed file.the_row clauses κs qs bounds a g (made κs a)) $
-    says ! refl $ pure_i ! (file.the_row.own_val (made κs a) (vstruct vnil ∷ [])) ((λ vss. (tt, tt)), tt)
-    ((tt, (refl, tt)), tt) $
-    move ! (1 ∷ 2 ∷ 0 ∷ []) $ done !))
+    (flat types values) _ $ alloc_all ! (λ l. pass_all ! refl are $ sets ! (agg ! (no_more !)) refl (tt, tt) $ returns !
+    (look_at ! 0 refl) $ free_all ! refl $ suffices ! _ (empty.ends 𝓛 passed file.the_row clauses κs qs bounds a g
+    (made κs a)) $ says ! refl $ pure_i ! (file.the_row.own_val (made κs a) (vstruct vnil ∷ [])) ((λ vss. (tt, tt)), tt)
+    ((tt, (refl, tt)), tt) $ move ! (1 ∷ 2 ∷ 0 ∷ []) $ done !))

@@ -5,4 +5,4 @@ use Rattle.kijolvar.proofs.session.Session.next_errand.Goals as goal
 pub invariant_of-self : goal.invariant_of-self
 invariant_of-self c =
     let old = c.self.inside.till_state in
-    next_keeps (settlement_of old) _ old _ _ _ _ _ _ _ c.next_errand.new.self c.next_errand.ensures c.self.invariant
+    next_keeps (settlement_of old) _ _ _ _ _ _ _ _ c.next_errand.ensures c.self.invariant

@@ -9,16 +9,11 @@ pub begin_answer-requires : goal.begin_answer-requires
 begin_answer-requires c = record {
   counter = c.requires.counter;
   spares = c.requires.spares;
-  held = held_behind c.in-Ok.lines.items c.args.self.now.held.items c.insert_behind_first.new.held.items
-      c.in-Ok-insert_behind_first.ensures.inserted
-      c.in-Ok.ensures.each c.requires.held;
+  held = held_behind c.in-Ok-insert_behind_first.ensures.inserted c.in-Ok.ensures.each c.requires.held;
 }
 
 pub returns-clause-takes : goal.returns-clause-takes
 returns-clause-takes c =
-    takes_done disks hosts devices c.args.self.now
-    (record c.args.self.now { held = c.insert_behind_first.new.held }) c.begin_answer.new.self
-    c.report.new.self c.go_on.new.self c.args.inputs.now c.in-Ok.lines.items refl c.begin_answer.ensures.begins
-    c.report.ensures.stays
+    takes_done disks hosts devices c.in-Ok.lines.items refl c.begin_answer.ensures.begins c.report.ensures.stays
     c.report.ensures.hosts c.in-Ok.ensures.lines c.in-Ok-insert_behind_first.ensures.inserted c.requires.held
     c.go_on.ensures.go_on c.go_on.ensures.rest

@@ -15,17 +15,7 @@ returns-then-is_ok-clause-takes c =
     let ran = c.run_given_lines-self in
     let file = lines_fixed disks devices begun.counter ran.new.counter (session_in devices begun)
     (lines_of c.args.inputs.now) _ _ ran.result _ ran.ensures.lines in
-    inl (takes_failure disks hosts devices c.args.self.now begun
-    (record begun {
-      counter = c.report.new.self;
-      names = ran.new.names;
-      spares = ran.new.spares;
-      answer =
-          ran.new.writer;
-      outcome = ran.result;
-    })
-    ran.new.counter c.report.new.self _ _ ran.result c.go_on.new.self c.args.inputs.now c.begin_answer.ensures.begins
-    ran.ensures.lines
+    inl (takes_failure disks hosts devices _ _ ran.result c.begin_answer.ensures.begins ran.ensures.lines
     (sym c.is_ok.ensures.value ∙ c.if-is_ok.true) file c.report.ensures.stays c.report.ensures.hosts refl
     c.go_on.ensures.go_on c.go_on.ensures.rest)
 
@@ -35,14 +25,6 @@ returns-else-is_ok-clause-takes c =
     let ran = c.run_given_lines-self in
     let file = lines_fixed disks devices begun.counter ran.new.counter (session_in devices begun)
     (lines_of c.args.inputs.now) _ _ ran.result _ ran.ensures.lines in
-    inr (cuts_inputs disks hosts devices c.args.self.now begun
-    (record begun {
-      counter = ran.new.counter;
-      names = ran.new.names;
-      spares = ran.new.spares;
-      answer = ran.new.writer;
-      outcome = ran.result;
-    })
-    ran.new.counter ran.result c.drop_held.new.self c.args.inputs.now c.begin_answer.ensures.begins ran.ensures.lines
+    inr (cuts_inputs disks hosts devices ran.result c.begin_answer.ensures.begins ran.ensures.lines
     (sym c.is_ok.ensures.value ∙ c.if-is_ok.false) file refl c.drop_held.ensures.drops
     (rw c.disk.ensures at c.is_in_step.ensures))

@@ -8,6 +8,6 @@ returns c =
     let control = c.args.self.now.control in
     let needs = needs_of c.args.category c.args.call.now in
     let there = sym c.place.ensures ∙ c.in-Some.is in
-    let lets = let_through c.args.number _ _ control _ needs _ _ c.in_ok-check.was refl c.needs.ensures c.check.ensures
+    let lets = let_through c.args.number _ control c.in_ok-check.was refl c.needs.ensures c.check.ensures
     in
     (there, lets_own c.args.number _ control needs (lets []), λ rows. rw there (rw there at (lets rows)))

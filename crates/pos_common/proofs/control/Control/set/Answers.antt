@@ -15,8 +15,7 @@ pub returns-in-Ok : goal.returns-in-Ok
 returns-in-Ok c =
     let needs = c.needs_to_set.ensures
     ∙ ap (λ (held : KeptControl). needs_to_set held.control.category c.args.property) c.self.view_is in
-    sets_by_rest _ _ _ _ _ _ _ (let_through c.args.number _ _ c.args.self.now.control _
-    (needs_to_set _ c.args.property) _ _ c.in-Ok.is refl needs
+    sets_by_rest _ _ _ _ _ _ _ (let_through c.args.number _ c.args.self.now.control c.in-Ok.is refl needs
     c.check_by.ensures (value_rows c.args.kind c.args.self.now.control c.args.property c.args.value.now))
     c.set_value.ensures
 
@@ -24,6 +23,5 @@ pub returns-in-Err : goal.returns-in-Err
 returns-in-Err c =
     let needs = c.needs_to_set.ensures
     ∙ ap (λ (held : KeptControl). needs_to_set held.control.category c.args.property) c.self.view_is in
-    refused _ _ _ _ (kept_out c.args.number _ _ c.args.self.now.control _
-    (needs_to_set _ c.args.property) _ _ c.in-Err.is refl needs c.check_by.ensures
+    refused _ _ (kept_out c.args.number _ c.args.self.now.control c.in-Err.is refl needs c.check_by.ensures
     (value_rows c.args.kind c.args.self.now.control c.args.property c.args.value.now)) refl

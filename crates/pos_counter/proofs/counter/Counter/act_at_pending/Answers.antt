@@ -10,9 +10,8 @@ act_at-requires-clause-served g c =
 
 pub returns-in-Some-clause-hosts : goal.returns-in-Some-clause-hosts
 returns-in-Some-clause-hosts g c =
-    c.act_at.ensures.hosts
-    ∙ sym (first_changed (course_after c.args.act)
-    (hosts_in g.P.Awaits.course c.args.self.now) c.in-Some.place c.in-Some.ensures)
+    c.act_at.ensures.hosts ∙ sym (first_changed (course_after c.args.act) (hosts_in g.P.Awaits.course c.args.self.now)
+    c.in-Some.place c.in-Some.ensures)
 
 pub returns-in_default-clause-hosts : goal.returns-in_default-clause-hosts
 returns-in_default-clause-hosts g c =

@@ -14,32 +14,26 @@ returns-in-None g c =
     let old = c.args.self.now in
     let h = c.index.result.now in
     quiet_serves g.D.Disk g.P.Peripheral old _ _ _ old.totals.totals (g.met.D.Disk.only_now _) refl refl
-    (λ left. refl) c.requires.sound
-    c.requires.sound.devices
+    (λ left. refl) c.requires.sound c.requires.sound.devices
     (λ left failures so.
     let m = machine g.P.Peripheral old (part_with old.totals.totals left failures) in
-    rw (kept_at _ _ _ c.requires.in_range c.index.ensures)
-    (decided_some (closed_refuses m c.args.number h.control c.args.call.now c.requires.own
-    (sym c.in-None.ensures)) refl refl))
+    rw (kept_at _ _ _ c.requires.in_range c.index.ensures) (decided_some (closed_refuses m c.args.number h.control
+    c.args.call.now c.requires.own (sym c.in-None.ensures)) refl refl))
 
 pub call_there-requires-clause-may : goal.call_there-requires-clause-may
 call_there-requires-clause-may g c =
-    let h = c.index.result.now in
     let part = part_with c.args.self.now.totals.totals [] 0 in
-    rw c.deref_mut.ensures.value (served_there
-    (machine g.P.Peripheral c.args.self.now part) c.args.number h.control c.in-Some-At.place
-    (c.requires.sound.machine part) (kept_at _ _ _ c.requires.in_range c.index.ensures)
-    (sym c.in-Some-At.ensures ∙ ap Some c.in-Some-At.field-0-is))
+    rw c.deref_mut.ensures.value (served_there c.in-Some-At.place (c.requires.sound.machine part)
+    (kept_at _ _ _ c.requires.in_range c.index.ensures) (sym c.in-Some-At.ensures ∙ ap Some c.in-Some-At.field-0-is))
 
 pub returns-in-Some-At : goal.returns-in-Some-At
 returns-in-Some-At g c =
     let old = c.args.self.now in
-    let kept = kept_in_place old.controls _ _ c.deref_mut.ensures.value c.call_there.auto.controls in
+    let kept = kept_in_place old.controls _ c.deref_mut.ensures.value c.call_there.auto.controls in
     let done = rw (← kept) at (rw c.deref_mut.ensures.value at c.call_there.ensures.done) in
     quiet_serves g.D.Disk g.P.Peripheral old _ _ _ old.totals.totals (g.met.D.Disk.only_now _) refl refl
-    (λ left. refl) c.requires.sound
-    c.call_there.ensures.sound
+    (λ left. refl) c.requires.sound c.call_there.ensures.sound
     (λ left failures so. device_step _ _ _ _ _ _ (part_with old.totals.totals left failures) c.in-Some-At.place
     c.args.number c.index.result.now.control c.args.call.now c.call_there.result c.requires.own
-    (kept_at _ _ _ c.requires.in_range c.index.ensures)
-    (sym c.in-Some-At.ensures ∙ ap Some c.in-Some-At.field-0-is) done)
+    (kept_at _ _ _ c.requires.in_range c.index.ensures) (sym c.in-Some-At.ensures ∙ ap Some c.in-Some-At.field-0-is)
+    done)

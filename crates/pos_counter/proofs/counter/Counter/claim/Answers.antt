@@ -8,9 +8,7 @@ use Rattle.pos_counter.proofs.counter.Counter.claim.Goals as goal
 pub claim-requires : goal.claim-requires
 claim-requires g c =
     let part = part_with c.args.self.now.totals.totals [] 0 in
-    covered (machine g.P.Peripheral c.args.self.now part) c.args.number c.index-control.result.now.control
-    (c.requires.sound.machine part)
-    (kept_at _ _ _ c.requires.in_range c.index-control.ensures)
+    covered c.args.number (c.requires.sound.machine part) (kept_at _ _ _ c.requires.in_range c.index-control.ensures)
 
 pub returns-in-None : goal.returns-in-None
 returns-in-None g c =

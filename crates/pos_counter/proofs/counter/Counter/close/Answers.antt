@@ -11,7 +11,7 @@ returns-in-None g c =
     stays_serves g.D.Disk g.P.Peripheral old _ _ _
     (g.met.D.Disk.only_now _) c.requires.sound refl c.requires.sound.devices
     (λ part. rw (kept_at _ _ _ c.requires.in_range here) (decided_some (rw (← c.in-None.ensures)) refl
-    (kept_machine old.controls.items _ _ _ part c.args.number _ _ refl here)))
+    (kept_machine old.controls.items _ _ _ part c.args.number refl here)))
 
 pub returns-in-Some-Totals : goal.returns-in-Some-Totals
 returns-in-Some-Totals g c =
@@ -20,15 +20,14 @@ returns-in-Some-Totals g c =
     let opens = sym c.in-Some-Totals.ensures ∙ ap Some c.in-Some-Totals.field-0-is in
     let done = rw opens at c.close.ensures.outcome in
     quiet_serves g.D.Disk g.P.Peripheral old _ _ _ (without_control old.totals.totals c.args.number)
-    (g.met.D.Disk.only_now _)
-    c.drop_control.ensures.disk c.drop_control.ensures.totals (rest_settled was _ (without_rest was c.args.number))
-    c.requires.sound c.requires.sound.devices
+    (g.met.D.Disk.only_now _) c.drop_control.ensures.disk c.drop_control.ensures.totals
+    (rest_settled (without_rest was c.args.number)) c.requires.sound c.requires.sound.devices
     (λ left failures so.
     let now = part_with (without_control old.totals.totals c.args.number) left failures in
     rw (kept_at _ _ _ c.requires.in_range c.index_mut-control.ensures.value, opens) (decided_none refl (
       done.0,
       set_machine old.controls.items old.claims (devices_in g.P.Peripheral old.devices) old.totals_name now
-          c.args.number c.close.new.self _ done.1,
+          c.args.number c.close.new.self done.1,
     )))
 
 pub returns-in-Some-At : goal.returns-in-Some-At
@@ -40,6 +39,5 @@ returns-in-Some-At g c =
     (g.met.D.Disk.only_now _) c.requires.sound refl c.requires.sound.devices
     (λ part. rw (kept_at _ _ _ c.requires.in_range c.index_mut-control.ensures.value, opens) (decided_none refl (
       done.0,
-      rw c.release.ensures
-          (set_machine old.controls.items _ _ _ part c.args.number c.close-in-Some-At.new.self _ done.1),
+      rw c.release.ensures (set_machine old.controls.items _ _ _ part c.args.number c.close-in-Some-At.new.self done.1),
     )))

@@ -7,10 +7,9 @@ use Rattle.pos_counter.proofs.counter.Counter.control.Goals as goal
 pub returns-then-is_err-clause-sound : goal.returns-then-is_err-clause-sound
 returns-then-is_err-clause-sound g c =
     let old = c.args.self.now in
-    same_sound g.P.Peripheral old _
+    same_sound
     (λ part. ap (λ (hs : List KeptControl). machine_with hs old.claims (devices_in g.P.Peripheral old.devices)
-    old.totals_name part)
-    c.reserve.ensures.items) c.requires.sound c.requires.sound.devices
+    old.totals_name part) c.reserve.ensures.items) c.requires.sound c.requires.sound.devices
 
 pub returns-in-Ok : goal.returns-in-Ok
 returns-in-Ok g c =
@@ -31,16 +30,14 @@ returns-in-Ok g c =
           record (machine g.P.Peripheral old (part_with (with_place old.totals.totals) left failures)) {
             controls =
                 cs;
-          } in m)
-          (ap controls_of items ∙ map_push (λ (d : KeptControl). d.control) hs c.new.result
-          ∙ ap (λ (one : Control). controls_of hs ++ one ∷ []) c.new.ensures),
+          } in m) (ap controls_of items ∙ map_push (λ (d : KeptControl). d.control) hs c.new.result ∙ ap
+          (λ (one : Control). controls_of hs ++ one ∷ []) c.new.ensures),
     )) in
     record { step = served.step; sound = served.sound }
 
 pub returns-in-Err-clause-sound : goal.returns-in-Err-clause-sound
 returns-in-Err-clause-sound g c =
     let old = c.args.self.now in
-    same_sound g.P.Peripheral old _
+    same_sound
     (λ part. ap (λ (hs : List KeptControl). machine_with hs old.claims (devices_in g.P.Peripheral old.devices)
-    old.totals_name part)
-    c.reserve.ensures.items) c.requires.sound c.requires.sound.devices
+    old.totals_name part) c.reserve.ensures.items) c.requires.sound c.requires.sound.devices

@@ -12,6 +12,5 @@ pub returns-in-HardTotals : goal.returns-in-HardTotals
 returns-in-HardTotals g c part = rw c.in-HardTotals.is c.find_totals.ensures
 
 pub returns-in_default : goal.returns-in_default
-returns-in_default g c part = c.find_for.ensures
-    ∙ elsewhere (machine g.P.Peripheral c.args.self.now part) c.args.category c.args.name.now
-    c.in_default.not-HardTotals
+returns-in_default g c part = c.find_for.ensures ∙ elsewhere (machine g.P.Peripheral c.args.self.now part)
+    c.args.category c.args.name.now c.in_default.not-HardTotals

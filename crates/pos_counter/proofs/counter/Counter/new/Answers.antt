@@ -11,13 +11,11 @@ returns-in-Ok-new-clause-begins g c =
     let none = replicate (length (profile_devices entries)) None in
     let claims = c.in-Ok.ensures.claims ∙ ap (λ n. replicate n None) (sym (count_devices entries)) in
     record {
-      machine = λ part.
-          ap (λ (hs : List KeptControl). machine_with hs c.in-Ok.claims devices c.in-Ok.totals_name part)
-          c.new-in-Ok-new.ensures.items
-          ∙ ap (λ (cl : List (Option ℕ)). machine_with [] cl devices c.in-Ok.totals_name part) claims
-          ∙ ap (λ (ds : List Device). machine_with [] none ds c.in-Ok.totals_name part) c.in-Ok-new.ensures.vacant
-          ∙ ap (λ (tn : Option (List ℕ)). machine_with [] none (profile_devices entries) tn part)
-          c.in-Ok.ensures.name;
+      machine = λ part. ap (λ (hs : List KeptControl). machine_with hs c.in-Ok.claims devices c.in-Ok.totals_name part)
+          c.new-in-Ok-new.ensures.items ∙ ap (λ (cl : List (Option ℕ)). machine_with [] cl devices c.in-Ok.totals_name
+          part) claims ∙ ap (λ (ds : List Device). machine_with [] none ds c.in-Ok.totals_name part)
+          c.in-Ok-new.ensures.vacant ∙ ap (λ (tn : Option (List ℕ)). machine_with [] none (profile_devices entries) tn
+          part) c.in-Ok.ensures.name;
       totals = c.new-in-Ok-new-2.ensures;
     }
 
@@ -29,12 +27,9 @@ returns-in-Ok-new-clause-sound g c =
     let covers = ap length c.in-Ok.ensures.claims ∙ length-replicate (length (planned_of entries)) None
     ∙ sym (count_devices entries) ∙ ap length (sym c.in-Ok-new.ensures.vacant) in
     record {
-      machine = λ part. subst (λ (hs : List KeptControl). IsSound
-          (machine_with hs c.in-Ok.claims (devices_in g.P.Peripheral devices) c.in-Ok.totals_name part))
-          (sym c.new-in-Ok-new.ensures.items)
-          (record {
-            kinds = kinds_hold (registered g.P.Peripheral devices.registry) sound.registry.kinds
-                sound.registry.served;
+      machine = λ part. subst (λ (hs : List KeptControl). IsSound (machine_with hs c.in-Ok.claims
+          (devices_in g.P.Peripheral devices) c.in-Ok.totals_name part)) (sym c.new-in-Ok-new.ensures.items) (record {
+            kinds = kinds_hold (registered g.P.Peripheral devices.registry) sound.registry.kinds sound.registry.served;
             places = All-nil (HasItsDevice (devices_in g.P.Peripheral devices));
             covers = covers;
           });

@@ -9,7 +9,7 @@ returns g c =
     let n = c.args.number in
     let h = c.index_mut.result.now in
     let is = c.index_mut.ensures.value in
-    let same = kept_same old.controls.items n c.index.result.now h c.requires.in_range c.index.ensures is in
+    let same = kept_same old.controls.items h c.requires.in_range c.index.ensures is in
     let category = c.category.ensures ∙ ap (λ (kept : KeptControl). kept.control.category) same in
     stays_serves g.D.Disk g.P.Peripheral old _ _ _
     (g.met.D.Disk.only_now _) c.requires.sound refl c.requires.sound.devices
@@ -17,5 +17,5 @@ returns g c =
     let found = c.find_target-found.ensures part
     ∙ ap (λ k. found_under (machine g.P.Peripheral old part) k c.args.name.now) category in
     rw (kept_at old.controls.items n h c.requires.in_range is)
-    (decided_weaker (λ done. (done.0, set_machine _ _ _ _ part n c.open.new.self _ done.1))
-    (λ same. kept_machine _ _ _ _ part n c.open.new.self h same is) (rw found at c.open.ensures)))
+    (decided_weaker (λ done. (done.0, set_machine _ _ _ _ part n c.open.new.self done.1))
+    (λ same. kept_machine _ _ _ _ part n same is) (rw found at c.open.ensures)))

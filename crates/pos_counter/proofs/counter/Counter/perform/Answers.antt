@@ -1,6 +1,6 @@
 use Rattle.pos_counter.proofs.Common.{◌++◌, All, All-nil, All-push, HandsOut, IsRun, List, OffersInService, [], ap}
 use Rattle.pos_counter.proofs.Common.{append-nil, append_assoc, arith, length, length_push, nil_from_length, refl}
-use Rattle.pos_counter.proofs.Common.{request_of, response_of, reverse, reverse-append, reverse-reverse, rules}
+use Rattle.pos_counter.proofs.Common.{reverse, reverse-append, reverse-reverse, rules}
 use Rattle.pos_counter.proofs.Common.{steps_of, subst, suc, sym, ◌∙◌, ◌∷◌, ◌≡◌}
 use Rattle.pos_counter.proofs.RunLemmas.{runs_more, steps_push}
 use Rattle.pos_counter.proofs.counter.Counter.perform.Goals as goal
@@ -22,15 +22,14 @@ loop-request-init g c =
     )
 
 -- the next of those that wait
-next : {A : Type 0} (waiting rest : List A) (request : A) → waiting ≡ rest ++ request ∷ []
+next : {A : Type 0} {waiting : List A} (rest : List A) {request : A} → waiting ≡ rest ++ request ∷ []
     → reverse waiting ≡ request ∷ reverse rest
-next waiting rest request is = ap reverse is ∙ reverse-append rest (request ∷ [])
+next rest {request = request} is = ap reverse is ∙ reverse-append rest (request ∷ [])
 
 pub respond-response-requires-clause-in_service : goal.respond-response-requires-clause-in_service
 respond-response-requires-clause-in_service g c =
     let request = c.in-Some.request in
-    let waiting = subst (All (OffersInService g.P.Peripheral))
-    (next c.loop-request.waiting.items c.pop.new.self.items request c.in-Some.ensures.items)
+    let waiting = subst (All (OffersInService g.P.Peripheral)) (next c.pop.new.self.items c.in-Some.ensures.items)
     c.loop-request.invariant.1.in_service in
     waiting 0 request (omega arith)
 
@@ -41,7 +40,7 @@ loop-request-preserved g c =
     let response = c.respond-response.result in
     let responses = c.loop-request.responses.items in
     let rest = c.pop.new.self.items in
-    let order = next c.loop-request.waiting.items rest request c.in-Some.ensures.items in
+    let order = next rest c.in-Some.ensures.items in
     let waiting = subst (All (OffersInService g.P.Peripheral)) order before.in_service in
     let steps = ap (steps_of g.P.Peripheral (done ++ request ∷ [])) c.push_reserved.ensures.items
     ∙ steps_push g.P.Peripheral done responses request response before.whole in (
@@ -49,9 +48,8 @@ loop-request-preserved g c =
       record {
         all = before.all ∙ ap (λ xs. done ++ xs) order ∙ sym (append_assoc done (request ∷ []) (reverse rest));
         run = subst (λ xs. IsRun g.D.Disk g.P.Peripheral c.args.self.now xs c.respond-response.new.self) (sym steps)
-            (runs_more g.D.Disk g.P.Peripheral c.args.self.now c.loop-request.self c.respond-response.new.self
-            (steps_of g.P.Peripheral done responses) (request_of g.P.Peripheral request)
-            (response_of g.P.Peripheral response) before.run c.respond-response.ensures.step);
+            (runs_more g.D.Disk g.P.Peripheral c.args.self.now
+            (steps_of g.P.Peripheral done responses) before.run c.respond-response.ensures.step);
         whole = omega (
           arith,
           ap length c.push_reserved.ensures.items,

@@ -10,9 +10,9 @@ held_at : (claims : List (Option ℕ)) (area : Option ℕ) (device : Option Open
     → device ≡ Some (At place) → holder_in claims area device ≡ holder_at claims (open_place device)
 held_at claims area device place is = rw is refl
 
-freed_at : (m : Machine) (n : ℕ) (device : Option OpenDevice) (place : ℕ) → device ≡ Some (At place)
+freed_at : (m : Machine) (n : ℕ) {device : Option OpenDevice} {place : ℕ} → device ≡ Some (At place)
     → released device m n ≡ record m { claims = released_by m.claims (open_place device) n }
-freed_at m n device place is = rw is refl
+freed_at m n is = rw is refl
 
 pub returns-in-None : goal.returns-in-None
 returns-in-None g c =
@@ -21,7 +21,7 @@ returns-in-None g c =
     stays_serves g.D.Disk g.P.Peripheral old _ _ _
     (g.met.D.Disk.only_now _) c.requires.sound refl c.requires.sound.devices
     (λ part. rw (kept_at _ _ _ c.requires.in_range here) (decided_some (rw (← c.in-None.ensures)) refl
-    (kept_machine old.controls.items _ _ _ part c.args.number _ _ refl here)))
+    (kept_machine old.controls.items _ _ _ part c.args.number refl here)))
 
 pub returns-in-Some-Totals : goal.returns-in-Some-Totals
 returns-in-Some-Totals g c =
@@ -40,14 +40,12 @@ returns-in-Some-Totals g c =
     (λ left failures so.
     let devices = devices_in g.P.Peripheral old.devices in
     let now = part_with (record old.totals.totals { area = None }) left failures in
-    rw (kept_at _ _ _ c.requires.in_range here, held, frees) (decided_weaker
-    (λ done. (
+    rw (kept_at _ _ _ c.requires.in_range here, held, frees) (decided_weaker (λ done. (
       done.0,
       rw done.2 (set_machine old.controls.items old.claims devices old.totals_name now c.args.number
-          c.release_area.new.control _ done.1),
+          c.release_area.new.control done.1),
     ))
-    (λ same. rw same.1
-    (kept_machine old.controls.items _ devices _ _ c.args.number c.release_area.new.control _ same.0 here))
+    (λ same. rw same.1 (kept_machine old.controls.items _ devices _ _ c.args.number same.0 here))
     c.release_area.ensures.answer))
 
 pub returns-in-Some-At : goal.returns-in-Some-At
@@ -58,10 +56,9 @@ returns-in-Some-At g c =
     let device = c.index_mut-control.result.now.control.device in
     let frees : (m : Machine) → released device m c.args.number
     ≡ record m { claims = released_by m.claims (open_place device) c.args.number } =
-    λ m. freed_at m c.args.number device _ opens in
-    stays_serves g.D.Disk g.P.Peripheral old _ _ _
-    (g.met.D.Disk.only_now _) c.requires.sound refl c.requires.sound.devices
+    λ m. freed_at m c.args.number opens in
+    stays_serves g.D.Disk g.P.Peripheral old _ _ _ (g.met.D.Disk.only_now _) c.requires.sound refl
+    c.requires.sound.devices
     (λ part. rw (kept_at _ _ _ c.requires.in_range here, held_at _ _ _ _ opens, frees) (decided_weaker
-    (λ done. (done.0, rw done.2 (set_machine old.controls.items _ _ _ part c.args.number c.release.new.self _ done.1)))
-    (λ same. rw same.1 (kept_machine old.controls.items _ _ _ part c.args.number c.release.new.self _ same.0 here))
-    c.release.ensures))
+    (λ done. (done.0, rw done.2 (set_machine old.controls.items _ _ _ part c.args.number c.release.new.self done.1)))
+    (λ same. rw same.1 (kept_machine old.controls.items _ _ _ part c.args.number same.0 here)) c.release.ensures))

@@ -40,8 +40,7 @@ returns-in-Snapshot-clause-step g c =
       c.of_snapshot.ensures,
       (plain_snapshot g.P.Peripheral c.snapshot.result).same,
       ← c.as_slice-in-Snapshot.ensures,
-    )
-    (beside_is_step g.D.Disk g.P.Peripheral _ _ _ _ (g.met.D.Disk.only_now _) c.snapshot.ensures)
+    ) (beside_is_step g.D.Disk g.P.Peripheral _ _ _ _ (g.met.D.Disk.only_now _) c.snapshot.ensures)
 
 pub attach-requires-clause-unparked : goal.attach-requires-clause-unparked
 attach-requires-clause-unparked g c = rw c.in-Attach.is at c.requires.in_service

@@ -12,14 +12,12 @@ pub returns-in_err-slot : goal.returns-in_err-slot
 returns-in_err-slot g c =
     let slots = c.args.self.now.devices.registry.slots.items in
     let place = c.in_ok-place.place in
-    rw c.from_residual-in_err-slot.ensures
-    (sym (served_at g.P.Peripheral slots place c.args.device.now (sym c.find.ensures ∙ c.in_ok-place.was)
-    ∙ vacant_there slots place (sym c.in_err-slot.ensures)))
+    rw c.from_residual-in_err-slot.ensures (sym (served_at g.P.Peripheral slots place c.args.device.now
+    (sym c.find.ensures ∙ c.in_ok-place.was) ∙ vacant_there slots place (sym c.in_err-slot.ensures)))
 
 pub returns : goal.returns
 returns g c =
     let slots = c.args.self.now.devices.registry.slots.items in
     let place = c.in_ok-place.place in
-    c.as_ref.ensures.value
-    ∙ sym (served_at g.P.Peripheral slots place c.args.device.now (sym c.find.ensures ∙ c.in_ok-place.was)
-    ∙ filled_there slots place c.in_ok-slot.slot.now (sym c.in_ok-slot.ensures))
+    c.as_ref.ensures.value ∙ sym (served_at g.P.Peripheral slots place c.args.device.now
+    (sym c.find.ensures ∙ c.in_ok-place.was) ∙ filled_there slots place (sym c.in_ok-slot.ensures))

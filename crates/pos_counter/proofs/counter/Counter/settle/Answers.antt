@@ -11,9 +11,8 @@ loop-place-preserved g c =
     let place = c.loop-place.place in
     let one_more : suc place ≡ place + 1 = omega arith in
     record {
-      hosts = c.settle_at.ensures.hosts ∙ ap (changed_at settled_course place) c.loop-place.invariant.hosts
-          ∙ front_more settled_course place hosts
-          ∙ ap (λ n. changed_front settled_course n hosts) one_more;
+      hosts = c.settle_at.ensures.hosts ∙ ap (changed_at settled_course place) c.loop-place.invariant.hosts ∙ front_more
+          settled_course place hosts ∙ ap (λ n. changed_front settled_course n hosts) one_more;
       stays = record {
         machine = λ part. c.settle_at.ensures.stays.machine part ∙ c.loop-place.invariant.stays.machine part;
         totals = c.settle_at.ensures.stays.totals ∙ c.loop-place.invariant.stays.totals;
@@ -25,9 +24,7 @@ pub returns-clause-hosts : goal.returns-clause-hosts
 returns-clause-hosts g c =
     let slots = c.args.self.now.devices.registry.slots.items in
     let hosts = hosts_in g.P.Awaits.course c.args.self.now in
-    c.loop-place.invariant.hosts
-    ∙ front_all settled_course c.loop-place.place hosts
-    (omega (
+    c.loop-place.invariant.hosts ∙ front_all settled_course c.loop-place.place hosts (omega (
       arith,
       c.loop-place-test.false,
       c.count-place-end.ensures,
@@ -39,13 +36,11 @@ pub returns-clause-progress : goal.returns-clause-progress
 returns-clause-progress g c =
     let slots = c.args.self.now.devices.registry.slots.items in
     let hosts = hosts_in g.P.Awaits.course c.args.self.now in
-    ap (λ hs. progress_with (pending_of hs)) (c.loop-place.invariant.hosts
-    ∙ front_all settled_course c.loop-place.place hosts
-    (omega (
+    ap (λ hs. progress_with (pending_of hs)) (c.loop-place.invariant.hosts ∙ front_all settled_course c.loop-place.place
+    hosts (omega (
       arith,
       c.loop-place-test.false,
       c.count-place-end.ensures,
       length-map slots (λ s. device_of g.P.Peripheral s),
       length-map slots (λ s. host_of g.P.Awaits.course s),
-    )))
-    ∙ ap progress_with (settled_none hosts)
+    ))) ∙ ap progress_with (settled_none hosts)

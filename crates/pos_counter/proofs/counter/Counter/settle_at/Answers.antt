@@ -10,5 +10,4 @@ returns-else-is_served-clause-hosts g c =
 
 pub returns-then-is_served-clause-sound : goal.returns-then-is_served-clause-sound
 returns-then-is_served-clause-sound g c =
-    same_sound g.P.Peripheral c.args.self.now c.settle_at.new.self c.settle_at.ensures.same c.requires.sound
-    c.settle_at.ensures.sound
+    same_sound c.settle_at.ensures.same c.requires.sound c.settle_at.ensures.sound

@@ -19,10 +19,8 @@ pub returns-in-Ok-clause-sound : goal.returns-in-Ok-clause-sound
 returns-in-Ok-clause-sound g c =
     let old = c.args.self.now in
     record {
-      machine = λ part. torn_sound _ _ _
-          (on_hardware _ _ _ _ _ _ part c.in-Some.place _ (λ place. IsTorn) c.in-Some.ensures.0
-          (c.in-Ok.ensures.done old.controls.items))
-          (c.requires.sound.machine part);
+      machine = λ part. torn_sound (on_hardware _ _ _ _ _ _ part c.in-Some.place _ (λ place. IsTorn) c.in-Some.ensures.0
+          (c.in-Ok.ensures.done old.controls.items)) (c.requires.sound.machine part);
       devices = c.in-Ok.ensures.sound;
     }
 
@@ -38,5 +36,4 @@ returns-in-Err-clause-torn g c =
 pub returns-in-Err-clause-sound : goal.returns-in-Err-clause-sound
 returns-in-Err-clause-sound g c =
     let old = c.args.self.now in
-    same_sound g.P.Peripheral old c.tear_off.new.self
-    (c.in-Err.ensures.done old.controls.items) c.requires.sound c.in-Err.ensures.sound
+    same_sound (c.in-Err.ensures.done old.controls.items) c.requires.sound c.in-Err.ensures.sound

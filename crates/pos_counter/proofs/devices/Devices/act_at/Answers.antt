@@ -7,13 +7,11 @@ use Rattle.pos_counter.proofs.devices.Devices.act_at.Goals as goal
 
 pub returns-clause-hosts : goal.returns-clause-hosts
 returns-clause-hosts g c = hosts_with g.P.Awaits.course c.args.self.now.registry.slots c.args.place
-    c.serving-peripheral.result.now c.act_with.new.peripheral
     (course_after c.args.act) c.serving-peripheral.ensures.is c.act_with.ensures.course
 
 pub returns-clause-same : goal.returns-clause-same
 returns-clause-same g c =
     let old = devices g.P.Peripheral c.args.self.now.registry in
-    ap devices_of
-    (c.serving-peripheral.ensures.devices c.act_with.new.peripheral
-    ∙ ap (λ s. with_peripheral old c.args.place (Some s)) c.act_with.ensures.state
-    ∙ same_peripheral old c.args.place _ c.serving-peripheral.ensures.value)
+    ap devices_of (c.serving-peripheral.ensures.devices c.act_with.new.peripheral ∙ ap
+    (λ s. with_peripheral old c.args.place (Some s)) c.act_with.ensures.state ∙ same_peripheral old c.args.place
+    c.serving-peripheral.ensures.value)

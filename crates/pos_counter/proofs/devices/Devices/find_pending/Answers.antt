@@ -6,9 +6,8 @@ use Rattle.pos_profile.specs.Registries.{device_of}
 use Rattle.pos_counter.proofs.devices.Devices.find_pending.Goals as goal
 
 pub loop-place-preserved : goal.loop-place-preserved
-loop-place-preserved g c = none_more
-    (hosts_of g.P.Awaits.course (slots_in c.args.self.now)) c.loop-place.place c.loop-place.invariant
-    (sym c.is_pending.ensures ∙ c.if-is_pending.false)
+loop-place-preserved g c = none_more (hosts_of g.P.Awaits.course (slots_in c.args.self.now)) c.loop-place.place
+    c.loop-place.invariant (sym c.is_pending.ensures ∙ c.if-is_pending.false)
 
 pub returns-then-is_pending : goal.returns-then-is_pending
 returns-then-is_pending g c = record {
@@ -20,8 +19,7 @@ returns-then-is_pending g c = record {
 pub returns : goal.returns
 returns g c =
     let slots = c.args.self.now.registry.slots.items in
-    none_all g.P.Awaits.course slots c.loop-place.place c.loop-place.invariant
-    (omega (
+    none_all g.P.Awaits.course slots c.loop-place.invariant (omega (
       arith,
       c.loop-place-test.false,
       c.count-place-end.ensures,

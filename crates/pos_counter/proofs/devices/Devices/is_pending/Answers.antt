@@ -6,7 +6,7 @@ pub returns-in-Some : goal.returns-in-Some
 returns-in-Some g c =
     let slots = c.args.self.now.registry.slots.items in
     let at : slice_get slots c.args.place ≡ Some c.in-Some.slot.now = grind (arith, c.slot.ensures, c.in-Some.is) in
-    c.is_pending.ensures ∙ sym (slot_pends g.P.Awaits.course slots c.args.place c.in-Some.slot.now at)
+    c.is_pending.ensures ∙ sym (slot_pends g.P.Awaits.course slots c.args.place at)
 
 pub returns-in-None : goal.returns-in-None
 returns-in-None g c =

@@ -12,12 +12,10 @@ module _ (c : After-next_stamp-self-inside) where
 
   -- the disk afterwards
   becomes : memory_of c.self.inside.bytes.items c.self.inside.saved.items c.next_stamp-self-inside.new.stamps.items
-      c.next_stamp-self-inside.result
-      c.and-self-inside.result.moments ≡ synced shown
+      c.next_stamp-self-inside.result c.and-self-inside.result.moments ≡ synced shown
   becomes =
       let d = c.self.inside in
-      let is = memory_fresh d.bytes.items d.saved.items c.next_stamp-self-inside.new.stamps.items
-      c.next_stamp-self-inside.result
+      let is = memory_fresh d.saved.items c.next_stamp-self-inside.new.stamps.items
       c.and-self-inside.result.moments c.self.invariant.saved_length
       (c.next_stamp-self-inside.ensures.length ∙ c.self.invariant.stamps_length) c.next_stamp-self-inside.ensures.later
       in

@@ -15,14 +15,12 @@ module _ (c : After-overwrite) where
   fits = rw (← c.self.view_is) at c.requires
 
   saved : IsSaved c.self.inside.stamps.items c.self.inside.stamp c.self.inside.bytes.items c.args.at
-      (length c.args.bytes.now)
-      c.self.inside.saved.items c.save.new.saved.items
+      (length c.args.bytes.now) c.self.inside.saved.items c.save.new.saved.items
   saved = search rules
 
   -- the disk afterwards
   becomes : memory_of c.overwrite.new.bytes.items c.save.new.saved.items c.mark.new.stamps.items c.self.inside.stamp
-      c.and-self-inside.result.moments
-      ≡ written c.args.at c.args.bytes.now shown
+      c.and-self-inside.result.moments ≡ written c.args.at c.args.bytes.now shown
   becomes = grind (arith, is_written, length, fits, saved)
 
 pub invariant_of-self : goal.invariant_of-self

@@ -10,7 +10,7 @@ returns c =
     let characters = c.printed.result.1.now in
     let its : (added : List Item) → Added c.args.receipt.now.items c.args.self added
     → Behind marks characters c.args.self added =
-    λ added h. behind marks characters c.args.self added
+    λ added h. behind marks characters added
     (subst (λ (items : List Item). Added items c.args.self added) (sym c.printed.ensures.items) h) in
     let marks_fit : length marks < 2 ^ 64 = omega (arith, c.printed.type_inv) in
     let characters_fit : length characters < 2 ^ 64 = omega (arith, c.printed.type_inv) in
@@ -27,12 +27,11 @@ returns c =
         c.split_at.ensures.back_len,
         marks_fit,
       );
-      characters = λ added h.
-          omega (
-            arith,
-            (its added h).characters_within,
-            c.min-2.ensures,
-            c.split_at-2.ensures.back_len,
-            characters_fit,
-          );
+      characters = λ added h. omega (
+        arith,
+        (its added h).characters_within,
+        c.min-2.ensures,
+        c.split_at-2.ensures.back_len,
+        characters_fit,
+      );
     }

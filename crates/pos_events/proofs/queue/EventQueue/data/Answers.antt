@@ -4,6 +4,4 @@ use Rattle.pos_events.proofs.queue.EventQueue.data.Goals as goal
 pub returns-then-not-self-clause-enqueued : goal.returns-then-not-self-clause-enqueued
 returns-then-not-self-clause-enqueued c =
     rw (← c.self.view_is, c.push_back_reserved.ensures.items)
-    (one_more_scan c.self.inside.input_data c.self.inside.in_error c.self.inside.scans.items
-    c.self.inside.immediate.events.items
-    c.self.inside.immediate.behind c.args.scan c.self.invariant c.if-not-self.true)
+    (one_more_scan c.args.scan c.self.invariant c.if-not-self.true)

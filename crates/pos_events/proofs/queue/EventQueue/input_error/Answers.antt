@@ -4,7 +4,4 @@ use Rattle.pos_events.proofs.queue.EventQueue.input_error.Goals as goal
 pub returns-clause-enqueued : goal.returns-clause-enqueued
 returns-clause-enqueued c =
     let i = c.self.inside in
-    rw (← c.self.view_is)
-    (one_more_error i.input_data i.in_error c.is_empty.result i.scans.len i.scans.items i.immediate.events.items
-    i.immediate.behind
-    c.self.invariant c.if-self.false c.is_empty.ensures i.scans.ok.0)
+    rw (← c.self.view_is) (one_more_error i.input_data c.self.invariant c.if-self.false c.is_empty.ensures i.scans.ok.0)

@@ -16,11 +16,9 @@ pub new_spec : {M : Type 1} → stated.statement M
 new_spec 𝓤 𝓛 𝓜 𝓡 wired =
     let clauses = f.clauses 𝓛 𝓜.mem 𝓡.returns in
     empty.stated {n = 0} 𝓛 [] history.the_row clauses 𝓜 𝓡 key code.function (code.unfolded 𝓤 𝓛.H 𝓜 𝓡 wired)
-    (λ κs qs bounds a g are.
-    qed 𝓛 (raw (alive 𝓛 f.signature κs qs) ∷ ‵ (owns [] a tt) ∷ []) ∵ enter ! _ _ code.function [] _ $
-    alloc_all ! (λ l. pass_all ! refl are $ sets ! (agg ! (no_more !)) refl (tt, tt) $ returns !
+    (λ κs qs bounds a g are. qed 𝓛 (raw (alive 𝓛 f.signature κs qs) ∷ ‵ (owns [] a tt) ∷ []) ∵ enter ! _ _ code.function
+    [] _ $ alloc_all ! (λ l. pass_all ! refl are $ sets ! (agg ! (no_more !)) refl (tt, tt) $ returns !
     (look_at ! 0 refl) $ free_all ! refl $
-    suffices ! _ (empty.ends {n = 0} 𝓛 [] history.the_row clauses κs qs bounds a g made) $
-    says ! refl $ pure_i ! (history.the_row.own_val made (vstruct vnil ∷ [])) ((λ vss. (tt, tt)), tt)
-    ((tt, (refl, tt)), tt) $
-    move ! (1 ∷ 2 ∷ 0 ∷ []) $ done !))
+    suffices ! _ (empty.ends {n = 0} 𝓛 [] history.the_row clauses κs qs bounds a g made) $ says ! refl $ pure_i !
+    (history.the_row.own_val made (vstruct vnil ∷ [])) ((λ vss. (tt, tt)), tt) ((tt, (refl, tt)), tt) $ move !
+    (1 ∷ 2 ∷ 0 ∷ []) $ done !))

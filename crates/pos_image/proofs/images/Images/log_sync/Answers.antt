@@ -10,10 +10,8 @@ moments : (g : Over) (c : After-sync g) → g.D.Disk.honest c.args.self.now.disk
     (KeepsImage c.args.self.now (span_of c.args.self.now (g.D.Disk.state c.args.self.now.disk)))
 moments g c =
     let was = rw (← c.self.view_is) at c.requires in
-    rw (← c.self.view_is) (λ honest.
-    watched_image (was.held honest)
-    (watches_sync _ _ (λ f left. g.met.D.Disk.only_now c.self.inside.disk f honest left) _
-    (c.sync.ensures.syncs honest)))
+    rw (← c.self.view_is) (λ honest. watched_image (was.held honest) (watches_sync _ _
+    (λ f left. g.met.D.Disk.only_now c.self.inside.disk f honest left) _ (c.sync.ensures.syncs honest)))
 
 pub returns-in_err-sync-clause-any_moment : goal.returns-in_err-sync-clause-any_moment
 returns-in_err-sync-clause-any_moment g c = moments g (goal.at.returns-in_err-sync-clause-any_moment g c).After-sync

@@ -9,10 +9,8 @@ use Rattle.pos_image.proofs.images.Images.publish.Goals.{After-write_through}
 use Rattle.pos_image.proofs.images.Images.publish.Goals as goal
 
 module _ (g : Over) (c : After-write_through g) where
-  is_writable : IsWritable g.D.Disk
-      (images_of c.self.inside.disk c.self.inside.current.slot c.self.inside.current.body.items
-      c.self.inside.current.sequence
-      (prepared_image c.self.inside.prepared))
+  is_writable : IsWritable g.D.Disk (images_of c.self.inside.disk c.self.inside.current.slot
+      c.self.inside.current.body.items c.self.inside.current.sequence (prepared_image c.self.inside.prepared))
   is_writable = rw c.self.view_is c.requires.ready
 
   abbrev it : Prepared
@@ -26,9 +24,8 @@ module _ (g : Over) (c : After-write_through g) where
       → LeavesOnly (g.D.Disk.state c.args.self.now.disk) (g.D.Disk.state c.write_through.new.disk)
       (HasEither c.args.self.now (span_of c.args.self.now (g.D.Disk.state c.args.self.now.disk))
       (next_of c.args.self.now))
-  moments = rw (← c.self.view_is) (λ honest.
-      publish_leaves _ _ _ it next_is (is_writable.held honest) c.start.result c.start.ensures
-      (c.write_through.ensures.any_moment honest))
+  moments = rw (← c.self.view_is) (λ honest. publish_leaves _ _ _ it next_is (is_writable.held honest) c.start.result
+      c.start.ensures (c.write_through.ensures.any_moment honest))
 
   -- a write that succeeded opened the gate alone
   opened : g.D.Disk.honest c.self.inside.disk
@@ -39,9 +36,11 @@ module _ (g : Over) (c : After-write_through g) where
       × (is_open (g.D.Disk.state c.write_through.new.disk).reading (start it.slot) ≡ true)
   opened honest written =
       let here = places c.in-Some.next.slot in
-      opened_gate _ _ (start c.in-Some.next.slot)
-      (omega (arith, g.met.D.Disk.whole c.self.inside.disk honest, is_writable.large))
-      (rw c.start.ensures at written)
+      opened_gate _ _ (start c.in-Some.next.slot) (omega (
+        arith,
+        g.met.D.Disk.whole c.self.inside.disk honest,
+        is_writable.large,
+      )) (rw c.start.ensures at written)
 
 pub returns-in_err-write_through-clause-any_moment : goal.returns-in_err-write_through-clause-any_moment
 returns-in_err-write_through-clause-any_moment g c =

@@ -10,10 +10,8 @@ use Rattle.pos_image.proofs.images.Images.put_beside.Goals.{After-place_image}
 use Rattle.pos_image.proofs.images.Images.put_beside.Goals as goal
 
 module _ (g : Over) (c : After-place_image g) where
-  is_writable : IsWritable g.D.Disk
-      (images_of c.self.inside.disk c.self.inside.current.slot c.self.inside.current.body.items
-      c.self.inside.current.sequence
-      (prepared_image c.self.inside.prepared))
+  is_writable : IsWritable g.D.Disk (images_of c.self.inside.disk c.self.inside.current.slot
+      c.self.inside.current.body.items c.self.inside.current.sequence (prepared_image c.self.inside.prepared))
   is_writable = rw c.self.view_is c.requires.ready
 
   abbrev it : Prepared

@@ -31,10 +31,9 @@ module _ (g : Over) (c : After-write_through g) where
 pub returns-in_default-clause-appends : goal.returns-in_default-clause-appends
 returns-in_default-clause-appends g c =
     let here = (goal.at.returns-in_default-clause-appends g c).After-write_through in
-    rw (← c.self.view_is)
-    (failed_put g.D.Disk c.self.inside.images c.self.inside.tail c.args.group.now (is_ready g here) c.self.invariant.0
-    (fits g here) _ (puts g here)
-    c.write_through.new.images c.write_through.ensures.same
+    rw (← c.self.view_is) (failed_put g.D.Disk c.self.inside.images c.self.inside.tail c.args.group.now
+    (is_ready g here) c.self.invariant.0 (fits g here) _ (puts g here) c.write_through.new.images
+    c.write_through.ensures.same
     (λ honest. c.in_default.ensures.device honest (search rules)))
 
 module _ (g : Over) (c : After-write_through-2 g) where
@@ -47,20 +46,17 @@ module _ (g : Over) (c : After-write_through-2 g) where
   }
 
   same : c.write_through-2.new.images ≡ record c.self.inside.images { disk = c.write_through-2.new.images.disk }
-  same = c.write_through-2.ensures.same
-      ∙ ap (λ (im : View g.row.D.Denot). record im { disk = c.write_through-2.new.images.disk })
-      c.write_through.ensures.same
+  same = c.write_through-2.ensures.same ∙ ap (λ (im : View g.row.D.Denot). record im
+      { disk = c.write_through-2.new.images.disk }) c.write_through.ensures.same
 
 pub returns-in_default-write_through-clause-appends : goal.returns-in_default-write_through-clause-appends
 returns-in_default-write_through-clause-appends g c =
     let at = goal.at.returns-in_default-write_through-clause-appends g c in
     let here = at.After-write_through in
     let also = at.After-write_through-2 in
-    rw (← c.self.view_is)
-    (failed_open g.D.Disk c.self.inside.images c.self.inside.tail c.args.group.now (is_ready g here) c.self.invariant.0
-    (fits g here) _ (puts g here)
-    (rw (at_is g here, text_is g here) at c.in-Ok.ensures.written) _ (opens g also) c.write_through-2.new.images
-    (same g also)
+    rw (← c.self.view_is) (failed_open g.D.Disk c.self.inside.images c.self.inside.tail c.args.group.now
+    (is_ready g here) c.self.invariant.0 (fits g here) _ (puts g here) (rw (at_is g here, text_is g here) at
+    c.in-Ok.ensures.written) _ (opens g also) c.write_through-2.new.images (same g also)
     (λ honest. c.in_default-write_through.ensures.device honest (search rules)))
 
 pub returns-clause-appends : goal.returns-clause-appends
@@ -68,14 +64,11 @@ returns-clause-appends g c =
     let at = goal.at.returns-clause-appends g c in
     let here = at.After-write_through in
     let also = at.After-write_through-2 in
-    rw (← c.self.view_is)
-    (appended g.D.Disk c.self.inside.images c.self.inside.tail c.args.group.now (is_ready g here) c.self.invariant.0
-    (fits g here) _ (puts g here)
-    (rw (at_is g here, text_is g here) at c.in-Ok.ensures.written) _ (opens g also)
-    (rw c.write_through.ensures.same at c.in-Ok-write_through.ensures.written)
+    rw (← c.self.view_is) (appended g.D.Disk c.self.inside.images c.self.inside.tail c.args.group.now (is_ready g here)
+    c.self.invariant.0 (fits g here) _ (puts g here) (rw (at_is g here, text_is g here) at c.in-Ok.ensures.written) _
+    (opens g also) (rw c.write_through.ensures.same at c.in-Ok-write_through.ensures.written)
     c.write_through-2.new.images _ (same g also) (omega arith) c.in-Ok-write_through.ensures.ready
-    (λ honest. never_failed (g.D.Disk.state c.self.inside.images.disk)
-    (g.D.Disk.state c.write_through.new.images.disk) _ (c.in-Ok.ensures.counts honest))
+    (λ honest. never_failed (g.D.Disk.state c.self.inside.images.disk) (g.D.Disk.state c.write_through.new.images.disk)
+    (c.in-Ok.ensures.counts honest))
     (λ honest. never_failed (g.D.Disk.state c.write_through.new.images.disk)
-    (g.D.Disk.state c.write_through-2.new.images.disk) _
-    (c.in-Ok-write_through.ensures.counts honest)))
+    (g.D.Disk.state c.write_through-2.new.images.disk) (c.in-Ok-write_through.ensures.counts honest)))

@@ -17,12 +17,13 @@ module _ (g : Over) (c : After-read_records g) where
   -- what was read is the span
   read_is : g.D.Disk.honest c.args.images.disk → c.deref.result.now ≡ log_of (g.D.Disk.state c.args.images.disk).reading
   read_is honest =
-      let span = log_of (g.D.Disk.state c.args.images.disk).reading in
       let at : c.log_span-first.result.0 - log_place (layout_of c.args.images.slot) ≡ 0 = omega (arith, from_is) in
-      whole_read c.deref.result.now c.log_read.new.out c.in-Ok.buffer.items span c.in-Ok.buffer.len
-      (log_size (layout_of c.args.images.slot)) length_is
-      (omega (arith, c.log_read.auto.out, c.as_mut_slice.ensures.len, length_is))
-      (span_length (c.requires.sound honest).current) c.deref.ensures.value
+      whole_read c.in-Ok.buffer.items length_is (omega (
+        arith,
+        c.log_read.auto.out,
+        c.as_mut_slice.ensures.len,
+        length_is,
+      )) (span_length (c.requires.sound honest).current) c.deref.ensures.value
       (rw at at (c.in-Ok-log_read.ensures.bytes honest))
 
 pub returns-in-Err-clause-damaged : goal.returns-in-Err-clause-damaged

@@ -11,9 +11,9 @@ returns g c = λ calls honest.
     let is : IsMirror D old = rw c.earlier.view_is at c.earlier.invariant in
     let fits : length old.memory.present.reading ≤ length (D.state old.below).reading =
     omega (arith, is.fits, g.met.D.Disk.whole old.below honest) in
-    (calls_follow D old (D.state old.below).moment (mirror_state old).moment c.args.self.now calls (
+    (calls_follow D old (D.state old.below).moment (mirror_state old).moment calls (
       honest,
-      begins (D.state old.below) (mirror_state old) (mirror_state old).moment
+      begins
           (λ bytes. g.met.D.Disk.only_now old.below bytes honest) (omega arith)
           (counts_mirrored old (mirror_state old).moment) fits (is.shows honest).covers,
     )).1

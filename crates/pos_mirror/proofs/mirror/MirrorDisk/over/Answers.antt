@@ -26,9 +26,8 @@ invariant_of-result g c =
     let long : length c.read.new.out ≡ min (D.size c.args.below) c.args.most = grind (arith, common_steps) in
     let has : c.new.result ≡ fresh c.read.new.out = grind (arith, common_steps) in
     rw has (opened D g.met.D.Disk.whole g.met.D.Disk.only_now c.args.below c.sync.new.self c.read.new.self
-    c.deref_mut.result.now c.read.new.out
-    c.sync.result c.read.result synced read c.sync.ensures.honest c.read.ensures.honest c.sync.ensures.syncs
-    c.read.ensures.reads c.read.ensures.own
+    c.deref_mut.result.now c.read.new.out c.sync.result c.read.result synced read c.sync.ensures.honest
+    c.read.ensures.honest c.sync.ensures.syncs c.read.ensures.reads c.read.ensures.own
     (omega (arith, long, c.sync.ensures.size)) c.read.ensures.size)
 
 pub returns-clause-opens : goal.returns-clause-opens

@@ -1,8 +1,7 @@
-use Rattle.pos_disk.proofs.Common.{Ok, refl}
+use Rattle.pos_disk.proofs.Common.{refl}
 use Rattle.pos_mirror.proofs.CallLemmas.{reads_under}
 use Rattle.pos_mirror.proofs.mirror.MirrorDiskDisk.read.Goals as goal
 
 pub returns-clause-reads : goal.returns-clause-reads
 returns-clause-reads g c = λ honest.
-    rw (← c.self.view_is) (reads_under c.self.inside.failures c.self.invariant.last c.args.at c.read.new.out
-    (Ok tt) tt refl c.read.ensures)
+    rw (← c.self.view_is) (reads_under c.self.inside.failures c.self.invariant.last refl c.read.ensures)

@@ -7,23 +7,18 @@ use Rattle.pos_mirror.proofs.mirror.MirrorDiskDisk.write.Goals as goal
 
 pub invariant_of-self : goal.invariant_of-self
 invariant_of-self g c =
-    rw (c.if-self.true, c.count.ensures)
-    (lost_write g.D.Disk g.met.D.Disk.whole (rw c.if-self.true at c.self.invariant)
-    (rw (← c.self.view_is) at c.requires)
-    c.write.ensures.memory c.write.ensures.writes).0
+    rw (c.if-self.true, c.count.ensures) (lost_write g.D.Disk g.met.D.Disk.whole (rw c.if-self.true at c.self.invariant)
+    (rw (← c.self.view_is) at c.requires) c.write.ensures.memory c.write.ensures.writes).0
 
 pub returns-then-self-clause-writes : goal.returns-then-self-clause-writes
-returns-then-self-clause-writes g c = λ honest.
-    rw (← c.self.view_is, c.count.ensures)
-    (fails_under c.self.inside.failures c.self.invariant.last c.args.at c.args.bytes.now record {}
-    (spoils_of c.write.ensures.writes))
+returns-then-self-clause-writes g c = λ honest. rw (← c.self.view_is, c.count.ensures)
+    (fails_under c.self.inside.failures c.self.invariant.last record {} (spoils_of c.write.ensures.writes))
 
 pub returns-then-self-clause-own : goal.returns-then-self-clause-own
 returns-then-self-clause-own g c =
     let old = c.self.inside in
     let goes = lost_write g.D.Disk g.met.D.Disk.whole (rw c.if-self.true at c.self.invariant)
-    (rw (← c.self.view_is) at c.requires)
-    c.write.ensures.memory c.write.ensures.writes in
+    (rw (← c.self.view_is) at c.requires) c.write.ensures.memory c.write.ensures.writes in
     rw (← c.self.view_is, c.if-self.true, c.count.ensures) record {
       lost = λ lost. (refl, ap (λ m. mirror_of m old.below (counted old.failures) true) c.write.ensures.memory);
       done = tt;
@@ -34,25 +29,21 @@ returns-then-self-clause-own g c =
 pub invariant_of-self-then-is_ok : goal.invariant_of-self-then-is_ok
 invariant_of-self-then-is_ok g c =
     let done : c.write-2.result ≡ Ok tt = search rules in
-    rw c.if-self.false (written_on g.D.Disk g.met.D.Disk.whole
-    (rw c.if-self.false at c.self.invariant) c.write-2.ensures.size c.write-2.ensures.honest done refl
-    (rw (← c.self.view_is) at c.requires) c.write-2.ensures.writes c.write-2.ensures.own
-    c.write-then-is_ok.ensures.memory
+    rw c.if-self.false (written_on g.D.Disk g.met.D.Disk.whole (rw c.if-self.false at c.self.invariant)
+    c.write-2.ensures.size c.write-2.ensures.honest done refl (rw (← c.self.view_is) at c.requires)
+    c.write-2.ensures.writes c.write-2.ensures.own c.write-then-is_ok.ensures.memory
     c.write-then-is_ok.ensures.writes).0
 
 pub returns-then-is_ok-clause-writes : goal.returns-then-is_ok-clause-writes
-returns-then-is_ok-clause-writes g c = λ honest.
-    rw (← c.self.view_is) (writes_under c.self.inside.failures c.self.invariant.last c.args.at c.args.bytes.now
-    (Ok tt) tt refl c.write-then-is_ok.ensures.writes)
+returns-then-is_ok-clause-writes g c = λ honest. rw (← c.self.view_is) (writes_under c.self.inside.failures
+    c.self.invariant.last refl c.write-then-is_ok.ensures.writes)
 
 pub returns-then-is_ok-clause-own : goal.returns-then-is_ok-clause-own
 returns-then-is_ok-clause-own g c =
     let done : c.write-2.result ≡ Ok tt = search rules in
-    let goes = written_on g.D.Disk g.met.D.Disk.whole
-    (rw c.if-self.false at c.self.invariant) c.write-2.ensures.size c.write-2.ensures.honest done refl
-    (rw (← c.self.view_is) at c.requires) c.write-2.ensures.writes c.write-2.ensures.own
-    c.write-then-is_ok.ensures.memory
-    c.write-then-is_ok.ensures.writes in
+    let goes = written_on g.D.Disk g.met.D.Disk.whole (rw c.if-self.false at c.self.invariant) c.write-2.ensures.size
+    c.write-2.ensures.honest done refl (rw (← c.self.view_is) at c.requires) c.write-2.ensures.writes
+    c.write-2.ensures.own c.write-then-is_ok.ensures.memory c.write-then-is_ok.ensures.writes in
     rw (← c.self.view_is, c.if-self.false) record {
       lost = λ lost. absurd (cc);
       done = (
@@ -69,24 +60,20 @@ invariant_of-self-2 g c =
     let failed : c.write-2.result ≡ Err record {} = search rules in
     rw (c.count-2.ensures, c.is_err-self-inside.ensures.value, fault_is c.reread-again.result)
     (reread_on g.D.Disk g.met.D.Disk.whole (rw c.if-self.false at c.self.invariant)
-    (rw (← c.self.view_is) at c.requires) again.spoils failed
-    c.write-2.ensures.size again.size c.write-2.ensures.honest again.honest c.write-2.ensures.writes
-    c.write-2.ensures.own again.rereads).0
+    (rw (← c.self.view_is) at c.requires) again.spoils failed c.write-2.ensures.size again.size c.write-2.ensures.honest
+    again.honest c.write-2.ensures.writes c.write-2.ensures.own again.rereads).0
 
 pub returns-clause-writes : goal.returns-clause-writes
-returns-clause-writes g c = λ honest.
-    rw (← c.self.view_is, c.count-2.ensures)
-    (fails_under c.self.inside.failures c.self.invariant.last c.args.at c.args.bytes.now record {}
-    c.reread-again.ensures.spoils)
+returns-clause-writes g c = λ honest. rw (← c.self.view_is, c.count-2.ensures)
+    (fails_under c.self.inside.failures c.self.invariant.last record {} c.reread-again.ensures.spoils)
 
 pub returns-clause-own : goal.returns-clause-own
 returns-clause-own g c =
     let again = c.reread-again.ensures in
     let failed : c.write-2.result ≡ Err record {} = search rules in
     let goes = reread_on g.D.Disk g.met.D.Disk.whole (rw c.if-self.false at c.self.invariant)
-    (rw (← c.self.view_is) at c.requires) again.spoils failed
-    c.write-2.ensures.size again.size c.write-2.ensures.honest again.honest c.write-2.ensures.writes
-    c.write-2.ensures.own again.rereads in
+    (rw (← c.self.view_is) at c.requires) again.spoils failed c.write-2.ensures.size again.size c.write-2.ensures.honest
+    again.honest c.write-2.ensures.writes c.write-2.ensures.own again.rereads in
     rw (
       ← c.self.view_is,
       c.if-self.false,

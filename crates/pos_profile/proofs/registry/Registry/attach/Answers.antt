@@ -3,7 +3,7 @@ use Rattle.pos_profile.proofs.RegistryLemmas.{in_use, put_named}
 use Rattle.pos_profile.proofs.registry.Registry.attach.Goals as goal
 
 pub returns-then-is_some-clause-attaches : goal.returns-then-is_some-clause-attaches
-returns-then-is_some-clause-attaches g c = (in_use _ _ _ c.in-Some.ensures.named (grind arith), refl)
+returns-then-is_some-clause-attaches g c = (in_use c.in-Some.ensures.named (grind arith), refl)
 
 pub returns-then-not-is_same-clause-attaches : goal.returns-then-not-is_same-clause-attaches
 returns-then-not-is_same-clause-attaches g c =
@@ -13,7 +13,5 @@ pub returns-clause-puts : goal.returns-clause-puts
 returns-clause-puts g c = (
   c.in-Some.place,
   c.put.ensures.put,
-  put_named g.P.Peripheral c.args.self.now.slots.items c.put.new.self.slots.items c.args.name.now c.in-Some.place
-      c.args.peripheral
-      (sym c.in-Some.ensures.place) c.put.ensures.put,
+  put_named g.P.Peripheral c.put.new.self.slots.items c.args.peripheral (sym c.in-Some.ensures.place) c.put.ensures.put,
 )

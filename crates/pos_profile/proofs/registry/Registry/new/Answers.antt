@@ -4,5 +4,4 @@ use Rattle.pos_profile.proofs.registry.Registry.new.Goals as goal
 pub returns-clause-sound : goal.returns-clause-sound
 returns-clause-sound g c =
     let entries = c.args.profile.now.devices in
-    sound_planned g.P.Peripheral _ entries c.in-Ok.plan.items c.is_profile.ensures.devices c.in-Ok.ensures.planned
-    c.fill.ensures c.in-Ok.ensures.index
+    sound_planned entries c.is_profile.ensures.devices c.in-Ok.ensures.planned c.fill.ensures c.in-Ok.ensures.index

@@ -1,4 +1,4 @@
-use Rattle.pos_profile.proofs.Common.{Device, Some, arith, devices, devices_of, gets, length, refl, slice_get_within}
+use Rattle.pos_profile.proofs.Common.{Device, Some, arith, devices_of, gets, length, refl, slice_get_within}
 use Rattle.pos_profile.proofs.Common.{◌<◌}
 use Rattle.pos_profile.proofs.RegistryLemmas.{devices_count, devices_set, same_kind, sound_with}
 use Rattle.pos_profile.proofs.registry.Registry.put.Goals as goal
@@ -22,9 +22,8 @@ returns-clause-put g c =
 pub returns-clause-sound : goal.returns-clause-sound
 returns-clause-sound g c =
     let may = c.requires.may_serve in
-    sound_with g.P.Peripheral c.args.self.now _ c.args.place
-    (Some (g.P.Peripheral.state c.args.peripheral)) c.requires.sound refl
+    sound_with c.args.place (Some (g.P.Peripheral.state c.args.peripheral)) c.requires.sound refl
     (returns-clause-served g c) (λ (d : Device) at. (
       c.requires.unparked,
-      same_kind (devices g.P.Peripheral c.args.self.now) c.args.place (g.P.Peripheral.state c.args.peripheral) d may at,
+      same_kind may at,
     ))

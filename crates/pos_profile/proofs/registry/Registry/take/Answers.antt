@@ -16,5 +16,4 @@ returns-clause-vacated g c =
 
 pub returns-clause-sound : goal.returns-clause-sound
 returns-clause-sound g c =
-    sound_with g.P.Peripheral c.args.self.now _ c.args.place None c.requires.sound refl (returns-clause-vacated g c)
-    (λ (d : Device) at. tt)
+    sound_with c.args.place None c.requires.sound refl (returns-clause-vacated g c) (λ (d : Device) at. tt)

@@ -7,8 +7,7 @@ unreachable-requires g c =
     let list = c.args.self.now.peripherals.items in
     let place = c.args.number - 1 in
     let is : c.args.number ≡ suc place = omega (arith, c.requires.empty.1) in
-    no_box g.P.Peripheral list place c.args.number c.index_mut.result.now c.in-Some.field-0 is c.requires.empty
-    c.index_mut.ensures.value
+    no_box g.P.Peripheral list place is c.requires.empty c.index_mut.ensures.value
     (sym c.replace.ensures.value ∙ c.in-Some.is)
 
 pub returns-clause-spares : goal.returns-clause-spares
@@ -17,7 +16,7 @@ returns-clause-spares g c =
     let place = c.args.number - 1 in
     let is : c.args.number ≡ suc place = omega (arith, c.requires.empty.1) in
     rw c.replace.ensures.after (states_set g.P.Peripheral list place (Some c.args.peripheral)
-    ∙ with_is (states_in g.P.Peripheral list) c.args.number place (Some (g.P.Peripheral.state c.args.peripheral)) is)
+    ∙ with_is (states_in g.P.Peripheral list) (Some (g.P.Peripheral.state c.args.peripheral)) is)
 
 pub returns-clause-sound : goal.returns-clause-sound
 returns-clause-sound g c =

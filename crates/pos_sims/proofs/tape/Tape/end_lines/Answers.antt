@@ -5,8 +5,7 @@ use Rattle.pos_sims.proofs.TapeLemmas.{adds_more}
 use Rattle.pos_sims.proofs.tape.Tape.end_lines.Goals as goal
 
 pub returns-in-Err-clause-paper : goal.returns-in-Err-clause-paper
-returns-in-Err-clause-paper c = λ e.
-    past_front c.args.self.now.chars (work_of c.loop.self) _ (piece.LineEnd ∷ []) _ _ c.args.self.now.limit
+returns-in-Err-clause-paper c = λ e. past_front c.args.self.now.chars (work_of c.loop.self) (piece.LineEnd ∷ []) _
     (next_line c.args.count c.loop.counter c.loop-test.true) c.loop.invariant.work
     (grind (arith, c.in-Err.ensures.paper e, c.loop.invariant.adds))
 

@@ -58,15 +58,11 @@ module _ {M : Type 1} {𝓤 : Ura M} (𝓛 : Logic 𝓤) (mem : Memory → SProp
         (WpFn 𝓤 H C Λ code.function (before ∷ bytes ∷ []) ((walk_of 𝓛 f.ended stayed (f.clauses 𝓛 mem run)).post bound))
     walk fits_bytes =
         qed 𝓛 (raw (alive 𝓛 f.signature κs qs) ∷ ‵ passed ∷ []) ∵ enter ! C Λ code.function (before ∷ bytes ∷ []) _ $
-        alloc_all ! (λ l. pass_all ! refl
-        ((tt, tt), ((tt, (tt, (record { fits = fits_bytes }, tt))), tt)) $
-        sets ! (agg ! (no_more !)) refl (tt, tt) $
-        returns ! (look_at ! 0 refl) $ free_all ! refl $
-        suffices ! _ (ends_at 𝓛 f.ended stayed (f.clauses 𝓛 mem run) bound (vstruct vnil) made (tt, (tt, tt))
-        (tt, (tt, tt))) $
-        says ! refl $ pure_i ! (kept.the_row.own_val made (vstruct vnil ∷ [])) ((λ vss. (tt, tt)), tt)
-        ((tt, (refl, tt)), tt) $
-        move ! (1 ∷ 2 ∷ 0 ∷ []) $ done !)
+        alloc_all ! (λ l. pass_all ! refl ((tt, tt), ((tt, (tt, (record { fits = fits_bytes }, tt))), tt)) $ sets !
+        (agg ! (no_more !)) refl (tt, tt) $ returns ! (look_at ! 0 refl) $ free_all ! refl $ suffices ! _
+        (ends_at 𝓛 f.ended stayed (f.clauses 𝓛 mem run) bound (vstruct vnil) made (tt, (tt, tt)) (tt, (tt, tt))) $ says
+        ! refl $ pure_i ! (kept.the_row.own_val made (vstruct vnil ∷ [])) ((λ vss. (tt, tt)), tt) ((tt, (refl, tt)), tt)
+        $ move ! (1 ∷ 2 ∷ 0 ∷ []) $ done !)
 
   walks : Walks 𝓛 f.ended stayed (WpFn 𝓤 H C Λ code.function) (f.clauses 𝓛 mem run)
   walks =
@@ -75,8 +71,7 @@ module _ {M : Type 1} {𝓤 : Ura M} (𝓛 : Logic 𝓤) (mem : Memory → SProp
       (λ κs. let (self_life, (bytes_life, _)) = κs in (
         shr_Tells (named 0) self_life kept.the_row,
         (shr_slice_Tells (named 1) bytes_life u8, tt),
-      ))
-      (λ κs qs bounds a g are.
+      )) (λ κs qs bounds a g are.
       let (_, (bytes_are, _)) = are in let (known, _) = bytes_are in let (_, room) = known in let (fits, _) = room in
       via 𝓤 _ (fst∗ 𝓤 _ (emp 𝓤)) (walk κs qs a fits))
 

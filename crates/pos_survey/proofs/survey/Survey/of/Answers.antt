@@ -13,10 +13,7 @@ use Rattle.pos_survey.proofs.survey.Survey.of.Goals as goal
 pub returns-in_err-directory-clause-broken : goal.returns-in_err-directory-clause-broken
 returns-in_err-directory-clause-broken c =
     let p = err_from_is_err_and c.from_residual-in_err-directory.result c.from_residual-in_err-directory.ensures.1 in
-    let images = c.in_ok-images.images in
-    rw (p.1, p.2)
-    (no_files c.args.bytes.now images.body images.slot images.sequence c.in_err-directory.field-0.0
-    c.in_ok-images.ensures.current
+    rw (p.1, p.2) (no_files c.in_err-directory.field-0.0 c.in_ok-images.ensures.current
     c.in_err-directory.ensures.broken)
 
 pub returns-in_err-log-clause-broken : goal.returns-in_err-log-clause-broken
@@ -24,10 +21,9 @@ returns-in_err-log-clause-broken c =
     let p = err_from_is_err_and c.from_residual-in_err-log.result c.from_residual-in_err-log.ensures.1 in
     let images = c.in_ok-images.images in
     let read = c.in_ok-directory.ensures in
-    rw (p.1, p.2)
-    (long_record c.args.bytes.now images.body images.slot c.in_ok-directory.directory.files images.sequence
-    c.in_ok-images.ensures.current
-    read.directory read.spelled c.in_err-log.field-0.0 c.in_err-log.ensures.broken)
+    rw (p.1, p.2) (long_record c.args.bytes.now images.body images.slot c.in_ok-directory.directory.files
+    images.sequence c.in_ok-images.ensures.current read.directory read.spelled c.in_err-log.field-0.0
+    c.in_err-log.ensures.broken)
 
 pub returns-in_err-apply_texts-clause-broken : goal.returns-in_err-apply_texts-clause-broken
 returns-in_err-apply_texts-clause-broken c =
@@ -40,10 +36,8 @@ returns-in_err-apply_texts-clause-broken c =
     let first = log_begins images.slot in
     let texts = map (λ (t : Vec ℕ Global). t.items) c.in_ok-log.texts.items in
     let found = c.log_begins.ensures ∙ ap log_begins c.slot-slot.ensures in
-    rw (p.1, p.2)
-    (bad_record c.args.bytes.now images.body images.slot base images.sequence c.in_ok-images.ensures.current
-    read.directory read.spelled texts
-    c.in_ok-log.ensures.records fault
+    rw (p.1, p.2) (bad_record c.args.bytes.now images.body images.slot base images.sequence
+    c.in_ok-images.ensures.current read.directory read.spelled texts c.in_ok-log.ensures.records fault
     (rw (read.limits, found, c.deref.ensures.value) at c.in_err-apply_texts.ensures.broken))
 
 pub returns-clause-told : goal.returns-clause-told

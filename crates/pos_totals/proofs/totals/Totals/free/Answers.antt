@@ -6,12 +6,12 @@ use Rattle.pos_totals.specs.Views.{IsReady}
 use Rattle.pos_totals.proofs.totals.Totals.free.Goals as goal
 
 -- what is seen of totals that are ready are their files
-seen_files : (mode : Mode) (seen : List File) → IsReady mode → IsSeen mode (Some seen) → seen ≡ files_of mode
-seen_files Off seen ready is = absurd ready
-seen_files (Ready files sequence) seen ready is = is
+seen_files : (mode : Mode) {seen : List File} → IsReady mode → IsSeen mode (Some seen) → seen ≡ files_of mode
+seen_files Off ready is = absurd ready
+seen_files (Ready files sequence) ready is = is
 
 pub returns : goal.returns
 returns g c =
     let ready = rw (← c.self.view_is) at c.requires in
     rw (← c.self.view_is, c.measure_free.ensures, c.in-Some.ensures.layout)
-    (ap (free_data (totals_limits c.self.inside.holdings.layout)) (seen_files _ _ ready c.in-Some.ensures.seen))
+    (ap (free_data (totals_limits c.self.inside.holdings.layout)) (seen_files _ ready c.in-Some.ensures.seen))
