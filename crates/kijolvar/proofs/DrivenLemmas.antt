@@ -26,7 +26,7 @@ use Rattle.kijolvar.proofs.HeldLemmas.{each_behind, lines_behind}
 -- the lines of inputs behind the first of those that are held
 pub held_behind : {these those held : List (Vec ℕ Global)} → held ≡ behind_first these those → AreHeld these
     → AreHeld those → AreHeld held
-held_behind {these = these} {those = those} is each others =
+held_behind {these} {those} is each others =
     record { each = subst (All IsOneLine) (sym is) (each_behind these those each.each others.each) }
 
 -- what the till keeps, if it kept it before too
@@ -45,16 +45,18 @@ rest_from file failed profile orders is_driven rest = record {
 
 module _ (bound : DiskGhosts HostedDisk) (hosts : Device → Course) (peripherals : Ghosts Device) where
   -- lines go on, from the same
-  goes_from : {counter : Counter HostedDisk Device} (s : Session) {t : Session} {b d : Given} {ls : List (Vec ℕ Global)} (ms : List (Vec ℕ Global))
-      (new : TillState) → s ≡ t → b ≡ d
-      → ls ≡ ms → GoesOn bound hosts peripherals counter s b ls new → GoesOn bound hosts peripherals counter t d ms new
-  goes_from {counter = counter} s {b = b} {d = d} ms new same_session same_given same_lines go =
+  goes_from : {counter : Counter HostedDisk Device} (s : Session) {t : Session} {b d : Given} {ls : List (Vec ℕ Global)}
+      (ms : List (Vec ℕ Global)) (new : TillState)
+      → s ≡ t → b ≡ d → ls ≡ ms → GoesOn bound hosts peripherals counter s b ls new
+      → GoesOn bound hosts peripherals counter t d ms new
+  goes_from {counter} s {b} {d} ms new same_session same_given same_lines go =
       subst (λ (x : Session). GoesOn bound hosts peripherals counter x d ms new) same_session
       (subst (λ (x : Given). GoesOn bound hosts peripherals counter s x ms new) same_given
       (subst (λ (x : List (Vec ℕ Global)). GoesOn bound hosts peripherals counter s b x new) same_lines go))
 
   -- a device takes the report, whatever the till has beside its counter
-  reports_from : (is_done : Bool) {old same : Counter HostedDisk Device} (new : Counter HostedDisk Device) → same ≡ old → Stays peripherals same new
+  reports_from : (is_done : Bool) {old same : Counter HostedDisk Device} (new : Counter HostedDisk Device) → same ≡ old
+      → Stays peripherals same new
       → hosts_in hosts new ≡ changed_pending (reported_course is_done) (hosts_in hosts same)
       → IsReported hosts peripherals is_done old new
   reports_from is_done new is stays course =
@@ -71,7 +73,7 @@ module _ (bound : DiskGhosts HostedDisk) (hosts : Device → Course) (peripheral
       → GoesOn bound hosts peripherals reported (session_in peripherals begun)
       (given_to begun.answer) begun.held.items new
       → KeepsRest (record begun { counter = reported }) new → TakesDone bound hosts peripherals old inputs new
-  takes_done {old = old} {before = before} {begun = begun} {reported = reported} {new = new} these is begins stays course are inserted each go rest =
+  takes_done {old} {before} {begun} {reported} {new} these is begins stays course are inserted each go rest =
       let counter : begun.counter ≡ old.counter =
       ap (λ (k : TillState). k.counter) begins.stays ∙ ap (λ (k : TillState). k.counter) is in
       let session : session_in peripherals begun ≡ session_in peripherals old =
@@ -143,7 +145,7 @@ module _ (bound : DiskGhosts HostedDisk) (hosts : Device → Course) (peripheral
             mid.outcome;
       } → GoesOn bound hosts peripherals reported left between begun.held.items new → KeepsRest mid new → TakesFailure
       bound hosts peripherals old inputs new
-  takes_failure {old = old} {begun = begun} {fed = fed} {reported = reported} left between result {new = new} begins done all file stays course is go rest =
+  takes_failure {old} {begun} {fed} {reported} left between result {new} begins done all file stays course is go rest =
       record {
         fed = fed;
         session = left;
@@ -174,7 +176,7 @@ module _ (bound : DiskGhosts HostedDisk) (hosts : Device → Course) (peripheral
         outcome =
             mid.outcome;
       } → DropsHeld peripherals mid new → IsInStep (disk_of new) → CutsInputs bound hosts peripherals old inputs new
-  cuts_inputs {old = old} {begun = begun} {mid = mid} {fed = fed} result {new = new} {inputs = inputs} begins done cut file is drops in_step =
+  cuts_inputs {old} {begun} {mid} {fed} result {new} {inputs} begins done cut file is drops in_step =
       let counter : mid.counter ≡ fed = ap (λ (k : TillState). k.counter) is in
       let answer : given_to mid.answer ≡ given_to new.answer =
       sym (ap (λ (k : TillState). given_to k.answer) drops.stays) in

@@ -24,8 +24,7 @@ feed_splits front more free =
       whole,
       rest,
       ends_lines [] front free,
-      ends_rest [] front
-          free,
+      ends_rest [] front free,
     ) (ap (λ x. without_cr front ∷ x) (sym (two_parts (pieces 10 more))))
 
 -- a line without a line feed
@@ -36,7 +35,7 @@ end_alone (b ∷ bs) free some = rw (one_piece (b ∷ bs) free) refl
 -- the first line of a text is split off at its line feed
 pub splits_at_feed : {text : List ℕ} {count : ℕ} → count < length text → have_no_feed (take count text) ≡ true
     → get_or text count 0 ≡ 10 → SplitsOff text (count + 1)
-splits_at_feed {text = text} {count = count} within free feed =
+splits_at_feed {text} {count} within free feed =
     let front : take (count + 1) text ≡ take count text ++ 10 ∷ [] =
     take_more text count 0 within ∙ ap (λ b. take count text ++ b ∷ []) feed in
     record {
@@ -48,7 +47,7 @@ splits_at_feed {text = text} {count = count} within free feed =
 
 -- or it is the last
 pub splits_at_end : {text : List ℕ} → have_no_feed text ≡ true → 0 < length text → SplitsOff text (length text)
-splits_at_end {text = text} free some = record {
+splits_at_end {text} free some = record {
   line = text;
   one = rw (take_all (length text) text (omega arith)) (end_alone text free some);
   lines = rw (drop_all (length text) text (omega arith)) (end_alone text free some);

@@ -17,7 +17,7 @@ use Rattle.kijolvar.specs.declared.errands.Errand.TheVariants.{Sync, Write}
 
 -- time goes on under other counts of failures
 time_under : {old new : DiskState} (f g : ℕ) → Elapses old new → Elapses (with_failures old f) (with_failures new g)
-time_under {new = new} f g time = record {
+time_under {new} f g time = record {
   later = time.later;
   keeps = time.keeps;
   nothing_else = λ t bytes le left. ⊎_elim inl (λ may. inr (may_under new g bytes may))
@@ -81,7 +81,7 @@ pub writes_hosted : (old new : HostedDisk) {at : ℕ} {bytes : List ℕ} (said :
     → AddsIfHosted (IsWrite at bytes) old.work new.work answer
     → Writes (hosted_state old) (hosted_state new) at bytes answer
 writes_hosted old new (Err e) done writes adds = absurd (cc)
-writes_hosted old new {at = at} {bytes = bytes} (Ok u) {answer = answer} done writes adds = record {
+writes_hosted old new {at} {bytes} (Ok u) {answer} done writes adds = record {
   written = any_answer answer writes.written;
   same_length = writes.same_length;
   elsewhere = writes.elsewhere;

@@ -18,7 +18,7 @@ pub tells_next : {old mid new : TillState} (at_before at : ℕ) (before after : 
     → WritesOldest (errands_of (disk_of mid).work) at_before at before after needed_before needed code new.told
     → new ≡ record mid { told = new.told } → settlement_of old ≡ Owed → IsInStep (disk_of new)
     → WritesNext old at_before at before after needed_before needed code new
-tells_next {old = old} {mid = mid} {new = new} at_before at before after needed_before needed code does stays tells then owed is =
+tells_next {old} {mid} {new} at_before at before after needed_before needed code does stays tells then owed is =
     let here : disk_of new ≡ disk_of mid = ap disk_of then in
     let done : DoesTold old.told (disk_of old) (disk_of new) =
     subst (DoesTold old.told (disk_of old)) (sym here) does in
@@ -49,7 +49,7 @@ next_keeps InMemory peripherals at_before at before after needed_before needed c
     subst (IsTillSound peripherals) (sym told.stays) sound
 next_keeps Settled peripherals at_before at before after needed_before needed code (in_file, told) sound =
     subst (IsTillSound peripherals) (sym told.stays) sound
-next_keeps Owed peripherals at_before at before after needed_before needed code {new = new} told sound =
+next_keeps Owed peripherals at_before at before after needed_before needed code {new} told sound =
     subst (IsTillSound peripherals) (sym told.stays) (record {
       counter = sound_over (disk_of new) sound.counter;
       spares = sound.spares;

@@ -31,7 +31,7 @@ is_moved new (Err code) same moves rest file none = inl none
 pub isnt_moved : {bytes : List ℕ} {old : HostedDisk} (new : HostedDisk) {why : StoreFault} {code : ℕ}
     → old ≡ hosted (fresh bytes) (Some (no_work bytes))
     → MovesAny (hosted_state old) (hosted_state new) (Err why) → code ≡ move_code why → RefusesMove bytes code
-isnt_moved new {why = why} same moves told =
+isnt_moved new {why} same moves told =
     inr (inr (
       why,
       new,

@@ -17,11 +17,11 @@ module _ {D P : Type 0} (bound : DiskGhosts D) (peripherals : Ghosts P) where
   run_fixed old new [] same = ap (λ (c : Counter D P). bound.fixed c.totals.disk) same
   run_fixed old new (step ∷ steps) (mid, first, rest) = run_fixed mid new steps rest ∙ first.kept.fixed
 
-  finish_fixed : (old : Counter D P) {new : Counter D P} {session : Session} {lines : List (List ℕ)} {before after : Given}
-      {left : Session}
+  finish_fixed : (old : Counter D P) {new : Counter D P} {session : Session} {lines : List (List ℕ)}
+      {before after : Given} {left : Session}
       → Finishes (IsRun bound peripherals) old session lines before after left new
       → bound.fixed new.totals.disk ≡ bound.fixed old.totals.disk
-  finish_fixed old {new = new} done =
+  finish_fixed old {new} done =
       run_fixed old new done.transcript.steps done.transcript.run
 
   pub lines_fixed : {E : Type 0} (old new : Counter D P) (session : Session) (lines : List (List ℕ))

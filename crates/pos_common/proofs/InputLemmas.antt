@@ -19,7 +19,7 @@ pub scan_taken : (before after : PeripheralState) {i : Input} (place : ℕ) {old
     → input_fits before.kind i ≡ true → Fed before i (Ok taken.Scan) after → mid ≡ old → HasCopies i place mid copies
     → ((scan : Scan) → copies ≡ copies_from 0 scan place mid → new ≡ all_listening place (read scan) mid)
     → TakesIn i place old (hardware_of before) new (hardware_of after)
-scan_taken before after {i = i} place mid new fits fed same has all =
+scan_taken before after {i} place mid new fits fed same has all =
     let (scan, is) = scans i before.plant after.plant fed.answer in
     let read_now : new ≡ all_listening place (read scan) mid = all scan (rw is at has) in
     record {

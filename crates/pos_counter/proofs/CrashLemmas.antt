@@ -10,8 +10,8 @@ pub settled_twice : (layout : Layout) (left : List Standing) (mode : Mode)
 settled_twice layout left mode = grind arith
 
 -- what is settled otherwise is settled
-pub settles : (layout : Layout) (mode : Mode) {left : List Standing} (was : List Standing) → left ≡ settled layout mode was
-    → left ≡ settled layout mode left
+pub settles : (layout : Layout) (mode : Mode) {left : List Standing} (was : List Standing)
+    → left ≡ settled layout mode was → left ≡ settled layout mode left
 settles layout mode was is = grind arith
 
 -- what a crash leaves is said of the files that the totals have

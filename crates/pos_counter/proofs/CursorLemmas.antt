@@ -77,7 +77,7 @@ run_column run strip some le = grind (arith, mod_below)
 text_column : {columns : ℕ} (run bytes : List ℕ) (strip : Strip) → 0 < columns → strip.place.column ≤ columns
     → (with_text columns run bytes strip).place.column ≤ columns
 text_column run [] strip some le = run_column run strip some le
-text_column {columns = columns} run (b ∷ bytes) strip some le =
+text_column {columns} run (b ∷ bytes) strip some le =
     let within = λ (s : Strip). s.place.column ≤ columns in
     cond_both (b == 10) _ _ within
     (λ feeds. text_column [] bytes (fed (with_run columns run strip)) some (omega arith))

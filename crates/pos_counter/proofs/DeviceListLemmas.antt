@@ -61,9 +61,9 @@ served_at (d ∷ list) zero served is = (d, refl, is, served_kind d served.0 is)
 served_at (d ∷ list) (suc place) served is = served_at list place served.1 is
 
 -- what is done with what serves a device
-pub done_there : {hs gs : List KeptControl} (list : List Registered) {new : List Registered} (place : ℕ) (was now : PeripheralState)
-    (Does : Effect) → AllByRecursion IsServed list → standing_at list place ≡ Some was
-    → new ≡ with_peripheral list place (Some now)
+pub done_there : {hs gs : List KeptControl} (list : List Registered) {new : List Registered} (place : ℕ)
+    (was now : PeripheralState) (Does : Effect)
+    → AllByRecursion IsServed list → standing_at list place ≡ Some was → new ≡ with_peripheral list place (Some now)
     → Does (controls_of hs) (hardware_of was) (controls_of gs) (hardware_of now)
     → IsDoneAt (devices_of list) place Does hs gs (devices_of new)
 done_there list place was now Does served stands is does =

@@ -150,11 +150,11 @@ back_left a b c [] more run rest bytes h =
     (subst (λ r. IsLeftDuring b more c r bytes) (sym (subst_refl (λ n. Run n more c) rest)) h) run
 back_left a b c (s ∷ steps) more run rest bytes h = inr (back_left run.0 b c steps more run.2 rest bytes h)
 
-pub runs_on : {D P : Type 0} (bound : DiskGhosts D) (peripherals : Ghosts P) (first mid : Counter D P) {last : Counter D P}
-    (left : List Standing)
-    (steps more : List (Request × Response)) (runs : RunsFrom bound peripherals left first steps mid)
+pub runs_on : {D P : Type 0} (bound : DiskGhosts D) (peripherals : Ghosts P) (first mid : Counter D P)
+    {last : Counter D P} (left : List Standing) (steps more : List (Request × Response))
+    (runs : RunsFrom bound peripherals left first steps mid)
     → RunsFrom bound peripherals runs.after mid more last → RunsFrom bound peripherals left first (steps ++ more) last
-runs_on bound peripherals first mid {last = last} left steps more runs rest =
+runs_on bound peripherals first mid {last} left steps more runs rest =
     let A = machine peripherals first (part_of bound first.totals left) in
     let B = machine peripherals mid (part_of bound mid.totals runs.after) in
     let C = machine peripherals last (part_of bound last.totals rest.after) in

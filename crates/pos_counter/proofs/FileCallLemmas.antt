@@ -184,8 +184,7 @@ module _ {D : Type 0} (bound : DiskGhosts D) (old new : TotalsView D) (n : ℕ) 
     ];
     answer = λ left failures so. rw is (decided_weaker (λ done. (
       done.0,
-      ap (λ (t : Totals). part_with t left failures)
-          done.1,
+      ap (λ (t : Totals). part_with t left failures) done.1,
     )) (same_part left failures) arranged.answer);
   })
   calls_files (Err want) (Arranges arrangement) is takes arranged = absurd arranged

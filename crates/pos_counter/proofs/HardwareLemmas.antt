@@ -28,7 +28,7 @@ same_device ds place d before after at is same =
 -- the device at the place that a control has open has a peripheral, and may be called
 pub served_there : {m : Machine} {n : ℕ} {c : Control} (place : ℕ) → IsSound m → slice_get m.controls n ≡ Some c
     → c.device ≡ Some (At place) → MayBeCalled m.devices place m.controls n
-served_there {m = m} {n = n} {c = c} place sound found is =
+served_there {m} {n} {c} place sound found is =
     let (device, there, served) = matched (slice_get m.devices place) (IsServedFor c.category c.cursor.place)
     (rw is at (seated m n c sound found)) in
     let (fits, attached, on_it) = served in
@@ -61,8 +61,8 @@ let_refusals m n c asked own lets =
 -- ---- what is done with what stands at a place
 
 -- controls that were changed in place stand in the same list
-pub kept_in_place : {X Z : Type 0} (v : Vec X Z) {lent : List X} (now : List X) → lent ≡ v.items → length now ≡ length lent
-    → (with_items v now).items ≡ now
+pub kept_in_place : {X Z : Type 0} (v : Vec X Z) {lent : List X} (now : List X) → lent ≡ v.items
+    → length now ≡ length lent → (with_items v now).items ≡ now
 kept_in_place v now is count = with_items_is v now (omega (arith, count, ap length is, v.ok.0))
 
 module _ (hs gs : List KeptControl) (ds es : List Device) (cl : List (Option ℕ)) (tn : Option (List ℕ))
@@ -183,14 +183,14 @@ totals_let m n c asked is opens lets rest =
 -- what is true of the control with a number
 pub at_number : (controls : List Control) (n : ℕ) {c : Control} (Is : Control → Type 0) → slice_get controls n ≡ Some c
     → MatchOption (slice_get controls n) ⊥ Is → Is c
-at_number controls n {c = c} Is found is = MatchOption-at_some ⊥ Is c found is
+at_number controls n {c} Is found is = MatchOption-at_some ⊥ Is c found is
 
 -- ---- what holds a device
 
 -- the device at whose place an open control is has a claim
 pub covered : {m : Machine} (n : ℕ) {c : Control} → IsSound m → slice_get m.controls n ≡ Some c
     → IfSome (open_place c.device) (λ place. place < length m.claims)
-covered {m = m} n {c = c} sound found = by c.device (seated m n c sound found)
+covered {m} n {c} sound found = by c.device (seated m n c sound found)
   where
     by : (device : Option OpenDevice) → IsOpenFor m.devices c.category c.cursor.place device
         → IfSome (open_place device) (λ place. place < length m.claims)

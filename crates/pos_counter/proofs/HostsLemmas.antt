@@ -35,7 +35,7 @@ same_peripheral (device ∷ devices) (suc place) is =
 pub same_sound : {D P : Type 0} {peripherals : Ghosts P} {old : Counter D P} {devices : Devices P}
     → devices_in peripherals devices ≡ devices_in peripherals old.devices → IsCounterSound peripherals old
     → AreDevicesSound peripherals devices → IsCounterSound peripherals (record old { devices = devices })
-same_sound {old = old} {devices = devices} same sound are = record {
+same_sound {old} {devices} same sound are = record {
   machine = λ part. subst (λ ds. IsSound (machine_with old.controls.items old.claims ds old.totals_name part))
       (sym same) (sound.machine part);
   devices = are;
@@ -58,7 +58,7 @@ module _ {P : Type 0} (course_of : P → Course) where
       → hosts_of course_of (slice_set slots place (slot_with slot after)) ≡ changed_at change place
       (hosts_of course_of slots)
   set_there [] place change at is same = refl
-  set_there (first ∷ slots) zero {slot = slot} change at is same = rw (same_Some first slot at, is, same) refl
+  set_there (first ∷ slots) zero {slot} change at is same = rw (same_Some first slot at, is, same) refl
   set_there (first ∷ slots) (suc place) change at is same =
       ap (λ hs. host_of course_of first ∷ hs) (set_there slots place change at is same)
 
@@ -98,7 +98,7 @@ module _ {P : Type 0} (course_of : P → Course) where
   pub slot_pends : (slots : List (Slot P)) (place : ℕ) {slot : Slot P} → slice_get slots place ≡ Some slot
       → pends_at (hosts_of course_of slots) place ≡ has_pending (host_of course_of slot)
   slot_pends [] place at = grind (arith, at)
-  slot_pends (first ∷ slots) zero {slot = slot} at = ap (λ s. has_pending (host_of course_of s)) (same_Some first slot at)
+  slot_pends (first ∷ slots) zero {slot} at = ap (λ s. has_pending (host_of course_of s)) (same_Some first slot at)
   slot_pends (first ∷ slots) (suc place) at = slot_pends slots place at
 
   -- a place without a slot has no order
@@ -165,7 +165,7 @@ pub first_found : {P : Type 0} (course_of : P → Course) (slots : List (Slot P)
     → IsFirstPending (hosts_of course_of slots) place → slice_get slots place ≡ Some slot
     → slot.peripheral ≡ Some peripheral → pending_of (hosts_of course_of slots) ≡ Some (slot.name, course_of peripheral)
 first_found course_of [] place first at is = grind (arith, at)
-first_found course_of (s ∷ slots) zero {slot = slot} {peripheral = peripheral} first at is =
+first_found course_of (s ∷ slots) zero {slot} {peripheral} first at is =
     let same = same_Some s slot at in
     let pends : is_pending (course_of peripheral) ≡ true =
     subst (λ o. has_pending (slot.name, option_map course_of o) ≡ true) is
@@ -203,7 +203,7 @@ none_more hosts place before here lower below = ⊎_elim (λ less. before lower 
 pub none_all : {P : Type 0} (course_of : P → Course) (slots : List (Slot P)) {place : ℕ}
     → ((lower : ℕ) → lower < place → pends_at (hosts_of course_of slots) lower ≡ false) → length slots ≤ place
     → NonePending (hosts_of course_of slots)
-none_all course_of slots {place = place} before all any = ⊎_elim (λ less. before any less)
+none_all course_of slots {place} before all any = ⊎_elim (λ less. before any less)
     (λ reached. pends_past (hosts_of course_of slots) any
     (omega (arith, all, reached, length-map slots (λ s. host_of course_of s)))) (cases_lt any place)
 
@@ -331,7 +331,7 @@ module _ {P : Type 0} (peripherals : Ghosts P) (course_of : P → Course) where
       → registered_from at name (names_of (registered_of peripherals slots)) ≡ Some place
       → NamedFrom course_of slots at name place
   named_from [] at name found = grind (arith, found)
-  named_from (slot ∷ slots) at {place = place} name found =
+  named_from (slot ∷ slots) at {place} name found =
       named_or (bytes_eq name slot.name) slot slots at place name refl
       (λ later. named_from slots (at + 1) name later) found
 
@@ -357,7 +357,7 @@ module _ {P : Type 0} (peripherals : Ghosts P) (course_of : P → Course) where
       → registered_from 0 name (names_of (registered_of peripherals slots)) ≡ Some place
       → IsNamedAt name (hosts_of course_of slots) place
       × (course_named name (hosts_of course_of slots) ≡ option_map course_of (peripheral_at slots place))
-  named_there slots {place = place} name found =
+  named_there slots {place} name found =
       let (k, same, changes, course) = named_from slots 0 name found in
       let is : k ≡ place = omega (arith, same) in (
         λ change. subst (λ n. changed_named change name (hosts_of course_of slots) ≡ changed_at change n

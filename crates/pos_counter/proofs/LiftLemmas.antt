@@ -44,7 +44,7 @@ refused_undone (row ∷ rows) = cond_both row.applies (Some (Refused row.code ro
 -- a table refuses nothing, and its call is done, or its refusal acknowledges nothing
 pub decided_cases : {rows : List Row} {result : Answer} {Same Done : Type 0} → Decided rows result Same Done
     → ((first_refusal rows ≡ None) × Done) ⊎ (IsUndone (Answered result) × Same)
-decided_cases {rows = rows} d = elim (match_cases (first_refusal rows) _ _ d.outcome) [
+decided_cases {rows} d = elim (match_cases (first_refusal rows) _ _ d.outcome) [
   | inl x ↦ inl x
   | inr x ↦
       let (refusal, first, refused) = x in
@@ -66,7 +66,7 @@ kept_at hs n h lt is = control_at hs n h lt ∙ ap (λ (k : KeptControl). Some k
 -- it is one
 pub kept_same : (hs : List KeptControl) {n : ℕ} {h : KeptControl} (k : KeptControl) → n < length hs → h ≡ get_or hs n h
     → k ≡ get_or hs n k → h ≡ k
-kept_same hs {n = n} {h = h} k lt is also = is ∙ get_or_default hs n h k lt ∙ sym also
+kept_same hs {n} {h} k lt is also = is ∙ get_or_default hs n h k lt ∙ sym also
 
 -- the machine with one control in the place of another
 pub set_machine : (hs : List KeptControl) (cl : List (Option ℕ)) (ds : List Device) (tn : Option (List ℕ))
@@ -78,7 +78,7 @@ set_machine hs cl ds tn part n g e = search (rules, map-set)
 pub kept_machine : (hs : List KeptControl) (cl : List (Option ℕ)) (ds : List Device) (tn : Option (List ℕ))
     (part : TotalsPart) (n : ℕ) {g h : KeptControl}
     → g ≡ h → h ≡ get_or hs n h → machine_with (set hs n g) cl ds tn part ≡ machine_with hs cl ds tn part
-kept_machine hs cl ds tn part n {h = h} same is =
+kept_machine hs cl ds tn part n {h} same is =
     ap (λ (ks : List KeptControl). machine_with ks cl ds tn part) (ap (set hs n) (same ∙ is) ∙ set-get_or hs n h)
 
 -- a call that other rows decide, with the same refusal, is a step

@@ -29,7 +29,7 @@ pub torn_there : (list : List Registered) {new : List Registered} (place : ℕ) 
     → TearsOff was outcome now → (helds : List KeptControl)
     → MatchResult outcome (λ done. IsDoneAt (devices_of list) place IsTorn helds helds (devices_of new))
     (λ want. devices_of new ≡ devices_of list)
-torn_there list place {was = was} now (Ok done) served stands is torn helds =
+torn_there list place {was} now (Ok done) served stands is torn helds =
     done_there list place was now IsTorn served stands is (refl, ap hardware_of torn)
 torn_there list place now (Err want) served stands is same helds = ap devices_of
     (is ∙ ap (λ s. with_peripheral list place (Some s)) same ∙ same_peripheral list place stands)
@@ -46,7 +46,7 @@ same_at (host ∷ hosts) (suc place) = ap (λ hs. host ∷ hs) (same_at hosts pl
 
 -- a machine is sound behind it
 pub torn_sound : {m m' : Machine} {at : Option ℕ} → OnHardware m at (λ place. IsTorn) m' → IsSound m → IsSound m'
-torn_sound {m = m} torn sound = on_hardware_sound m (λ place. IsTorn) (λ place before new after stands does. record {
+torn_sound {m} torn sound = on_hardware_sound m (λ place. IsTorn) (λ place before new after stands does. record {
   kind = ap (λ (h : Hardware). h.kind) does.1;
   seats = λ all. rw does.0 all;
 }) torn sound

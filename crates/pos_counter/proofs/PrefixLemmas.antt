@@ -180,7 +180,7 @@ fits_start made is = search rules
 
 -- where the history fits, a crash leaves a prefix of it
 pub fits_leaves : {history : History} {totals : TotalsPart} → Fits history totals → LeavesPrefix history totals
-fits_leaves {history = history} fits standing is = elim (fits.around standing is) [
+fits_leaves {history} fits standing is = elim (fits.around standing is) [
   | inl w ↦ record {
     prefix = history.settled;
     first = (listed history.doubt, refl);

@@ -32,7 +32,7 @@ some_left P (standing ∷ left) each (inr is) = some_left P left (λ other one. 
 -- what bytes that are left stand for is a prefix
 pub bytes_after : {history : History} {totals : TotalsPart} {bytes : List ℕ} → Fits history totals
     → StandsForOneOf totals.left bytes → StandsForSome (IsPrefixOf history) bytes
-bytes_after {history = history} {totals = totals} fits is =
+bytes_after {history} {totals} fits is =
     some_left (IsPrefixOf history) totals.left (fits_leaves fits) is
 
 -- each moment of a run lies in one step
@@ -53,7 +53,7 @@ bytes_along history old (s ∷ steps) new run fits (inr is) =
 pub bytes_inside : {history : History} (old : Machine) (q : Request) (r : Response) (new : Machine) {bytes : List ℕ}
     → Fits history old.totals → Step old q r new → StandsForEither old.totals.left new.totals.left bytes
     → StandsForSome (IsPrefixInside history (history_with history old q r new)) bytes
-bytes_inside {history = history} old q r new fits step h =
+bytes_inside {history} old q r new fits step h =
     let inside = fits_inside history (event_of old q r new) fits (step_fits old q r new fits step) in
     elim h [
       | inl x ↦ some_left (IsPrefixInside history (history_with history old q r new)) old.totals.left

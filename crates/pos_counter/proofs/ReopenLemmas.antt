@@ -45,11 +45,11 @@ few_applied limits base files [] few is = subst (λ (fs : List PlainFile). lengt
 few_applied limits base files (text ∷ texts) few is =
     few_applied limits is.0 files texts (few_after_all limits base is.0 is.1.changes few is.1.outcome) is.2
 
-few_groups : (limits : Limits) (files : List PlainFile) {next : List PlainFile} (groups : List Group) → length files ≤ limits.files
-    → after_groups limits files groups ≡ Ok next → length next ≤ limits.files
+few_groups : (limits : Limits) (files : List PlainFile) {next : List PlainFile} (groups : List Group)
+    → length files ≤ limits.files → after_groups limits files groups ≡ Ok next → length next ≤ limits.files
 few_groups limits files [] few made =
     subst (λ (fs : List PlainFile). length fs ≤ limits.files) (same_Ok made) few
-few_groups limits files {next = next} (group ∷ groups) few made =
+few_groups limits files {next} (group ∷ groups) few made =
     let there = made_then (outcome_of_all limits files group) (λ mid. after_groups limits mid groups) next made in
     few_groups limits there.0 groups (few_after_all limits files there.0 group few there.1) there.2
 

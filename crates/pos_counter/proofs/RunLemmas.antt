@@ -40,11 +40,11 @@ left_beside a b c s more step run bytes h = grind (arith, left_first)
 
 module _ {D P : Type 0} (bound : DiskGhosts D) (peripherals : Ghosts P) where
   -- a run with one step more
-  pub runs_more : (a : Counter D P) {b c : Counter D P} (steps : List (machine.Request × machine.Response)) {q : machine.Request}
-      {r : machine.Response}
+  pub runs_more : (a : Counter D P) {b c : Counter D P} (steps : List (machine.Request × machine.Response))
+      {q : machine.Request} {r : machine.Response}
       → IsRun bound peripherals a steps b → IsStep bound peripherals b q r c
       → IsRun bound peripherals a (steps ++ (q, r) ∷ []) c
-  runs_more a {c = c} [] {q = q} {r = r} run next = (c, subst (λ m. IsStep bound peripherals m q r c) run next, refl)
+  runs_more a {c} [] {q} {r} run next = (c, subst (λ m. IsStep bound peripherals m q r c) run next, refl)
   runs_more a (s ∷ steps) run next = (run.0, run.1, runs_more run.0 steps run.2 next)
 
   -- a step is a run

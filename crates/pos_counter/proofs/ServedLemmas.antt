@@ -23,7 +23,7 @@ module _ {P : Type 0} (course_of : P → Course) where
       → IsFirstPending (hosts_of course_of slots) place → slice_get slots place ≡ Some slot
       → slot.peripheral ≡ Some peripheral → pending_peripheral course_of slots ≡ Some (slot.name, peripheral)
   first_pending [] place first at is = grind (arith, at)
-  first_pending (s ∷ slots) zero {slot = slot} {peripheral = peripheral} first at is =
+  first_pending (s ∷ slots) zero {slot} {peripheral} first at is =
       let same = same_Some s slot at in
       rw first.pends (subst (λ x. option_map {U = List ℕ × P} (λ found. (x.name, found)) x.peripheral ≡ Some
       (slot.name, peripheral)) (sym same) (ap (λ o. option_map {U = List ℕ × P} (λ found. (slot.name, found)) o) is))
@@ -37,7 +37,7 @@ vacant_there slots place at = ap (λ o. option_and_then (λ slot. slot.periphera
 
 pub filled_there : {P : Type 0} (slots : List (Slot P)) (place : ℕ) {slot : Slot P} → slice_get slots place ≡ Some slot
     → peripheral_at slots place ≡ slot.peripheral
-filled_there slots place {slot = slot} at = ap (λ o. option_and_then (λ slot. slot.peripheral) o) at
+filled_there slots place {slot} at = ap (λ o. option_and_then (λ slot. slot.peripheral) o) at
 
 module _ {P : Type 0} (peripherals : Ghosts P) where
   served_or : (b : Bool) {slot : Slot P} (slots : List (Slot P)) (at place : ℕ) (name : List ℕ)
@@ -55,7 +55,7 @@ module _ {P : Type 0} (peripherals : Ghosts P) where
       → registered_from at name (names_of (registered_of peripherals slots)) ≡ Some place
       → (k : ℕ) × (place ≡ at + k) × (served_named name slots ≡ peripheral_at slots k)
   served_from [] at name found = grind (arith, found)
-  served_from (slot ∷ slots) at {place = place} name found =
+  served_from (slot ∷ slots) at {place} name found =
       served_or (bytes_eq name slot.name) slots at place name refl
       (λ later. served_from slots (at + 1) name later) found
 

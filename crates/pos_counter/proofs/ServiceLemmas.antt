@@ -34,7 +34,7 @@ module _ {D P : Type 0} {peripherals : Ghosts P} {old new : Counter D P} where
       → AreDevicesSound peripherals new.devices → new.totals ≡ old.totals
       → ((part : TotalsPart) → Step (machine peripherals old part) q r (machine peripherals new part))
       → record { step : IsStepBeside peripherals old q r new; sound : IsCounterSound peripherals new }
-  steps_beside {q = q} {r = r} sound devices totals step =
+  steps_beside {q} {r} sound devices totals step =
       let part = part_with old.totals.totals [] 0 in
       record {
         step = record { step = step; totals = totals };

@@ -53,7 +53,7 @@ seated m n c s e = all_at (HasItsDevice m.devices) m.controls n c e s.places
 -- a control that has the Hard Totals open is one of theirs
 pub totals_category : {m : Machine} (n : ℕ) {c : Control} → IsSound m → slice_get m.controls n ≡ Some c
     → c.device ≡ Some TheTotals → c.category ≡ HardTotals
-totals_category {m = m} n {c = c} s found is = rw is at (seated m n c s found)
+totals_category {m} n {c} s found is = rw is at (seated m n c s found)
 
 -- a control with its device in the place of another
 pub with_control_sound : (m : Machine) (n : ℕ) (c : Control) → HasItsDevice m.devices c → IsSound m
@@ -136,7 +136,7 @@ hardware_sound : (m : Machine) {cs : List Control} {i : ℕ} {d : Device} (now :
     → slice_get m.devices i ≡ Some d → IfSome now (λ hardware. d.kind ≡ hardware.kind)
     → All (λ c. open_place c.device ≡ Some i → is_some now ≡ true) cs → All (HasItsDevice m.devices) cs → IsSound m
     → IsSound (record m { controls = cs; devices = slice_set m.devices i (record d { hardware = now }) })
-hardware_sound m {i = i} {d = d} now is kind stands seats s = record {
+hardware_sound m {i} {d} now is kind stands seats s = record {
   kinds = All-set HasItsKind m.devices i (record d { hardware = now })
       ((all_at HasItsKind m.devices i d is s.kinds).0, kind) s.kinds;
   places = λ k e lt. seat_with m.devices i now is _ _ _ (stands k e lt) (seats k e lt);
@@ -158,7 +158,7 @@ pub on_hardware_sound : (m : Machine) {m' : Machine} {at : Option ℕ} (Does : �
     → ((place : ℕ) (before : Hardware) (new : List Control) (after : Hardware) → StandsAt m.devices at before
     → Does place m.controls before new after
     → Keeps m.devices before m.controls after new) → OnHardware m at Does m' → IsSound m → IsSound m'
-on_hardware_sound m {at = at} Does keeps o s =
+on_hardware_sound m {at} Does keeps o s =
     let here : HasItsKind o.device = all_at HasItsKind m.devices o.place o.device o.is_device s.kinds in
     let kind : o.device.kind ≡ o.before.kind = rw o.is_attached at here.1 in
     let stands : StandsAt m.devices at o.before =
@@ -218,7 +218,7 @@ change_seat ds what c stays h = grind (arith, moved_seat)
 changes_keep : (ds : List Device) (what : ControlUpdate) (number : ℕ) {c : Control} (old new : List Control)
     → slice_get old number ≡ Some c → StaysOn (kind_in (device_at ds (open_place c.device))) c.cursor.place what
     → ChangesOne (changed what) number old new → All (HasItsDevice ds) old → All (HasItsDevice ds) new
-changes_keep ds what number {c = c} old new at stays h all =
+changes_keep ds what number {c} old new at stays h all =
     let same : new ≡ slice_set old number (changed what c) =
     MatchOption-at_some ⊥ (λ control. new ≡ slice_set old number (changed what control)) c at h in
     rw same (All-set (HasItsDevice ds) old number (changed what c) (change_seat ds what c stays
@@ -323,18 +323,18 @@ released_seat ds k c h = cond_both (is_exclusive k) (stopped c) c (HasItsDevice 
 -- a device that gets a peripheral of its kind keeps each control's device
 pub attached_sound : {m m' : Machine} {name : List ℕ} (hardware : Hardware) → IsAttached m name hardware m' → IsSound m
     → IsSound m'
-attached_sound {m = m} hardware o s =
+attached_sound {m} hardware o s =
     rw o.machine (hardware_sound m (Some hardware) o.is_device o.kind (λ k e lt opens. refl) s.places s)
 
 -- a control has the device open whose place it has
 opens_at : (device : Option OpenDevice) {place : ℕ} → open_place device ≡ Some place → is_at device place ≡ true
 opens_at None opens = absurd cc
-opens_at (Some (At at)) {place = place} opens = eq-eqb at place (same_Some at place opens)
+opens_at (Some (At at)) {place} opens = eq-eqb at place (same_Some at place opens)
 opens_at (Some TheTotals) opens = absurd cc
 
 -- a device that no control has open may lose its peripheral
-pub detached_sound : (m : Machine) {m' : Machine} {name : List ℕ} {hardware : Hardware} → IsDetached m name hardware m' → IsSound m
-    → IsSound m'
+pub detached_sound : (m : Machine) {m' : Machine} {name : List ℕ} {hardware : Hardware} → IsDetached m name hardware m'
+    → IsSound m → IsSound m'
 detached_sound m o s =
     rw o.machine (hardware_sound m None o.is_device tt
     (λ k e lt opens. absurd (false≢true (sym o.is_closed ∙ list_any_at (has_open o.place) m.controls k e lt

@@ -203,13 +203,13 @@ made_beside old category h = rw h (record {
   rest = record { layout = refl; mode = refl; left = refl };
 })
 
-attached_beside : (old : Machine) {new : Machine} {name : List ℕ} {hardware : Hardware} → IsAttached old name hardware new
-    → Beside old new
-attached_beside old {hardware = hardware} h =
+attached_beside : (old : Machine) {new : Machine} {name : List ℕ} {hardware : Hardware}
+    → IsAttached old name hardware new → Beside old new
+attached_beside old {hardware} h =
     record { sound = attached_sound hardware h; rest = rw h.machine (same_rest old.totals) }
 
-detached_beside : (old : Machine) {new : Machine} {name : List ℕ} {hardware : Hardware} → IsDetached old name hardware new
-    → Beside old new
+detached_beside : (old : Machine) {new : Machine} {name : List ℕ} {hardware : Hardware}
+    → IsDetached old name hardware new → Beside old new
 detached_beside old h =
     record { sound = detached_sound old h; rest = rw h.machine (same_rest old.totals) }
 
@@ -337,7 +337,7 @@ step_leaves old new r q h =
     )
 
 pub step_sound : {old new : Machine} (q : Request) (r : Response) → Step old q r new → IsSound old → IsSound new
-step_sound {old = old} {new = new} q r step = (step_leaves old new r q step).sound
+step_sound {old} {new} q r step = (step_leaves old new r q step).sound
 
 -- where a history fits, it goes on fitting
 pub step_fits : {history : History} (old : Machine) (q : Request) (r : Response) (new : Machine)

@@ -146,7 +146,7 @@ made_directory files was takes (Rewrites i old file at shape e) = rw (← e) (re
 -- A change that a group takes and that is applicable leaves the files of a directory.
 pub changed : {limits : Limits} {files next : List File} {change : Change} → IsDirectory limits files → IsChange change
     → outcome limits files change ≡ Ok next → IsDirectory limits next
-changed {files = files} {change = change} was takes h =
+changed {files} {change} was takes h =
     made_directory files was takes (makes change h)
 
 went_on : (r : Result (List File) DirectoryFault) {step : List File → Result (List File) DirectoryFault}
@@ -156,11 +156,11 @@ went_on (Ok mid) h = (mid, refl, h)
 went_on (Err fault) h = absurd cc
 
 -- So does a group.
-pub all_changed : {limits : Limits} (files : List File) {next : List File} (changes : List Change) → IsDirectory limits files
-    → AllByRecursion IsChange changes
-    → outcome_of_all limits files changes ≡ Ok next → IsDirectory limits next
-all_changed files {next = next} [] was each h = let e : files ≡ next = cc in rw (← e) was
-all_changed {limits = limits} files (change ∷ changes) was each h =
+pub all_changed : {limits : Limits} (files : List File) {next : List File} (changes : List Change)
+    → IsDirectory limits files → AllByRecursion IsChange changes → outcome_of_all limits files changes ≡ Ok next
+    → IsDirectory limits next
+all_changed files {next} [] was each h = let e : files ≡ next = cc in rw (← e) was
+all_changed {limits} files (change ∷ changes) was each h =
     let first = went_on (outcome limits files change) h in
     all_changed first.0 changes (changed was each.0 first.1) each.1 first.2
 

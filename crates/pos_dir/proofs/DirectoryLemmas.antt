@@ -99,7 +99,7 @@ length_files (file ∷ files) named =
 -- the spelling of a directory is no longer than a body may be
 pub length-spelling : {limits : Limits} {files : List File} → IsDirectory limits files
     → length (spelling files) ≤ body_limit limits
-length-spelling {files = files} h = omega (arith, length_files files h.named, h.count, h.size)
+length-spelling {files} h = omega (arith, length_files files h.named, h.count, h.size)
 
 -- the widths hold the limits of both layouts
 pub layout_1_writable : AreWritable LAYOUT_1

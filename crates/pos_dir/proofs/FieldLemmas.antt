@@ -57,7 +57,7 @@ pub step : {A B G : Type 0} {read : List ℕ → Option (A × List ℕ)} {spell 
     → Type 0} {next : A × List ℕ → Option B} {y : B}
     → IsReader read spell Fits → {bytes : List ℕ} → IsBytes bytes → (read bytes >>= next) ≡ Some y
     → (Step spell Fits bytes next y → G) → G
-step {spell = spell} reads {bytes = bytes} fits e proved =
+step {spell} reads {bytes} fits e proved =
     let (found, is_read, on) = bind_some _ e in
     let (x, rest) = found in
     let (parts, fit) = reads.takes bytes x rest fits is_read in
@@ -103,7 +103,7 @@ pub record IsWide (w : Width) (limit : ℕ) : Type 0 where
   pub below : (bytes : List ℕ) → IsBytes bytes → from_be_bytes w bytes < limit
 
 number_reads : {w : Width} {limit : ℕ} → IsWide w limit → IsReader (number_at w) (to_be_bytes w) (λ n. n < limit)
-number_reads {w = w} wide = record {
+number_reads {w} wide = record {
   takes = λ bytes n rest fits e.
       let front = take (byte_len w) bytes in
       let front_fits = IsBytes-take (byte_len w) bytes fits in

@@ -73,7 +73,7 @@ change_takes : (bytes : List ℕ) {x : Change} {rest : List ℕ} → IsBytes byt
     → (bytes ≡ change_spelling x ++ rest) × IsChange x
 unfolding change_at
 change_takes [] fits e = absurd cc
-change_takes (tag ∷ bytes) {x = x} {rest = rest} fits e = fields_take bytes x rest (λ i. fits (suc i)) e
+change_takes (tag ∷ bytes) {x} {rest} fits e = fields_take bytes x rest (λ i. fits (suc i)) e
 
 -- ---- what is spelled is read
 

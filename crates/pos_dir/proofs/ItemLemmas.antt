@@ -131,7 +131,7 @@ no_more read count i bytes le =
 pub front_first : {A : Type 0} (front : List A) (x : A) (read : Option (List A × List ℕ))
     → with_front front (with_first x read) ≡ with_front (front ++ x ∷ []) read
 front_first front x None = refl
-front_first {A = A} front x (Some others) = ap (λ (xs : List A). Some (xs, others.1)) (simp append_assoc)
+front_first {A} front x (Some others) = ap (λ (xs : List A). Some (xs, others.1)) (simp append_assoc)
 
 -- a file takes room from those behind it
 pub end_first : (room : ℕ) (file : File) (read : Option (List File × List ℕ))

@@ -102,14 +102,14 @@ makes (Create name size) h =
     Adds (record { name = name; bytes = replicate size 0 }) (λ flawless. grind (arith, nat_tests))
     (grind (arith, nat_tests)) (grind (arith, nat_tests))
     (grind (arith, nat_tests, length-replicate {A = ℕ} size 0)) (grind (arith, nat_tests))
-makes {files = files} (Delete index) h =
+makes {files} (Delete index) h =
     let at = found (slice_get files index) h in
     Removes index at.0 at.1 (cc (at.2))
-makes {files = files} (Rename index name) h =
+makes {files} (Rename index name) h =
     let at = found (slice_get files index) h in
     Renames index at.0 (record at.0 { name = name }) at.1 (λ flawless. grind (arith, nat_tests))
     (grind (arith, nat_tests, at.2)) refl (grind (arith, nat_tests, at.2))
-makes {limits = limits} {files = files} other h = rewrites limits files other _ refl h
+makes {limits} {files} other h = rewrites limits files other _ refl h
 
 -- want of memory is no fault of a change
 pub never_one : (limits : Limits) (files : List File) (change : Change) → outcome limits files change ≡ Err NoMemory → ⊥

@@ -62,7 +62,7 @@ choose_same loose ys long = ext_get_or 0 _ ys (length-choose loose ys ys long re
 pub none_bear : {stamp : ℕ} (stamps : List ℕ) → ((i : ℕ) → get_or stamps i 0 < stamp)
     → loose_by stamp stamps ≡ replicate (length stamps) false
 none_bear [] earlier = refl
-none_bear {stamp = stamp} (s ∷ stamps) earlier =
+none_bear {stamp} (s ∷ stamps) earlier =
     let other : (s == stamp) ≡ false = let below : s < stamp = earlier 0 in grind (arith, nat_tests) in
     ap (λ (b : Bool). b ∷ loose_by stamp stamps) other
     ∙ ap (λ (l : List Bool). false ∷ l) (none_bear stamps (λ i. earlier (suc i)))
@@ -71,7 +71,7 @@ none_bear {stamp = stamp} (s ∷ stamps) earlier =
 pub memory_fresh : {bytes : List ℕ} (saved stamps : List ℕ) {stamp : ℕ} (past : List Moment)
     → length saved ≡ length bytes → length stamps ≡ length bytes → ((i : ℕ) → get_or stamps i 0 < stamp)
     → memory_of bytes saved stamps stamp past ≡ record (fresh bytes) { past = past }
-memory_fresh {bytes = bytes} saved stamps {stamp = stamp} past saved_long long earlier =
+memory_fresh {bytes} saved stamps {stamp} past saved_long long earlier =
     let none : loose_by stamp stamps ≡ replicate (length bytes) false = rw (← long) (none_bear stamps earlier) in
     let size = length_settled bytes saved stamps stamp long saved_long in
     let settled : choose (loose_by stamp stamps) saved bytes ≡ bytes = ext_get_or 0 _ bytes size (λ i inside.

@@ -81,7 +81,7 @@ pub saved_at_once : {stamps : List ℕ} {stamp : ℕ} {bytes : List ℕ} (at : �
     → at + n ≤ length stamps → at + n ≤ length bytes → at + n ≤ length old
     → list_any (λ s. s == stamp) (part at n stamps) ≡ false
     → IsSaved stamps stamp bytes at n old (splice old at (part at n bytes))
-saved_at_once {stamps = stamps} {stamp = stamp} {bytes = bytes} at {n = n} {old = old} stamps_fit bytes_fit old_fit none =
+saved_at_once {stamps} {stamp} {bytes} at {n} {old} stamps_fit bytes_fit old_fit none =
     let new = part at n bytes in
     let long : length new ≡ n = length-part at n bytes bytes_fit in
     let fits : at + length new ≤ length old = omega (arith, long) in

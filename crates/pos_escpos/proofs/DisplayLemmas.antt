@@ -20,18 +20,19 @@ use Rattle.pos_escpos.specs.DisplayBytes.{row_start, rows_bytes, same_size}
 use Rattle.pos_escpos.specs.Screens.{IsShowing, Make, Screen, screen_after, takes}
 
 -- a row is written, and the rows behind it are left
-pub row_written : (is : DisplayProtocol) (columns y : ℕ) {n left : ℕ} (old new : List DisplayCell) (out : List ℕ) {next whole : List ℕ}
+pub row_written : (is : DisplayProtocol) (columns y : ℕ) {n left : ℕ} (old new : List DisplayCell) (out : List ℕ)
+    {next whole : List ℕ}
     → n ≡ suc left → next ≡ out ++ row_bytes is y (take columns old) (take columns new)
     → out ++ rows_bytes is columns y n old new ≡ whole
     → next ++ rows_bytes is columns (y + 1) left (drop columns old) (drop columns new) ≡ whole
-row_written is columns y {left = left} old new out more wrote h =
+row_written is columns y {left} old new out more wrote h =
     let rest = rows_bytes is columns (y + 1) left (drop columns old) (drop columns new) in
     ap (λ bytes. bytes ++ rest) wrote ∙ append_assoc out (row_bytes is y (take columns old) (take columns new)) rest
     ∙ ap (λ (k : ℕ). out ++ rows_bytes is columns y k old new) (sym more) ∙ h
 
 -- the cells of the rows that are left
 pub left_length : (rest columns : ℕ) {n left : ℕ} → n ≡ suc left → rest + columns ≡ n * columns → rest ≡ left * columns
-left_length rest columns {left = left} more h =
+left_length rest columns {left} more h =
     let whole : rest + columns ≡ suc left * columns = h ∙ ap (λ k. k * columns) more in omega arith
 
 -- a display of this size
@@ -89,11 +90,11 @@ takes_row : (is : DisplayProtocol) (rows : ℕ) {columns : ℕ} (row column : �
     → are_characters new ≡ true
     → screen_after (make_by is rows columns) (shown (front ++ (old ++ back)) (cursor_in columns row column)) new
     ≡ shown (front ++ (new ++ back)) (cursor_in columns row columns)
-takes_row is rows {columns = columns} row column front [] [] back same room at fit =
+takes_row is rows {columns} row column front [] [] back same room at fit =
     ap (λ k. shown (front ++ back) (cursor_in columns row k)) (omega arith)
 takes_row is rows row column front [] (b ∷ new) back same room at fit = let bad : ⊥ = omega arith in absurd bad
 takes_row is rows row column front (o ∷ old) [] back same room at fit = let bad : ⊥ = omega arith in absurd bad
-takes_row is rows {columns = columns} row column front (o ∷ old) (b ∷ new) back same room at fit =
+takes_row is rows {columns} row column front (o ∷ old) (b ∷ new) back same room at fit =
     let make = make_by is rows columns in
     let parts = and_parts (nat_le 32 b && nat_le b 126) (are_characters new) fit in
     let le = leb-true 32 b (and_parts (nat_le 32 b) (nat_le b 126) parts.0).0 in

@@ -23,7 +23,7 @@ abbrev pub on : Mechanism → Plant
 on its = record { powered = true; mechanism = its }
 
 is_on : {its : Mechanism} {plant : Plant} → (plant.powered ≡ true) × (plant.mechanism ≡ its) → plant ≡ on its
-is_on {plant = plant} (powered, is) =
+is_on {plant} (powered, is) =
     ap (λ powered. record { powered = powered; mechanism = plant.mechanism }) powered ∙ ap on is
 
 -- power is on then
@@ -48,13 +48,11 @@ lines_show : (sensors : SensorSettings) (level : PaperLevel)
     → paper_level sensors.near (lines_for sensors (level_shown sensors.near level)) ≡ level_shown sensors.near level
 lines_show sensors paper.Good =
     rw (ne_eqb sensors.lines 0 (λ e. omega (arith, sensors.more)), lt-leb sensors.lines sensors.near sensors.more) refl
-lines_show sensors paper.NearEnd = ⊎_elim
-    (λ (none : (sensors.near == 0) ≡ true). rw (
-      none,
-      ne_eqb sensors.lines 0 (λ e. omega (arith, sensors.more)),
-      lt-leb
-          sensors.lines sensors.near sensors.more,
-    ) refl)
+lines_show sensors paper.NearEnd = ⊎_elim (λ (none : (sensors.near == 0) ≡ true). rw (
+  none,
+  ne_eqb sensors.lines 0 (λ e. omega (arith, sensors.more)),
+  lt-leb sensors.lines sensors.near sensors.more,
+) refl)
     (λ (some : (sensors.near == 0) ≡ false). rw (some, some, le-leb sensors.near sensors.near (omega arith)) refl)
     (cases_Bool (sensors.near == 0))
 lines_show sensors paper.Empty = refl
@@ -70,7 +68,7 @@ loaded : (sensors : SensorSettings) {r : Printer} {level : PaperLevel} {new : Pl
     → paper_level sensors.near (lines_for sensors level) ≡ level
     → (new.powered ≡ true) × (new.mechanism ≡ mechanism.Printer (record r { left = lines_for sensors level }))
     → HasPaper sensors.near r level new
-loaded sensors {level = level} shows h = record {
+loaded sensors {level} shows h = record {
   lines = lines_for sensors level;
   plant = is_on h;
   level = shows;
@@ -79,20 +77,20 @@ loaded sensors {level = level} shows h = record {
 -- a printer that shows the level is left alone
 left_alone : (sensors : SensorSettings) (r : Printer) {level : PaperLevel} {new : Plant}
     → paper_level sensors.near r.left ≡ level → new ≡ on (mechanism.Printer r) → HasPaper sensors.near r level new
-left_alone sensors r {level = level} shows h = record { lines = r.left; plant = h; level = shows }
+left_alone sensors r {level} shows h = record { lines = r.left; plant = h; level = shows }
 
 level_taken : (sensors : SensorSettings) {r : Printer} (shown level : PaperLevel) {new : Plant}
     → paper_level sensors.near r.left ≡ shown → paper_level sensors.near (lines_for sensors level) ≡ level
     → TakesMaybe (level_input sensors shown level) (on (mechanism.Printer r)) new → HasPaper sensors.near r level new
-level_taken sensors {r = r} paper.Good paper.Good is shows h = left_alone sensors r is h
+level_taken sensors {r} paper.Good paper.Good is shows h = left_alone sensors r is h
 level_taken sensors paper.Good paper.NearEnd is shows h = loaded sensors shows h
 level_taken sensors paper.Good paper.Empty is shows h = loaded sensors shows h
 level_taken sensors paper.NearEnd paper.Good is shows h = loaded sensors shows h
-level_taken sensors {r = r} paper.NearEnd paper.NearEnd is shows h = left_alone sensors r is h
+level_taken sensors {r} paper.NearEnd paper.NearEnd is shows h = left_alone sensors r is h
 level_taken sensors paper.NearEnd paper.Empty is shows h = loaded sensors shows h
 level_taken sensors paper.Empty paper.Good is shows h = loaded sensors shows h
 level_taken sensors paper.Empty paper.NearEnd is shows h = loaded sensors shows h
-level_taken sensors {r = r} paper.Empty paper.Empty is shows h = left_alone sensors r is h
+level_taken sensors {r} paper.Empty paper.Empty is shows h = left_alone sensors r is h
 
 paper_taken : (sensors : SensorSettings) (r : Printer) (told : Option PaperLevel) {new : Plant}
     → TakesMaybe (paper_input sensors (paper_level sensors.near r.left) told) (on (mechanism.Printer r)) new
@@ -120,7 +118,7 @@ printer_shows sensors chars powered r status (turned_on, powers, (opened, moves,
 pub printer_told : (sensors : SensorSettings) (chars : ℕ) (old : Plant) {signs : Signs} (status : Status) (new : Plant)
     → let is = kind.Printer chars sensors.near in IsPlantOf is old → signs_of is old ≡ signs
     → TakesAll (printer_table sensors signs status) old new → signs_of is new ≡ printer_signs_after sensors signs status
-printer_told sensors chars old {signs = signs} status new fits is h =
+printer_told sensors chars old {signs} status new fits is h =
     let kind_is = kind.Printer chars sensors.near in
     (elim old.mechanism as (λ its. IsPlantOf kind_is (record { powered = old.powered; mechanism = its })
     → signs_by old.powered kind_is its ≡ signs
@@ -157,7 +155,7 @@ pub drawer_told : (sensors : SensorSettings) (old : Plant) {signs : Signs} (stat
     → IsPlantOf kind.Drawer old → signs_of kind.Drawer old ≡ signs
     → TakesAll (drawer_table sensors signs status) old new
     → signs_of kind.Drawer new ≡ drawer_signs_after sensors signs status
-drawer_told sensors old {signs = signs} status new fits is h =
+drawer_told sensors old {signs} status new fits is h =
     (elim old.mechanism as (λ its. IsPlantOf kind.Drawer (record { powered = old.powered; mechanism = its })
     → signs_by old.powered kind.Drawer its ≡ signs
     → TakesAll (drawer_table sensors signs status) (record { powered = old.powered; mechanism = its }) new

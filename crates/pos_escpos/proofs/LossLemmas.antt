@@ -181,10 +181,8 @@ no_reply (first ∷ more) reader (b ∷ bytes) none firsts short =
     (reads_none 0 (begun ++ b ∷ []) reader) (rw (
       not_first b parts.0,
       goes,
-      ne_eqb (length begun + 1) (reply_size first)
-          (λ e. omega arith),
-    ) refl)) ∙ no_reply (begun ++ b ∷ []) reader bytes none parts.1
-    (omega (arith, length-append more (b ∷ []))))
+      ne_eqb (length begun + 1) (reply_size first) (λ e. omega arith),
+    ) refl)) ∙ no_reply (begun ++ b ∷ []) reader bytes none parts.1 (omega (arith, length-append more (b ∷ []))))
     (λ (ends : goes_on first (length begun) b ≡ false). ap (λ r. r.replies)
     (first_step (with_begun begun reader) b bytes (reads_none (length begun + 1) [] reader)
     (rw (not_first b parts.0, ends) refl)) ∙ no_reply [] reader bytes none parts.1 tt)

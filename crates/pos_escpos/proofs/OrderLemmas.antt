@@ -118,7 +118,7 @@ both_fit columns xs ys first second = list_all-append (item_fits columns) xs ys 
 
 line_fits : {columns : ℕ} (a : Alignment) (cs : List PrintedCharacter) → list_all is_character cs ≡ true
     → length cs ≤ columns → all_fit columns (Line a cs ∷ []) ≡ true
-line_fits {columns = columns} a cs fine short = rw (le-leb (length cs) columns short, fine) refl
+line_fits {columns} a cs fine short = rw (le-leb (length cs) columns short, fine) refl
 
 characters_plain : (segment : List SegmentCharacter) → is_plain_segment segment ≡ true
     → list_all is_character (characters_of segment) ≡ true
@@ -159,9 +159,9 @@ chunks_fit (suc most) chars columns segment le some within fine = ⊎_elim
       short = rest.short;
     })) (cases_Bool (nat_le (length segment) chars))
 
-lines_fit : (chars : ℕ) {columns : ℕ} (at_end : Alignment) (segment : List SegmentCharacter) → 1 ≤ chars → chars ≤ columns
-    → is_plain_segment segment ≡ true → all_fit columns (lines_of chars at_end segment) ≡ true
-lines_fit chars {columns = columns} at_end segment some within fine =
+lines_fit : (chars : ℕ) {columns : ℕ} (at_end : Alignment) (segment : List SegmentCharacter) → 1 ≤ chars
+    → chars ≤ columns → is_plain_segment segment ≡ true → all_fit columns (lines_of chars at_end segment) ≡ true
+lines_fit chars {columns} at_end segment some within fine =
     let chunks = chunks_fit (length segment) chars columns segment (omega arith) some within fine in
     both_fit columns (chunks_of chars segment).items
     (Line at_end (chunks_of chars segment).buffer ∷ []) chunks.fits.items
@@ -170,12 +170,15 @@ lines_fit chars {columns = columns} at_end segment some within fine =
 begun_fit : {chars columns : ℕ} (at_end : Alignment) (segment : List SegmentCharacter) → 1 ≤ chars → chars ≤ columns
     → is_plain_segment segment ≡ true → all_fit columns (lines_if_begun chars at_end segment) ≡ true
 begun_fit at_end [] some within fine = refl
-begun_fit {chars = chars} at_end (s ∷ segment) some within fine =
+begun_fit {chars} at_end (s ∷ segment) some within fine =
     lines_fit chars at_end (s ∷ segment) some within fine
 
 after_fit : {columns : ℕ} (items : List Item) {made : Printout} → all_fit columns items ≡ true
     → FitsPrinter columns made → FitsPrinter columns (after_items items made)
-after_fit {columns = columns} items {made = made} fit h = record { items = both_fit columns items made.items fit h.items; buffer = h.buffer }
+after_fit {columns} items {made} fit h = record {
+  items = both_fit columns items made.items fit h.items;
+  buffer = h.buffer;
+}
 
 segment_push : (style : Style) (segment : List SegmentCharacter) (byte : ℕ) → is_plain_segment segment ≡ true
     → (nat_le 32 byte && nat_le byte 126) ≡ true → is_plain_segment (segment ++ in_style style byte ∷ []) ≡ true
@@ -191,19 +194,19 @@ neutral = plain
 pub pieces_fit : {chars columns : ℕ} (style : Style) (segment : List SegmentCharacter) (ps : List Piece) → 1 ≤ chars
     → chars ≤ columns
     → is_plain_segment segment ≡ true → are_plain ps ≡ true → FitsPrinter columns (printed_from chars style segment ps)
-pieces_fit {chars = chars} {columns = columns} style segment [] some within fine ok =
+pieces_fit {chars} {columns} style segment [] some within fine ok =
     (chunks_fit (length segment) chars columns segment (omega arith) some within fine).fits
 pieces_fit style segment (piece.Character byte ∷ ps) some within fine ok =
     let parts = and_parts (nat_le 32 byte && nat_le byte 126) (are_plain ps) ok in
     pieces_fit style (segment ++ in_style style byte ∷ []) ps some within
     (segment_push style segment byte fine parts.0) parts.1
-pieces_fit {chars = chars} style segment (piece.LineEnd ∷ ps) some within fine ok =
+pieces_fit {chars} style segment (piece.LineEnd ∷ ps) some within fine ok =
     after_fit (lines_of chars style.alignment segment) (lines_fit chars style.alignment segment some within fine)
     (pieces_fit style [] ps some within refl ok)
-pieces_fit {chars = chars} style segment (piece.Return ∷ ps) some within fine ok =
+pieces_fit {chars} style segment (piece.Return ∷ ps) some within fine ok =
     after_fit (lines_if_begun chars style.alignment segment) (begun_fit style.alignment segment some within fine)
     (pieces_fit style [] ps some within refl ok)
-pieces_fit {chars = chars} {columns = columns} style segment (piece.Cut n ∷ ps) some within fine ok =
+pieces_fit {chars} {columns} style segment (piece.Cut n ∷ ps) some within fine ok =
     after_fit (lines_if_begun chars style.alignment segment ++ CutAt n ∷ [])
     (both_fit columns (lines_if_begun chars style.alignment segment) (CutAt n ∷ [])
     (begun_fit style.alignment segment some within fine) refl) (pieces_fit style [] ps some within refl ok)

@@ -108,7 +108,7 @@ takes_item : (width : ℕ) {columns : ℕ} (press : Press) (paper : List OnPaper
     → press_after width (at_line press paper [] now false) (item_bytes cut item)
     ≡ at_line press (paper ++ on_paper cut item ∷ []) [] (alignment_after now item) false
 unfolding alignment_after
-takes_item width {columns = columns} press paper now cut (Line a cs) within fit =
+takes_item width {columns} press paper now cut (Line a cs) within fit =
     let parts = and_parts (nat_le (length cs) columns) (list_all is_character cs) fit in
     let most = leb-true (length cs) columns parts.0 in
     takes_line width press paper now a cs parts.1 (omega arith)
@@ -129,7 +129,7 @@ takes_items : {width columns : ℕ} (press : Press) (paper : List OnPaper) (now 
 unfolding alignment_at_end
 takes_items press paper now cut [] within fit =
     ap (λ p. at_line press p [] now false) (sym (append-nil paper))
-takes_items {width = width} {columns = columns} press paper now cut (item ∷ items) within fit =
+takes_items {width} {columns} press paper now cut (item ∷ items) within fit =
     let parts = and_parts (item_fits columns item) (all_fit columns items) fit in
     ap (press_after width (at_line press paper [] now false)) (flat_map-cons (item_bytes cut) item items) ∙ fold-append
     (takes width) (at_line press paper [] now false) (item_bytes cut item) (items_bytes cut items) ∙ ap

@@ -21,7 +21,7 @@ pub items_behind : (marks : List Mark) (characters : List PrintedCharacter) (bef
     → items_from (drop (length before) marks) (drop (line_characters before) characters) ≡ added
 items_behind marks characters [] is = is
 items_behind [] characters (item ∷ before) is = let bad : ⊥ = cc in absurd bad
-items_behind (mark.Line a n ∷ marks) characters (Line b line ∷ before) {added = added} is =
+items_behind (mark.Line a n ∷ marks) characters (Line b line ∷ before) {added} is =
     let same : line ≡ take n characters = cc in
     let rest : items_from marks (drop n characters) ≡ before ++ added = cc in
     let dropped : drop (length line + line_characters before) characters ≡ drop (line_characters before)
@@ -65,7 +65,7 @@ pub record Behind (marks : List Mark) (characters : List PrintedCharacter) (sent
 
 pub behind : (marks : List Mark) (characters : List PrintedCharacter) {sent : SentReceipt} (added : List Item)
     → Added (items_from marks characters) sent added → Behind marks characters sent added
-behind marks characters {sent = sent} added h =
+behind marks characters {sent} added h =
     let before = h.before in
     let many = ap length h.all in
     let chars = ap line_characters h.all in

@@ -71,7 +71,7 @@ status_fourth reader a b c d begins plain = rw (plain_not_first d plain, status_
 -- one reply behind so many bytes that were none
 one_reply : (reader next : Reader) (told : PrinterReply) {skipped : ℕ} → skipped ≡ length reader.begun
     → ReadsOne reader told next (record { replies = told ∷ []; skipped = skipped; reader = with_begun [] next })
-one_reply reader next told {skipped = skipped} is =
+one_reply reader next told {skipped} is =
     ap (λ k. record { replies = told ∷ []; skipped = k; reader = with_begun [] next }) is
 
 -- a whole automatic status is read

@@ -57,7 +57,7 @@ pub one_more_scan : {input_data in_error : Bool} {scans : List Scan} {immediate 
     → Fits input_data in_error scans immediate behind → in_error ≡ false
     → list_of input_data in_error (scans ++ scan ∷ []) immediate ≡ scanned scan
     (list_of input_data in_error scans immediate)
-one_more_scan {scans = scans} {immediate = immediate} scan fits none =
+one_more_scan {scans} {immediate} scan fits none =
     grind (
       arith,
       map-append Data scans (scan ∷ []),
@@ -94,5 +94,5 @@ pub one_more_error : (input_data : Bool) {in_error no_scans : Bool} {count : ℕ
     → Fits input_data in_error scans immediate behind → in_error ≡ false → no_scans ≡ (count == 0)
     → count ≡ length scans
     → list_of (not no_scans) true scans immediate ≡ input_failed (list_of input_data in_error scans immediate)
-one_more_error input_data {no_scans = no_scans} {scans = scans} {immediate = immediate} {behind = behind} fits none e n =
+one_more_error input_data {no_scans} {scans} {immediate} {behind} fits none e n =
     grind (arith, failed input_data (not no_scans) scans immediate behind)

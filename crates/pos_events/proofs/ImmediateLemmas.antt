@@ -40,7 +40,7 @@ pub record Removing (start rest : List PlacedEvent) (carried : ℕ) (now : List 
 pub removing_kept : {start rest now more : List PlacedEvent} {first placed : PlacedEvent} (carried : ℕ)
     → Removing start (first ∷ rest) carried now → now ≡ placed ∷ more → is_error placed.event ≡ false
     → Removing start rest 0 (more ++ record { before = carried + placed.before; event = placed.event } ∷ [])
-removing_kept {placed = placed} carried r e stays =
+removing_kept {placed} carried r e stays =
     let kept : PlacedEvent = record { before = carried + placed.before; event = placed.event } in
     record {
       done = r.done ++ kept ∷ [];
@@ -59,4 +59,4 @@ removing_error r e goes =
 -- while some are to be looked at, there are some
 pub removing_some : {start rest now : List PlacedEvent} {carried : ℕ} → Removing start rest carried now
     → length rest ≤ length now
-removing_some {rest = rest} r = omega (arith, ap length r.parts, length-append rest r.done)
+removing_some {rest} r = omega (arith, ap length r.parts, length-append rest r.done)

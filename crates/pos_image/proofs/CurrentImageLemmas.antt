@@ -43,7 +43,7 @@ pub kept_body : {old new body : List ℕ} {at n sequence : ℕ} {slot : Slot} �
     → ((i : ℕ) → InRange (start slot + 1) (12 + longest (layout_of slot)) i → ¬ (InRange at n i))
     → HasBody old slot body sequence → HasBody new slot body sequence
 unfolding length_at body_at
-kept_body {old = old} {new = new} {slot = slot} same whole outside has =
+kept_body {old} {new} {slot} same whole outside has =
     let here = places slot in
     let fits = has.fits in
     let long = ap (from_be_bytes w32)
@@ -91,7 +91,7 @@ OpensNone old new = (slot : Slot) → is_open new (start slot) ≡ true
 pub kept_away : {slot : Slot} {old new body : List ℕ} {sequence at n : ℕ} → IsCurrent old slot body sequence
     → SameBut at n old new → ((i : ℕ) → InRange (start slot) (log_place (layout_of slot)) i → ¬ (InRange at n i))
     → OpensNone old new → IsCurrent new slot body sequence
-kept_away {slot = slot} {old = old} {new = new} {body = body} {sequence = sequence} current same outside opens =
+kept_away {slot} {old} {new} {body} {sequence} current same outside opens =
     let here = places slot in
     let whole : 327680 ≤ length new = omega arith in
     let has : HasBody old slot body sequence = assumption in
@@ -104,7 +104,7 @@ kept_away {slot = slot} {old = old} {new = new} {body = body} {sequence = sequen
 
 -- what happens to a slot while an image is put into it opens none
 pub stage_opens : {target : Slot} {old new : List ℕ} → 327680 ≤ length old → Stages target old new → OpensNone old new
-stage_opens {target = target} {new = new} whole stages slot opened = elim (same_or_apart slot target) [
+stage_opens {target} {new} whole stages slot opened = elim (same_or_apart slot target) [
   | inl is ↦ let behind = stages.behind (rw is at opened) in
       rw is (behind.0, kept_sequence behind.1 target whole (omega arith))
   | inr apart ↦
@@ -116,7 +116,7 @@ stage_opens {target = target} {new = new} whole stages slot opened = elim (same_
 -- so it leaves the current image in another slot
 pub stage_current : {slot target : Slot} {old new body : List ℕ} {sequence : ℕ} → IsApart slot target
     → IsCurrent old slot body sequence → Stages target old new → IsCurrent new slot body sequence
-stage_current {slot = slot} apart current stages =
+stage_current {slot} apart current stages =
     let here = places slot in
     kept_away current stages.same (omega arith) (stage_opens current.whole stages)
 
@@ -125,7 +125,7 @@ pub published : {slot : Slot} {it : Prepared} {old new body : List ℕ} {sequenc
     → HasPrepared old slot sequence it
     → SameBut (start it.slot) 1 old new → is_open new (start it.slot) ≡ true → IsCurrent new it.slot it.body it.sequence
 unfolding layout_on
-published {slot = slot} {it = it} {old = old} {new = new} {sequence = sequence} current prepared same opened =
+published {slot} {it} {old} {new} {sequence} current prepared same opened =
     let was : HasBody old it.slot it.body it.sequence = assumption in
     let has = kept_body same current.whole (omega arith) was in
     let kept : (s : Slot) → IsApart s it.slot
@@ -153,7 +153,7 @@ published {slot = slot} {it = it} {old = old} {new = new} {sequence = sequence} 
 -- the first gate of its log stays 0
 pub published_log : {target : Slot} {old new body : List ℕ} {sequence : ℕ} → IsPrepared old target body sequence
     → SameBut (start target) 1 old new → get_or new (start target + log_place (layout_of target)) 0 ≡ 0
-published_log {target = target} prepared same = let here = places target in
+published_log {target} prepared same = let here = places target in
     same.elsewhere _ (omega arith) ∙ prepared.log
 
 -- Of the two slots of its layout this one is chosen, and there is no tie.
@@ -181,12 +181,12 @@ chosen_stands bytes slot whole chosen =
 -- the slot of the current image is chosen
 pub current_chosen : {slot : Slot} {bytes body : List ℕ} {sequence : ℕ} → IsCurrent bytes slot body sequence
     → IsChosen bytes slot
-current_chosen {slot = slot} {bytes = bytes} current = grind arith
+current_chosen {slot} {bytes} current = grind arith
 
 -- the bytes stand for the current image
 pub current_stands : {slot : Slot} {bytes body : List ℕ} {sequence : ℕ} → IsCurrent bytes slot body sequence
     → ShowsImage (layout_of slot) body sequence bytes
-current_stands {slot = slot} {bytes = bytes} current =
+current_stands {slot} {bytes} current =
     chosen_stands bytes slot current.whole (current_chosen current) ∙ rw (
       le-leb (length_at bytes (start slot)) (longest (layout_of slot)) current.fits,
       current.body_is,
@@ -197,4 +197,4 @@ current_stands {slot = slot} {bytes = bytes} current =
 pub found_current : {slot : Slot} {bytes body : List ℕ} {sequence size : ℕ} → 327680 ≤ length bytes
     → IsFound bytes slot sequence size → body ≡ part (start slot + 13) size bytes → IsCurrent bytes slot body sequence
 unfolding body_at
-found_current {slot = slot} {bytes = bytes} {body = body} whole found is = grind arith
+found_current {slot} {bytes} {body} whole found is = grind arith

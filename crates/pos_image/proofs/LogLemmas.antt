@@ -9,7 +9,7 @@ use Rattle.pos_image.proofs.PlaceLemmas.{IsApart, places}
 pub log_here : {slot : Slot} {bytes body : List ℕ} {sequence : ℕ} → IsCurrent bytes slot body sequence
     → log_of bytes ≡ log_in bytes slot
 unfolding log_of
-log_here {bytes = bytes} current = ap (log_in bytes) (current_chosen current).place
+log_here {bytes} current = ap (log_in bytes) (current_chosen current).place
 
 -- the current image with its log
 pub image_here : {slot : Slot} {bytes body : List ℕ} {sequence : ℕ} → IsCurrent bytes slot body sequence
@@ -20,7 +20,7 @@ image_here current = record { image = current_stands current; log = refl }
 pub kept_image : {slot target : Slot} {old new body : List ℕ} {sequence : ℕ} → IsApart slot target
     → IsCurrent old slot body sequence
     → Stages target old new → HasImage (layout_of slot) body sequence (log_of old) new
-kept_image {slot = slot} apart was stages =
+kept_image {slot} apart was stages =
     let is = stage_current apart was stages in
     let here = places slot in
     let whole = was.whole in
@@ -31,7 +31,7 @@ kept_image {slot = slot} apart was stages =
 -- a new image, whose log has 0 in its first gate
 pub new_image : {slot : Slot} {bytes body : List ℕ} {sequence : ℕ} → IsCurrent bytes slot body sequence
     → get_or bytes (start slot + log_place (layout_of slot)) 0 ≡ 0 → HasNewImage (layout_of slot) body sequence bytes
-new_image {slot = slot} {bytes = bytes} current shut =
+new_image {slot} {bytes} current shut =
     let at = start slot + log_place (layout_of slot) in
     let first = get_or-part at (log_size (layout_of slot)) bytes 0 at (omega arith) (places slot).some in
     record { image = current_stands current; log = rw (log_here current) (first ∙ shut) }

@@ -95,7 +95,7 @@ pub spans_agree : {slot : Slot} {old new body : List ℕ} {sequence : ℕ} → I
     → IsCurrent new slot body sequence → (i : ℕ)
     → (i < log_size (layout_of slot) → get_or new (log_start slot + i) 0 ≡ get_or old (log_start slot + i) 0)
     → get_or (log_of new) i 0 ≡ get_or (log_of old) i 0
-spans_agree {slot = slot} was is i agree =
+spans_agree {slot} was is i agree =
     grind (
       arith,
       cases_lt i (log_size (layout_of slot)),
@@ -125,7 +125,7 @@ module _ {D : Type 0} {images : View D} where
   -- a crash leaves the current image, and of its log what is settled
   keeps_image : {state : DiskState} → IsHeld state images → (c : List ℕ) → MayLeave state c
       → KeepsImage images (span_of images state) c
-  keeps_image {state = state} held c may =
+  keeps_image {state} held c may =
       let same = leaves_within (within_here held.loose) c may in
       let current = log_current images.slot state.reading c held.current.whole same held.current in
       let image = current_stands current in

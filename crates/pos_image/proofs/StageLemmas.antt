@@ -58,13 +58,13 @@ pub record IsRun (at n : ℕ) (old new : DiskState) : Type 0 where
 
 pub run_start : {at n : ℕ} {old : DiskState} → ((c : List ℕ) → old.left_since old.moment c → MayLeave old c)
     → IsRun at n old old
-run_start {old = old} only = grind arith
+run_start {old} only = grind arith
 
 pub run_write : {at n place : ℕ} {old mid new : DiskState} {result : Result (Unit {0}) DiskFault} {bytes : List ℕ}
     → at ≤ place
     → place + length bytes ≤ at + n → Writes mid new place bytes result → IsRun at n old mid → IsRun at n old new
-run_write {result = result} low high writes run = grind arith
+run_write {result} low high writes run = grind arith
 
 pub run_sync : {at n : ℕ} {old mid new : DiskState} {result : Result (Unit {0}) DiskFault} → Syncs mid new result
     → IsRun at n old mid → IsRun at n old new
-run_sync {result = result} syncs run = grind arith
+run_sync {result} syncs run = grind arith

@@ -75,7 +75,7 @@ all_read groups at span begins shut = grind arith
 -- what changes from the gate behind the records on, while that gate is closed, leaves the records
 kept_shut : {groups : List (List ℕ)} {old new : List ℕ} {at n : ℕ} → HoldsRecords groups old → SameBut at n old new
     → length (spelling groups) ≤ at → is_open new (length (spelling groups)) ≡ false → HoldsRecords groups new
-kept_shut {groups = groups} holds same behind shut = record {
+kept_shut {groups} holds same behind shut = record {
   short = holds.short;
   front = kept_part same 0 (length (spelling groups)) (omega (arith, holds.inside)) (omega arith) ∙ holds.front;
   inside = omega (arith, same.same_length, holds.inside);

@@ -35,7 +35,7 @@ pub both_moments : {D : Type 0} (old mid : View D) (it : Prepared) (s0 s1 s2 : D
     → IsAtRest s1 → log_of s1.reading ≡ log_of s0.reading → LeavesOnly s0 s1 (KeepsImage old (span_of old s0))
     → LeavesOnly s1 s2 (HasEither mid (span_of mid s1) (next_of mid))
     → LeavesOnly s0 s2 (HasEither old (span_of old s0) it)
-both_moments {D = D} old mid it s0 s1 s2 is rest log first second =
+both_moments {D} old mid it s0 s1 s2 is rest log first second =
     let now : View D = record old { disk = mid.disk; prepared = Some it } in
     let kept : (c : List ℕ) → KeepsImage now (span_of now s1) c → KeepsImage old (span_of old s0) c =
     λ c keeps. record {

@@ -7,7 +7,7 @@ use Rattle.pos_log.proofs.Common.{take-append-drop, take_at, to_be_bytes, w32, �
 -- two records that begin one text are the same
 pub same_head : (a b : List ℕ) {x y : List ℕ} → IsShort a → IsShort b → record_spelling a ++ x ≡ record_spelling b ++ y
     → (a ≡ b) × (x ≡ y)
-same_head a b {x = x} {y = y} sa sb is =
+same_head a b {x} {y} sa sb is =
     let lens : to_be_bytes w32 (length a) ≡ to_be_bytes w32 (length b) = ap (λ (l : List ℕ). take 4 (drop 1 l)) is in
     let long : length a ≡ length b =
     sym (from_be_bytes-to_be_bytes_4 (length a) sa) ∙ ap (from_be_bytes w32) lens
@@ -42,9 +42,9 @@ pub span_split : (groups : List (List ℕ)) (span : List ℕ) → HoldsRecords g
     → span ≡ spelling groups ++ get_or span (length (spelling groups)) 0 ∷ drop (suc (length (spelling groups))) span
 span_split groups span holds = grind (arith, take-append-drop, drop-cons)
 
-none_follow : {groups all : List (List ℕ)} (others : List (List ℕ)) {gate : ℕ} {rest : List ℕ} (behind : List ℕ) → all ≡ groups ++ others
-    → gate ∷ rest ≡ spelling others ++ behind → nat_eq gate 165 ≡ false → groups ≡ all
-none_follow {groups = groups} [] behind is text shut = sym (is ∙ append-nil groups)
+none_follow : {groups all : List (List ℕ)} (others : List (List ℕ)) {gate : ℕ} {rest : List ℕ} (behind : List ℕ)
+    → all ≡ groups ++ others → gate ∷ rest ≡ spelling others ++ behind → nat_eq gate 165 ≡ false → groups ≡ all
+none_follow {groups} [] behind is text shut = sym (is ∙ append-nil groups)
 none_follow (one ∷ others) behind is text shut =
     absurd (grind (arith, nat_tests, ap (λ (l : List ℕ). get_or l 0 0) text))
 

@@ -27,7 +27,7 @@ spoils_of writes = grind arith
 
 -- one failure more is a rise
 rises : {f : ℕ} → f < 2 ^ 64 → Rises f (counted f)
-rises {f = f} last = grind (arith, cases_lt (f + 1) (2 ^ 64))
+rises {f} last = grind (arith, cases_lt (f + 1) (2 ^ 64))
 
 -- the mirror's own count has its cause
 cause_under : {T : Type 0} (old new : DiskState) {f : ℕ} (result : Result T DiskFault) → f < 2 ^ 64

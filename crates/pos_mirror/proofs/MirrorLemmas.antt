@@ -12,7 +12,7 @@ use Rattle.pos_mirror.specs.Mirror.{Covers, Follows, Shows}
 
 -- memory alone is written
 pub covers_memory : (b : DiskState) {m n : DiskState} {at k : ℕ} → Spoils m n at k → Covers b m → Covers b n
-covers_memory b {at = at} {k = k} spoils covers i inside still = grind (arith, in_range at k i)
+covers_memory b {at} {k} spoils covers i inside still = grind (arith, in_range at k i)
 
 -- the disk below is only looked at
 pub covers_looked : {T : Type 0} {b c : DiskState} (m : DiskState) {at : ℕ} {out : List ℕ} {result : Result T DiskFault}
@@ -20,8 +20,8 @@ pub covers_looked : {T : Type 0} {b c : DiskState} (m : DiskState) {at : ℕ} {o
 covers_looked m reads covers i inside still = grind arith
 
 -- the disk below is synced, or fails in that
-pub covers_sync : {T : Type 0} {b c : DiskState} (m : DiskState) {result : Result T DiskFault} → Syncs b c result → Covers b m
-    → Covers c m
+pub covers_sync : {T : Type 0} {b c : DiskState} (m : DiskState) {result : Result T DiskFault} → Syncs b c result
+    → Covers b m → Covers c m
 covers_sync m syncs covers i inside still = grind arith
 
 -- one range is written in both
@@ -37,13 +37,13 @@ module _ (b c m n : DiskState) (at k : ℕ) (below : Spoils b c at k) (memory : 
 -- bytes that are written to both
 spliced_both : (xs ys bytes : List ℕ) {at i : ℕ} → at + length bytes ≤ length xs → at + length bytes ≤ length ys
     → InRange at (length bytes) i → get_or (splice xs at bytes) i 0 ≡ get_or (splice ys at bytes) i 0
-spliced_both xs ys bytes {at = at} {i = i} fits room inside =
+spliced_both xs ys bytes {at} {i} fits room inside =
     cc (spliced_within 0 xs bytes at i fits inside, spliced_within 0 ys bytes at i room inside)
 
 -- bytes that are read from one and written to the other
 spliced_part : (xs ys : List ℕ) {bytes : List ℕ} {at i : ℕ} → at + length bytes ≤ length ys
     → bytes ≡ part at (length bytes) xs → InRange at (length bytes) i → get_or xs i 0 ≡ get_or (splice ys at bytes) i 0
-spliced_part xs ys {bytes = bytes} {at = at} {i = i} room is inside =
+spliced_part xs ys {bytes} {at} {i} room is inside =
     grind (arith, spliced_within 0 ys bytes at i, get_or-part at (length bytes) xs (i - at) i)
 
 -- a write that succeeded
@@ -61,7 +61,7 @@ pub shows_found : {S T : Type 0} {b c d m n : DiskState} {at : ℕ} {bytes found
     → Reads c d at found again
     → Spoils m n at (length bytes) → n.reading ≡ splice m.reading at found → Shows b m false → Shows d n false
 shows_found (Err e) done long room below reads memory put shows = cc
-shows_found {b = b} {c = c} {m = m} {n = n} {at = at} {bytes = bytes} (Ok u) done long room below reads memory put shows =
+shows_found {b} {c} {m} {n} {at} {bytes} (Ok u) done long room below reads memory put shows =
     let both = shows_both b c m n at (length bytes) (spoils_of below) memory shows
     (λ i inside. rw put (spliced_part c.reading m.reading room reads.bytes (rw long inside))) in
     record {

@@ -21,7 +21,7 @@ faultless root limit is sound n less = grind (arith, sound (n - 1))
 -- entries are numbered from 1
 numbered : (root : Members) {place number : ℕ} → is_root root ≡ true → number ≡ place + 1
     → IsLowest (is_refused (both root)) place → IsLowest (is_faulty root) number
-numbered root {place = place} is from lowest = grind (arith, faultless root place is lowest.below)
+numbered root {place} is from lowest = grind (arith, faultless root place is lowest.below)
 
 get_front : (front back : List (Option Entry)) (n : ℕ) → n < length front
     → slice_get (front ++ back) n ≡ slice_get front n
@@ -119,7 +119,7 @@ module _ (root : Members) (is : is_root root ≡ true) where
     -- the document has no mistake
     pub document_read : {spares : List Entry} → IsSoundList Spare (values_at (key_of Spare) root) spares
         → IsRead root (record { devices = devices; spares = spares })
-    document_read {spares = spares} others = record {
+    document_read {spares} others = record {
       sound = λ n. faultless root n is
           (λ k _. neither (entries_of Device root) (values_at (key_of Spare) root) sound.sound others.sound k) n
           (omega arith);
@@ -130,7 +130,7 @@ module _ (root : Members) (is : is_root root ≡ true) where
 -- a document's devices and spares make a sound profile, where no name stands twice
 pub profile_sound : {root : Members} {contents : Contents} → IsRead root contents
     → ((place : ℕ) → is_repeated (names_of contents.devices) place ≡ false) → IsSoundProfile contents
-profile_sound {root = root} {contents = contents} read names =
+profile_sound {root} {contents} read names =
     let front = entries_of Device root in
     record {
       devices = list_sound (values_at (key_of Device) root) contents.devices read.devices;

@@ -74,7 +74,7 @@ none_passes test count place past end below n = grind (arith, below n, past n)
 pub all_read : {role : Role} {values : List Data} {read : List Entry} {place : ℕ} → length values ≤ place
     → map (λ entry. Some entry) read ≡ take place (map (entry_of role) values)
     → ((n : ℕ) → n < place → is_refused (map (entry_of role) values) n ≡ false) → IsSoundList role values read
-all_read {role = role} {values = values} {place = place} past so_far sound =
+all_read {role} {values} {place} past so_far sound =
     let found = map (entry_of role) values in
     let end : length found ≤ place = omega (arith, length-map values (entry_of role)) in
     record {

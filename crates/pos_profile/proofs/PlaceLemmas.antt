@@ -49,7 +49,7 @@ there_else false at name first names place same else found =
 there_from : (at : ℕ) {name : List ℕ} (names : List (List ℕ)) {place : ℕ} → place_from at name names ≡ Some place
     → (i : ℕ) × (place ≡ at + i) × (slice_get names i ≡ Some name)
 there_from at [] found = absurd cc
-there_from at {name = name} (first ∷ names) {place = place} found =
+there_from at {name} (first ∷ names) {place} found =
     there_else (bytes_eq name first) at name first names place refl (λ is. there_from (at + 1) names is) found
 
 pub name_there : (names : List (List ℕ)) {name : List ℕ} (place : ℕ) → place_of names name ≡ Some place

@@ -60,11 +60,11 @@ pub standing_within : (list : List Device) (place : ℕ) → is_some (standing_a
 standing_within list place stands = grind (arith, slice_get_past)
 
 -- what is put at the place of a name is put into a slot of that name
-pub put_named : {P : Type 0} (peripherals : Ghosts P) {slots : List (Slot P)} (new : List (Slot P)) {name : List ℕ} {place : ℕ}
-    (peripheral : P)
+pub put_named : {P : Type 0} (peripherals : Ghosts P) {slots : List (Slot P)} (new : List (Slot P)) {name : List ℕ}
+    {place : ℕ} (peripheral : P)
     → place_of (names_of (devices_of peripherals slots)) name ≡ Some place → (put : IsPut slots place peripheral new)
     → put.slot.name ≡ name
-put_named peripherals {slots = slots} new {name = name} {place = place} peripheral found put =
+put_named peripherals {slots} new {name} {place} peripheral found put =
     let named = slice_get-map (λ (d : Device). d.name) (devices_of peripherals slots) place
     ∙ ap (option_map (λ (d : Device). d.name))
     (slice_get-map (λ s. device_of peripherals s) slots place ∙ ap (option_map (λ s. device_of peripherals s)) put.at)
@@ -93,7 +93,7 @@ pub sound_with : {P : Type 0} {peripherals : Ghosts P} {old new : Registry P} (p
     → ((device : Device) → slice_get (devices peripherals old) place ≡ Some device
     → IsServed (record device { peripheral = x }))
     → IsRegistrySound peripherals new
-sound_with {peripherals = peripherals} {old = old} place x sound places is here = record {
+sound_with {peripherals} {old} place x sound places is here = record {
   index = λ name. rw (places, is, names_with (devices peripherals old) place x) (sound.index name);
   kinds = rw is (all_with HasKindInRange (devices peripherals old) place sound.kinds (λ device at kind. kind));
   served = rw is (all_with IsServed (devices peripherals old) place sound.served (λ device at was. here device at));
@@ -141,7 +141,7 @@ pub sound_planned : {P : Type 0} {peripherals : Ghosts P} {registry : Registry P
     → All (IsSoundEntry role.Device) entries → plan ≡ planned_of entries
     → devices peripherals registry ≡ map vacant plan
     → IsIndexOf registry.places (map (λ (p : Planned). p.name) plan) → IsRegistrySound peripherals registry
-sound_planned entries {plan = plan} sound planned is index = record {
+sound_planned entries {plan} sound planned is index = record {
   index = λ name. rw (is, map-map) (index name);
   kinds = rw (is, planned) (kinds_planned entries (recursion_from_All (IsSoundEntry role.Device) entries sound));
   served = rw is (served_vacant plan);
@@ -154,7 +154,7 @@ pub parked_more : {P : Type 0} (peripherals : Ghosts P) (slots : List (Slot P)) 
     → devices_of peripherals slots ≡ map parked (take place olds) ++ drop place olds → old ≡ get_or slots place old
     → device_of peripherals new ≡ parked (device_of peripherals old)
     → devices_of peripherals (set slots place new) ≡ map parked (take (place + 1) olds) ++ drop (place + 1) olds
-parked_more peripherals slots olds {place = place} {old = old} new within same front at parks =
+parked_more peripherals slots olds {place} {old} new within same front at parks =
     rw (map-set (λ s. device_of peripherals s) slots place new, parks) (map_over_more parked olds
     (devices_of peripherals slots) place (device_of peripherals old) within front (grind (arith, get_or-map)))
 

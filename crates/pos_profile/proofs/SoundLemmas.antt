@@ -101,7 +101,7 @@ entry_sound role value = table_sound role (as_table value)
 
 pub list_sound : {role : Role} (values : List Data) (entries : List Entry)
     → map (entry_of role) values ≡ map (λ entry. Some entry) entries → All (IsSoundEntry role) entries
-list_sound {role = role} values [] is = All-nil (IsSoundEntry role)
+list_sound {role} values [] is = All-nil (IsSoundEntry role)
 list_sound [] (entry ∷ entries) is = absurd cc
-list_sound {role = role} (value ∷ values) (entry ∷ entries) is =
+list_sound {role} (value ∷ values) (entry ∷ entries) is =
     All-cons (IsSoundEntry role) entry entries (grind (arith, entry_sound role value)) (list_sound values entries cc)

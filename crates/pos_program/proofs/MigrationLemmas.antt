@@ -40,8 +40,7 @@ module _ {D : Type 0} {bound : Ghosts D} {disk : D} where
       (recovers : Recovers bound (new_store disk) (Ok tt) (record {
         disk = mid;
         layout = layout;
-        state = Ready files
-            sequence;
+        state = Ready files sequence;
         tail = tail;
       })) (honest : bound.honest disk) (candidates : List Standing)
       (leaves : LeavesOneOf candidates (bound.state disk)) where
@@ -151,7 +150,8 @@ module _ {D : Type 0} {bound : Ghosts D} {disk : D} where
       → MovesAny (bound.state disk) (bound.state new.disk) result
   migrated_moves Off recovers new migrates at_rest honest candidates leaves =
       absurd (recovers.one_of honest candidates leaves).found
-  migrated_moves {mid = mid} {layout = layout} (Ready files sequence) {tail = tail} recovers {result = result} new migrates at_rest honest candidates leaves =
+  migrated_moves {mid} {layout} (Ready files sequence) {tail} recovers {result} new migrates at_rest honest candidates
+      leaves =
       let there = recovers.keeps.honest.0 honest in
       found_moves mid layout files sequence tail recovers honest candidates leaves layout refl result new
       migrates.answer (migrates.crash there) (at_rest (migrates.keeps.honest.0 there)) (migrates.device there)
@@ -166,7 +166,7 @@ module _ {D : Type 0} {bound : Ghosts D} {disk : D} where
   pub moved_counts : {mid new : StoreView D} {result : Result (Unit {0}) StoreFault}
       → Recovers bound (new_store disk) (Ok tt) mid → Migrates bound mid result new → bound.honest disk
       → IsErrOf result fault.Device ⊎ HasNotFailed (bound.state disk) (bound.state new.disk)
-  moved_counts {mid = mid} recovers migrates honest =
+  moved_counts {mid} recovers migrates honest =
       let first : HasNotFailed (bound.state disk) (bound.state mid.disk) =
       ⊎_elim (λ is. absurd cc) (λ same. same) (recovers.counts honest) in
       ⊎_elim (λ is. inl is) (λ same. inr (same ∙ first)) (migrates.counts (recovers.keeps.honest.0 honest))

@@ -39,7 +39,7 @@ is_done false is = cc
 
 pub all_moved : {size : ℕ} (moved : Option ℕ) → Ok tt ≡ answer_of size moved → moved ≡ Some size
 all_moved None is = absurd (true≢false (sym (is_done false is)))
-all_moved {size = size} (Some n) is =
+all_moved {size} (Some n) is =
     let same : (n == size) ≡ true = is_done (n == size) is in
     ap Some (grind (arith, nat_tests))
 
@@ -211,6 +211,6 @@ module _ {F : Type 0} (calls : F → List Call) (bound : Ghosts (FileDisk F))
 pub cut_left : {F : Type 0} {calls : F → List Call} {mirror : Mirror (FileDisk F)} (is : IsMirrored calls mirror)
     (bytes : List ℕ)
     → CutMayLeave is bytes → (mirror_state mirror).left_since 0 bytes
-cut_left {mirror = mirror} is bytes cut =
+cut_left {mirror} is bytes cut =
     (left_within is.asked mirror.memory is.continues 0 bytes (omega arith)
     (left is.follows.since (fresh is.bytes) is.asked bytes cut)).1

@@ -64,7 +64,7 @@ found_in : (subs : List Shape) (word : Text) (words : List Text) {found : Text �
     → option_map (λ s. rows_at s words) (find (λ s. answers_to word (label_of s)) subs) ≡ Some found
     → IsIn found.0 (map (λ s. s.name) subs)
 found_in [] word words is = cc
-found_in (s ∷ subs) word words {found = found} is =
+found_in (s ∷ subs) word words {found} is =
     by (answers_to word (label_of s)) refl (λ more. found_in subs word words more)
   where
     by : (answers : Bool) → answers_to word (label_of s) ≡ answers

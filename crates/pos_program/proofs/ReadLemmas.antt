@@ -40,7 +40,7 @@ module _ {F : Type 0} (calls : F → List Call) (file : F) (disk : FileDisk F) w
       → MirrorOpens (file_disks calls) disk (min disk.size disk_size) answer
       → Passes {E = FileFault} (λ refusal. ReportsMirror refusal.0) answer (Ok totals)
       → MirrorOpens (file_disks calls) disk (min disk.size disk_size) (Ok totals)
-  mirrored {totals = totals} (Ok other) opens is = let same : totals ≡ other = cc in rw same opens
+  mirrored {totals} (Ok other) opens is = let same : totals ≡ other = cc in rw same opens
   mirrored (Err refusal) opens is = absurd is
 
   -- the four calls

@@ -34,7 +34,7 @@ some_or_none (Some x) = inr (x, refl)
 no_refusal : {old new : Machine} (name : List ℕ) {hardware : Hardware} (fault : AttachFault) {given : Hardware}
     → kind_named old name ≡ Some hardware.kind → hardware_named old name ≡ None
     → Step old (Attach name hardware) (NotAttached fault given) new → ⊥
-no_refusal name {hardware = hardware} attach.Unknown is vacant (none, gave, same) =
+no_refusal name {hardware} attach.Unknown is vacant (none, gave, same) =
     none-some hardware.kind (sym none ∙ is)
 no_refusal name attach.KindDiffers is vacant (other, gave, same) =
     other.differs (the_same (sym is ∙ other.named))
@@ -101,7 +101,7 @@ as_many (entry ∷ entries) = elim (some_or_none (kind_of entry)) [
 -- in the end all are served
 pub ends_whole : (entries : List Entry) {i : ℕ} (part : TotalsPart) → length entries ≤ i
     → begun_partly entries i part ≡ simulated_machine entries part
-ends_whole entries {i = i} part all =
+ends_whole entries {i} part all =
     let count : length (profile_devices entries) ≡ length (simulated_devices entries) =
     ap length (all_vacant entries) ∙ as_many entries in
     rw (take_all i entries all, drop_all i entries all, append-nil, count)
@@ -141,7 +141,7 @@ no_kind lines is = grind arith
 -- the name of an entry isn't that of an earlier one
 unnamed_before : (entries : List Entry) {i : ℕ} {entry : Entry} → i < length entries → entry ≡ get_or entries i entry
     → is_repeated (names_of entries) i ≡ false → list_any (bytes_eq entry.name) (names_of (take i entries)) ≡ false
-unnamed_before entries {i = i} {entry = entry} lt is single =
+unnamed_before entries {i} {entry} lt is single =
     rw (← take-map (λ (e : Entry). e.name) i entries) (rw (name_at entries i entry entry.name lt is refl) at single)
 
 module _ (entries : List Entry) (i : ℕ) (entry : Entry) (lt : i < length entries)

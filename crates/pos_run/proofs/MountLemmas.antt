@@ -45,7 +45,7 @@ module _ {P : Type 0} (mounts : Mounts P) (entries : List Entry) where
 
   pub vacant_mounted : {D : Type 0} {peripherals : Ghosts P} {counter : Counter D P} {disk : D}
       → Begins peripherals entries disk counter → AllByRecursion (HasMounted mounts entries) (slots_in counter.devices)
-  vacant_mounted {peripherals = peripherals} {counter = counter} begins =
+  vacant_mounted {peripherals} {counter} begins =
       let same = ap (λ (m : Machine). m.devices) (begins.machine (new_totals [] 0)) in
       all_vacant_slots peripherals (slots_in counter.devices)
       (subst (AllByRecursion IsVacant) (sym (same ∙ all_vacant entries)) (entries_vacant entries))
@@ -61,7 +61,7 @@ module _ {P : Type 0} (mounts : Mounts P) (entries : List Entry) where
   pub offered_mounted : {old new : List (Slot P)} {name : List ℕ} {peripheral : P} → Offers old name peripheral new
       → IsMountedAs mounts entries name peripheral → AllByRecursion (HasMounted mounts entries) old
       → AllByRecursion (HasMounted mounts entries) new
-  offered_mounted {old = old} {peripheral = peripheral} offers mounted all = ⊎_elim
+  offered_mounted {old} {peripheral} offers mounted all = ⊎_elim
       (λ placed. rw placed.1.is (all_set old placed.0 (record placed.1.slot { peripheral = Some peripheral }) all
       (subst (λ (n : List ℕ). IsMountedAs mounts entries n peripheral) (sym placed.2) mounted)))
       (λ same. rw same all) offers
@@ -70,7 +70,7 @@ module _ {P : Type 0} (mounts : Mounts P) (entries : List Entry) where
   pub mounted_as : {i : ℕ} {entry : Entry} {name : List ℕ} {peripheral : P} → i < length entries
       → entry ≡ get_or entries i entry → name ≡ entry.name
       → IsMountedFor mounts entry peripheral → IsMountedAs mounts entries name peripheral
-  mounted_as {i = i} {entry = entry} lt is named mounted = record {
+  mounted_as {i} {entry} lt is named mounted = record {
     place = i;
     entry = entry;
     entry_is = slice_get-get_or entries i entry lt ∙ ap (λ (e : Entry). Some e) (sym is);

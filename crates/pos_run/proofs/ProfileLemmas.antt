@@ -63,7 +63,7 @@ only_if is = grind arith
 
 pub simulable : {role : Role} (entries : List Entry) {i : ℕ} {entry : Entry} → All (IsSoundEntry role) entries
     → i < length entries → entry ≡ get_or entries i entry → IsSimulable entry
-simulable {role = role} entries {i = i} {entry = entry} sound lt is =
+simulable {role} entries {i} {entry} sound lt is =
     let one : IsSoundEntry role entry = subst (IsSoundEntry role) (sym is) (sound i entry lt) in
     record {
       kind = one.kind;

@@ -24,7 +24,7 @@ module _ (first old new : Reading) (input buffer : List ℕ) (so_far : old.taken
   -- a read that gave nothing found the end
   pub ends : {count : ℕ} → count ≡ 0 → ReadsScript old buffer (Ok count) new
       → (new.state ≡ Ended) × (new.taken ≡ end_after (taken_after first.taken input)) × IsWhole new.taken
-  ends {count = count} none reads =
+  ends {count} none reads =
       let (takes, counted, state) = rw (could old new buffer count _ refl reads) at reads in
       let (end, whole) = found_end old.taken buffer count new.taken none takes in
       (rw none at state, rw so_far at end, rw end whole)

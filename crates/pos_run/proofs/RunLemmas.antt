@@ -110,7 +110,7 @@ moved : {D : Type 0} (state : D → DiskState) {d e : D} {after : DiskState} (en
     {s t : List (Request × Response)} → d ≡ e → m ≡ n
     → s ≡ t → (run : Run m s end) → LeavesOnly (state d) after (IsLeftDuring m s end run)
     → (again : Run n t end) × LeavesOnly (state e) after (IsLeftDuring n t end again)
-moved {D = D} state {d = d} {after = after} end {m = m} {n = n} {t = t} here same steps run any_moment =
+moved {D} state {d} {after} end {m} {n} {t} here same steps run any_moment =
     let P : D → Machine → List (Request × Response) → Type 0 =
     λ x y z. (r : Run y z end) × LeavesOnly (state x) after (IsLeftDuring y z end r) in
     subst (λ x. P x n t) here (subst (λ y. P d y t) same (subst (λ z. P d m z) steps (run, any_moment)))

@@ -56,7 +56,7 @@ module _ {P : Type 0} (peripherals : Ghosts P) (list : List (Option P)) (place :
   -- what is at the place of a box
   pub state_there : {spare : Option P} → place < length list → spare ≡ get_or list place spare
       → slice_get (states_in peripherals list) place ≡ Some (option_map peripherals.state spare)
-  state_there {spare = spare} within at =
+  state_there {spare} within at =
       slice_get-map (option_map peripherals.state) list place
       ∙ ap (option_map (option_map peripherals.state)) (slice_get_read list (length list) place spare refl within at)
 
@@ -68,7 +68,7 @@ module _ {P : Type 0} (peripherals : Ghosts P) (list : List (Option P)) (place :
 
   pub serves_there : {spare : Option P} → All IsInService (states_in peripherals list) → place < length list
       → spare ≡ get_or list place spare → IfSome spare (λ b. (peripherals.state b).is_parked ≡ false)
-  serves_there {spare = spare} all within at =
+  serves_there {spare} all within at =
       let count : length (states_in peripherals list) ≡ length list = length-map list (option_map peripherals.state) in
       let there : get_or (states_in peripherals list) place (option_map peripherals.state spare)
       ≡ option_map peripherals.state spare =
@@ -92,7 +92,7 @@ module _ {P : Type 0} (peripherals : Ghosts P) (list : List (Option P)) (place :
   -- the place of a number that is empty has no box
   pub no_box : {number : ℕ} {spare : Option P} {other : P} → number ≡ suc place
       → IsEmptyAt (states_in peripherals list) number → spare ≡ get_or list place spare → spare ≡ Some other → ⊥
-  no_box {other = other} is (empty, same, none) at some =
+  no_box {other} is (empty, same, none) at some =
       let count : length (states_in peripherals list) ≡ length list = length-map list (option_map peripherals.state) in
       let within : place < length list =
       omega (arith, is, same, count, slice_get_within (states_in peripherals list) empty None none) in

@@ -36,24 +36,25 @@ use Rattle.pos_run.specs.declared.waiting_lines.LineProgress.{LineProgress}
 -- a front of bytes was given, where they were written as far as could be
 pub wrote_front : (old new : Given) {bytes : List ℕ} (count : ℕ) (result : Result (Unit {0}) WriteFault)
     → WritesFront old bytes count result new → GivesFront old new bytes
-wrote_front old new {bytes = bytes} count (Ok u) (whole, wrote) =
+wrote_front old new {bytes} count (Ok u) (whole, wrote) =
     (bytes, [], sym (append-nil bytes), ap (λ (g : Given). g.bytes) wrote)
-wrote_front old new {bytes = bytes} count (Err fault) failed =
+wrote_front old new {bytes} count (Err fault) failed =
     (take count bytes, drop count bytes, sym (take-append-drop count bytes), ap (λ (g : Given). g.bytes) failed)
 
-pub wrote_all : (old : Given) {new : Given} (bytes : List ℕ) (count : ℕ) (result : Result (Unit {0}) WriteFault) {u : Unit {0}}
-    → result ≡ Ok u
-    → WritesFront old bytes count result new → Appends old new bytes
+pub wrote_all : (old : Given) {new : Given} (bytes : List ℕ) (count : ℕ) (result : Result (Unit {0}) WriteFault)
+    {u : Unit {0}}
+    → result ≡ Ok u → WritesFront old bytes count result new → Appends old new bytes
 wrote_all old bytes count (Ok u) is (whole, wrote) = wrote
 wrote_all old bytes count (Err fault) is failed = grind (arith, is)
 
 -- so was one of more bytes
-pub front_of : (old new : Given) {bytes : List ℕ} (more : List ℕ) → GivesFront old new bytes → GivesFront old new (bytes ++ more)
+pub front_of : (old new : Given) {bytes : List ℕ} (more : List ℕ) → GivesFront old new bytes
+    → GivesFront old new (bytes ++ more)
 front_of old new more (front, back, is, gave) =
     (front, back ++ more, ap (λ l. l ++ more) is ∙ append_assoc front back more, gave)
 
-pub front_then : (old : Given) {mid : Given} (new : Given) (bytes : List ℕ) {more : List ℕ} → Appends old mid bytes → GivesFront mid new more
-    → GivesFront old new (bytes ++ more)
+pub front_then : (old : Given) {mid : Given} (new : Given) (bytes : List ℕ) {more : List ℕ} → Appends old mid bytes
+    → GivesFront mid new more → GivesFront old new (bytes ++ more)
 front_then old new bytes first (front, back, is, gave) = (
   bytes ++ front,
   back,
@@ -89,7 +90,7 @@ module _ {D P : Type 0} (bound : DiskGhosts D) (peripherals : Ghosts P) where
   -- lines that a counter ran by, the machine ran by
   pub runs_lines : {a b : Counter D P} {s left : Session} {lines : List (List ℕ)} {text : List ℕ}
       → Transcript (IsRun bound peripherals) a s lines text left b → RunsLines bound peripherals a s lines text b left
-  runs_lines {a = a} {b = b} done = λ standing leaves.
+  runs_lines {a} {b} done = λ standing leaves.
       let (later, leave, run) = machine_runs bound peripherals a b done.steps standing leaves done.run in
       (later, leave, record { steps = done.steps; run = run; prints = done.prints })
 
@@ -97,7 +98,7 @@ module _ {D P : Type 0} (bound : DiskGhosts D) (peripherals : Ghosts P) where
   runs_stay : (a : Counter D P) {b c : Counter D P} {s left : Session} {lines : List (List ℕ)} {text : List ℕ}
       → RunsLines bound peripherals a s lines text b left
       → Stays peripherals b c → RunsLines bound peripherals a s lines text c left
-  runs_stay a {b = b} {c = c} runs stays = λ standing leaves.
+  runs_stay a {b} {c} runs stays = λ standing leaves.
       let (later, leave, done) = runs standing leaves in
       let same : machine peripherals c (part_of bound c.totals later) ≡ machine peripherals b
       (part_of bound b.totals later) =
@@ -113,14 +114,14 @@ module _ {D P : Type 0} (bound : DiskGhosts D) (peripherals : Ghosts P) where
         },
       )
 
-  kept_stay : (a : Counter D P) {b c : Counter D P} → KeepsDisk bound a.totals.disk b.totals.disk → Stays peripherals b c
-      → KeepsDisk bound a.totals.disk c.totals.disk
+  kept_stay : (a : Counter D P) {b c : Counter D P} → KeepsDisk bound a.totals.disk b.totals.disk
+      → Stays peripherals b c → KeepsDisk bound a.totals.disk c.totals.disk
   kept_stay a kept stays = subst (λ v. KeepsDisk bound a.totals.disk v.disk) (sym stays.totals) kept
 
   pub tells_stay : {a b c : Counter D P} {s left : Session} {lines : List (List ℕ)} {before after : Given}
       → RunsAndWrites bound peripherals a s lines before after b left → Stays peripherals b c
       → RunsAndWrites bound peripherals a s lines before after c left
-  tells_stay {a = a} h stays = record {
+  tells_stay {a} h stays = record {
     text = h.text;
     runs = runs_stay a h.runs stays;
     written = h.written;
@@ -130,7 +131,7 @@ module _ {D P : Type 0} (bound : DiskGhosts D) (peripherals : Ghosts P) where
   pub cuts_stay : {a b c : Counter D P} {s left : Session} {line : List ℕ} {before after : Given}
       → Cuts bound peripherals a s line before after b left → Stays peripherals b c
       → Cuts bound peripherals a s line before after c left
-  cuts_stay {a = a} h stays = record {
+  cuts_stay {a} h stays = record {
     text = h.text;
     runs = runs_stay a h.runs stays;
     front = h.front;
@@ -150,7 +151,7 @@ module _ {D P : Type 0} (bound : DiskGhosts D) (peripherals : Ghosts P) where
   -- a line that is held back is none
   pub tells_held : {a b : Counter D P} {s left : Session} {before after : Given}
       → Holds bound peripherals a s before after b left → RunsAndWrites bound peripherals a s [] before after b left
-  tells_held {before = before} h = record {
+  tells_held {before} h = record {
     text = [];
     runs = λ standing leaves.
         let (later, leave, same, names) = h.stays standing leaves in
@@ -165,7 +166,7 @@ module _ {D P : Type 0} (bound : DiskGhosts D) (peripherals : Ghosts P) where
       → RunsAndWrites bound peripherals a s lines before between b mid
       → RunsAndWrites bound peripherals b mid more between after c left
       → RunsAndWrites bound peripherals a s (lines ++ more) before after c left
-  tells_join {a = a} {b = b} {c = c} {s = s} {mid = mid} {left = left} {lines = lines} {more = more} first second = record {
+  tells_join {a} {b} {c} {s} {mid} {left} {lines} {more} first second = record {
     text = first.text ++ second.text;
     runs = λ standing leaves.
         let (one, leave, done) = first.runs standing leaves in
@@ -192,7 +193,7 @@ module _ {D P : Type 0} (bound : DiskGhosts D) (peripherals : Ghosts P) where
       {before given after : Given}
       → line ∷ [] ≡ earlier ++ at ∷ later → Finishes (IsRun bound peripherals) a s earlier before given between mid
       → StopsAt (IsRun bound peripherals) mid between at given after left b → StopsAlone a s line before after b left
-  alone {a = a} {b = b} {mid = mid} {s = s} {between = between} {left = left} {line = line} {at = at} [] later {before = before} {given = given} {after = after} split done failed =
+  alone {a} {b} {mid} {s} {between} {left} {line} {at} [] later {before} {given} {after} split done failed =
       let (none, nothing, names) = done.transcript.prints in
       let same : at ≡ line = sym (ap (λ (ls : List (List ℕ)). get_or ls 0 []) split) in
       let still : mid ≡ a = subst (λ (ss : List (Request × Response)). IsRun bound peripherals a ss mid) none
@@ -218,7 +219,7 @@ module _ {D P : Type 0} (bound : DiskGhosts D) (peripherals : Ghosts P) where
         },
         subst (λ g. IsCut g after (printed failed.reply)) first failed.cut,
       )
-  alone {at = at} (x ∷ xs) later split done failed =
+  alone {at} (x ∷ xs) later split done failed =
       let count : 1 ≡ suc (length (xs ++ at ∷ later)) = ap length split in
       absurd (omega (arith, count, length-append xs (at ∷ later)))
 
@@ -335,13 +336,14 @@ module _ {D P : Type 0} (bound : DiskGhosts D) (peripherals : Ghosts P) where
         → CarriesOn bound peripherals c s texts texts given given c s
     carries_none c s texts given = record { carried = []; split = refl; tells = tells_none c s given }
 
-    module _ (a b : Counter D P) {c : Counter D P} (s : Session) {mid : Session} (left : Session) {texts : List (Vec ℕ A)} (before : Given) {between : Given} (after : Given) where
+    module _ (a b : Counter D P) {c : Counter D P} (s : Session) {mid : Session} (left : Session)
+        {texts : List (Vec ℕ A)} (before : Given) {between : Given} (after : Given) where
       -- one line more
       pub carries_line : {text : Vec ℕ A} {rest : List (Vec ℕ A)} {line : List ℕ} → lines_of text.items ≡ line ∷ []
           → CarriesOn bound peripherals a s texts (text ∷ rest) before between b mid
           → RunsAndWrites bound peripherals b mid (line ∷ []) between after c left
           → CarriesOn bound peripherals a s texts rest before after c left
-      carries_line {rest = rest} {line = line} is h tells = record {
+      carries_line {rest} {line} is h tells = record {
         carried = h.carried ++ line ∷ [];
         split = h.split ∙ ap (λ (ls : List (List ℕ)). h.carried ++ (ls ++ lines_in rest)) is
             ∙ sym (append_assoc h.carried (line ∷ []) (lines_in rest));
@@ -353,7 +355,7 @@ module _ {D P : Type 0} (bound : DiskGhosts D) (peripherals : Ghosts P) where
           → CarriesOn bound peripherals a s texts left_texts before between b mid
           → Holds bound peripherals b mid between after c left
           → CarriesOn bound peripherals a s texts left_texts before after c left
-      carries_held {left_texts = left_texts} h held = record {
+      carries_held {left_texts} h held = record {
         carried = h.carried ++ [];
         split = h.split ∙ ap (λ (ls : List (List ℕ)). ls ++ lines_in left_texts) (sym (append-nil h.carried));
         tells = tells_join h.tells (tells_held held);
@@ -364,7 +366,7 @@ module _ {D P : Type 0} (bound : DiskGhosts D) (peripherals : Ghosts P) where
           → CarriesOn bound peripherals a s texts (text ∷ rest) before between b mid
           → Cuts bound peripherals b mid line between after c left
           → CutsOff bound peripherals a s texts rest before after c left
-      cuts_off {rest = rest} {line = line} is h cuts = record {
+      cuts_off {rest} {line} is h cuts = record {
         carried = h.carried;
         line = line;
         given = between;
@@ -387,8 +389,8 @@ module _ {D P : Type 0} (bound : DiskGhosts D) (peripherals : Ghosts P) where
     }
 
 -- the first of some
-pub first_of : {A : Type 0} (xs : List A) {ys : List A} {x : A} → 0 < length xs → x ≡ slice_index_or xs 0 x → ys ≡ drop 1 xs
-    → xs ≡ x ∷ ys
+pub first_of : {A : Type 0} (xs : List A) {ys : List A} {x : A} → 0 < length xs → x ≡ slice_index_or xs 0 x
+    → ys ≡ drop 1 xs → xs ≡ x ∷ ys
 first_of [] some is rest = absurd (omega (arith, some))
 first_of (z ∷ zs) some is rest = rw (is, rest) refl
 

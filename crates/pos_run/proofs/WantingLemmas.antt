@@ -76,7 +76,7 @@ of_wants number call (Some control) h = h.2
 
 pub no_step : {m n : Machine} (q : Request) → Step m q OutOfMemory n → n ≡ m
 no_step (NewControl u category) h = h.1
-no_step {m = m} (CallOf number call) h = of_wants number call (slice_get m.controls number) h
+no_step {m} (CallOf number call) h = of_wants number call (slice_get m.controls number) h
 no_step (InputTo name input) h = h.1
 no_step (WorkOn name) h = h.1
 no_step (Snapshot name) h = h.1
@@ -110,7 +110,7 @@ module _ (s : Session) (m n : Machine) where
   by_request : (asking : LineRequest) {o : Outcome} {request : Request} → RequestBecomes s asking request o
       → Quiets s o m n
   by_request asking (inl none) = asked_nothing none.1
-  by_request asking {request = request} (inr (r, is)) = subst (λ x. Quiets s x m n) (sym is) (λ told run.
+  by_request asking {request} (inr (r, is)) = subst (λ x. Quiets s x m n) (sym is) (λ told run.
       by_response asking request (wants_memory r (ap told_in told)) run)
 
   by_asking : (asking : LineRequest) (o : Outcome) (request : Option Request)
@@ -121,7 +121,7 @@ module _ (s : Session) (m n : Machine) where
   by_kept : {is_kept : Bool} (asking : LineRequest) {o : Outcome}
       → (IsTrue is_kept × (o ≡ turned_down s (reply_text reply.Memory))) ⊎ AskingBecomes s asking o → Quiets s o m n
   by_kept asking (inl none) = asked_nothing none.1
-  by_kept asking {o = o} (inr becomes) = by_asking asking o (request_of s asking) becomes
+  by_kept asking {o} (inr becomes) = by_asking asking o (request_of s asking) becomes
 
   by_reading : (is_kept : Bool) (o : Outcome) (value : Option LineRequest)
       → MatchOption value (o ≡ turned_down s (reply_text reply.BadLine))
@@ -147,7 +147,7 @@ told_memory (Some r) e = ap Some (append_cancel_right r (codes "memory") (10 ∷
 -- one line that printed it
 pub one_wanting : {s left : Session} (line : List ℕ) {steps : List (Request × Response)} {m n : Machine}
     → LinesPrint s (line ∷ []) steps (codes "memory\n") left → Run m steps n → (n ≡ m) × (left ≡ s)
-one_wanting {s = s} line {steps = steps} {m = m} {n = n} (o, more, rest, becomes, (none, nothing, same), is_steps, is_text) run =
+one_wanting {s} line {steps} {m} {n} (o, more, rest, becomes, (none, nothing, same), is_steps, is_text) run =
     let all : steps ≡ o.steps = is_steps ∙ ap (λ x. o.steps ++ x) none ∙ append-nil o.steps in
     let text : printed o.reply ≡ codes "memory\n" =
     sym (is_text ∙ ap (λ x. printed o.reply ++ x) nothing ∙ append-nil (printed o.reply)) in

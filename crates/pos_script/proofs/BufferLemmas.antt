@@ -77,7 +77,7 @@ nothing_kept line = grind arith
 -- at the end of the input
 pub input_ends : (read : List ℕ) {kept : Kept} {e : Bool} → e ≡ is_kept_nothing kept → StandsFor kept read
     → EndsInput read e kept
-input_ends read {kept = kept} is stands =
+input_ends read {kept} is stands =
     let same = is ∙ ap is_kept_nothing stands ∙ nothing_kept (unfinished read) in
     let split : lines_of read ≡ complete_lines read ++ last_line (unfinished read) = two_parts (pieces 10 read) in
     let held : IsHeld kept (unfinished read) = rw stands (held_last (unfinished read)) in
@@ -94,7 +94,7 @@ adds_to read bytes free adds stands =
 pub feeds_all : (read piece : List ℕ) {n : ℕ} {old new : Kept} → have_no_feed (take n piece) ≡ true → n ≡ length piece
     → new ≡ kept_with old (take n piece)
     → StandsFor old read → (complete_lines (read ++ piece) ≡ complete_lines read) × StandsFor new (read ++ piece)
-feeds_all read piece {n = n} {old = old} free is adds stands =
+feeds_all read piece {n} {old} free is adds stands =
     let all : take n piece ≡ piece = take_all n piece (omega (arith, is)) in (
       adds_lines read piece (ap have_no_feed (sym all) ∙ free),
       adds_to read piece (ap have_no_feed (sym all) ∙ free) (adds ∙ ap (λ bs. kept_with old bs) all) stands,
@@ -113,12 +113,12 @@ cut_at piece n lt feed =
     (sym (take_rest piece (n + 1)))
 
 -- where nothing is kept, a piece with its first line feed at a place, before which this line stands
-pub feeds_whole : (read : List ℕ) {piece : List ℕ} {n : ℕ} {kept : Kept} (line : Line) → have_no_feed (take n piece) ≡ true
-    → n < length piece → get_or piece n 0 ≡ 10
-    → is_kept_nothing kept ≡ true → IsLine line (without_cr (take n piece)) → StandsFor kept read
-    → (taken : List ℕ) × (piece ≡ taken ++ take (length piece - (n + 1)) (drop (n + 1) piece))
-    × EndsLine read taken (ended.InPiece line) kept
-feeds_whole read {piece = piece} {n = n} line free lt feed nothing is stands =
+pub feeds_whole : (read : List ℕ) {piece : List ℕ} {n : ℕ} {kept : Kept} (line : Line)
+    → have_no_feed (take n piece) ≡ true → n < length piece → get_or piece n 0 ≡ 10 → is_kept_nothing kept ≡ true
+    → IsLine line (without_cr (take n piece)) → StandsFor kept read
+    → (taken : List ℕ) × (piece ≡ taken ++ take (length piece - (n + 1)) (drop (n + 1) piece)) × EndsLine read taken
+    (ended.InPiece line) kept
+feeds_whole read {piece} {n} line free lt feed nothing is stands =
     let front = take n piece in
     let none : unfinished read ≡ [] =
     nothing_is (sym (nothing_kept (unfinished read)) ∙ ap is_kept_nothing (sym stands) ∙ nothing) in (
@@ -138,7 +138,7 @@ pub feeds_line : (read : List ℕ) {piece : List ℕ} {n : ℕ} {old mid new : K
     → mid ≡ kept_with old (take n piece) → new ≡ kept_ended mid → StandsFor old read
     → (taken : List ℕ) × (piece ≡ taken ++ take (length piece - (n + 1)) (drop (n + 1) piece))
     × EndsLine read taken ended.Held new
-feeds_line read {piece = piece} {n = n} {new = new} free lt feed adds ends stands =
+feeds_line read {piece} {n} {new} free lt feed adds ends stands =
     let front = take n piece in
     let line = unfinished read ++ front in
     let held : new ≡ kept_ended (kept_of line) =

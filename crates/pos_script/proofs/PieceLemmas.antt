@@ -22,7 +22,7 @@ front_onto_nil (x ∷ xs) ps = ap (onto_first x) (front_onto_nil xs ps)
 pub front_more : (c : ℕ) (text : List ℕ) {i : ℕ} (d : ℕ) → i < length text → eqb (get_or text i d) c ≡ false
     → pieces c text ≡ front_onto (take i text) (pieces c (drop i text))
     → pieces c text ≡ front_onto (take (i + 1) text) (pieces c (drop (i + 1) text))
-front_more c text {i = i} d lt ne h =
+front_more c text {i} d lt ne h =
     rw (take_more text i d lt, front_onto_push)
     (h ∙ ap (front_onto (take i text)) (rw (drop_more text i d lt, ne) refl))
 
@@ -30,13 +30,13 @@ front_more c text {i = i} d lt ne h =
 pub front_cut : (c : ℕ) (text : List ℕ) {i : ℕ} (d : ℕ) → i < length text → eqb (get_or text i d) c ≡ true
     → pieces c text ≡ front_onto (take i text) (pieces c (drop i text))
     → pieces c text ≡ take i text ∷ pieces c (drop (i + 1) text)
-front_cut c text {i = i} d lt eq h =
+front_cut c text {i} d lt eq h =
     h ∙ rw (drop_more text i d lt, eq) (front_onto_nil (take i text) (pieces c (drop (i + 1) text)))
 
 -- no cut at all
 pub front_end : (c : ℕ) {text : List ℕ} {i : ℕ} → length text ≤ i
     → pieces c text ≡ front_onto (take i text) (pieces c (drop i text)) → pieces c text ≡ text ∷ []
-front_end c {text = text} {i = i} le h = rw (drop_all i text le, take_all i text le) at h ∙ front_onto_nil text []
+front_end c {text} {i} le h = rw (drop_all i text le, take_all i text le) at h ∙ front_onto_nil text []
 
 -- there is always a piece
 pub some_piece : (c : ℕ) (text : List ℕ) → 0 < length (pieces c text)

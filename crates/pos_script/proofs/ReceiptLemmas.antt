@@ -11,8 +11,8 @@ abbrev pub text_from : List Mark → ℕ → List PrintedCharacter → List ℕ
 text_from marks i characters = items_text (items_from (drop i marks) characters)
 
 -- from a mark on: what the mark prints, and what is printed behind it
-pub text_at : (marks : List Mark) {i : ℕ} (d : Mark) {mark : Mark} (characters : List PrintedCharacter) → i < length marks
-    → get_or marks i d ≡ mark
+pub text_at : (marks : List Mark) {i : ℕ} (d : Mark) {mark : Mark} (characters : List PrintedCharacter)
+    → i < length marks → get_or marks i d ≡ mark
     → text_from marks i characters ≡ items_text (items_from (mark ∷ drop (i + 1) marks) characters)
-text_at marks {i = i} d characters lt is =
+text_at marks {i} d characters lt is =
     ap (λ ms. items_text (items_from ms characters)) (drop_more marks i d lt ∙ ap (λ m. m ∷ drop (i + 1) marks) is)

@@ -63,7 +63,7 @@ pub answers_more : {style : AnswerStyle} (turns : List Turn) (session middle lef
     (old : Streams) {between new : Streams} → AnswersLines style turns session first old between middle
     → AnswersLine style middle last between new true (Ok tt) left
     → (turn : Turn) × AnswersLines style (turns ++ turn ∷ []) session (first ++ last) old new left
-answers_more {style = style} turns session middle left first last old done one =
+answers_more {style} turns session middle left first last old done one =
     let (answers, prints, written) = one.told in
     let turn : Turn = record { name = []; script = one.text; answers = answers } in (
       turn,

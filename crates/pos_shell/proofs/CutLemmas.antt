@@ -27,7 +27,7 @@ moved : {D : Type 0} (state : D → DiskState) {d e : D} {after : DiskState} (en
     (steps : List (Request × Response)) → d ≡ e
     → m ≡ n → (run : Run m steps end) → LeavesOnly (state d) after (IsLeftDuring m steps end run)
     → (again : Run n steps end) × LeavesOnly (state e) after (IsLeftDuring n steps end again)
-moved {D = D} state {d = d} {after = after} end {n = n} steps here same run any_moment =
+moved {D} state {d} {after} end {n} steps here same run any_moment =
     let P : D → Machine → Type 0 =
     λ x y. (r : Run y steps end) × LeavesOnly (state x) after (IsLeftDuring y steps end r) in
     subst (λ x. P x n) here (subst (λ y. P d y) same (run, any_moment))
@@ -39,8 +39,7 @@ pub leaves_steps : {D : Type 0} (bound : DiskGhosts D) {contents : Contents} {di
     → RunsThrough bound wrapped_devices counter steps end → after ≡ end.totals.disk → (left : List Standing)
     → bound.honest disk → LeavesOneOf left (bound.state disk)
     → LeavesSteps contents left (bound.state disk) (bound.state after) steps
-leaves_steps {D = D} bound {contents = contents} {disk = disk} {counter = counter} {end = end} made steps through ends
-    left honest leaves =
+leaves_steps {D} bound {contents} {disk} {counter} {end} made steps through ends left honest leaves =
     let holds : Leaves bound (off_over disk) left = record { honest = honest; leaves = leaves; is_settled = refl } in
     let ran = through.1 left (rw made.totals holds) in
     let last = machine wrapped_devices end (part_of bound end.totals ran.after) in
@@ -53,10 +52,10 @@ leaves_steps {D = D} bound {contents = contents} {disk = disk} {counter = counte
 -- no run
 pub leaves_nothing : {D : Type 0} (bound : DiskGhosts D)
     → ((disk : D) (bytes : List ℕ) → bound.honest disk → (bound.state disk).left_since (bound.state disk).moment bytes
-    → MayLeave (bound.state disk) bytes) → (contents : Contents) (disk : D) {after : D} (left : List Standing) → after ≡ disk
-    → bound.honest disk
+    → MayLeave (bound.state disk) bytes)
+    → (contents : Contents) (disk : D) {after : D} (left : List Standing) → after ≡ disk → bound.honest disk
     → LeavesOneOf left (bound.state disk) → LeavesSteps contents left (bound.state disk) (bound.state after) []
-leaves_nothing {D = D} bound only contents disk left same honest leaves =
+leaves_nothing {D} bound only contents disk left same honest leaves =
     subst (λ (x : D). LeavesSteps contents left (bound.state disk) (bound.state x) []) (sym same) (record {
       end = _;
       run = refl;

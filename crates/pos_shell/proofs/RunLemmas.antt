@@ -55,7 +55,7 @@ pub turns_join : {style : AnswerStyle} (turns : List Turn) (turn : Turn) {sessio
     {old between new : Output} → PrintsTurns style turns session first old between middle
     → LinesPrint middle (turn_lines turn) last turn.answers left → IsWritten between new (turn_text style turn)
     → PrintsTurns style (turns ++ turn ∷ []) session (first ++ last) old new left
-turns_join {style = style} turns turn last done prints written = record {
+turns_join {style} turns turn last done prints written = record {
   prints = rw (one_more turn_lines turns turn, one_more (λ (t : Turn). t.answers) turns turn)
       (prints_join _ (flat_map turn_lines turns) _ _ _ (turn_lines turn) _ _ _ done.prints prints);
   given = rw (one_more (turn_text style) turns turn)

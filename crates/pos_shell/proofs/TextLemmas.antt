@@ -9,4 +9,4 @@ as_tested bytes false is none = is
 
 -- the test fails of them
 pub not_text : {bytes : List ℕ} → ¬ (IsUtf8 bytes) → is_utf8 bytes ≡ false
-not_text {bytes = bytes} none = as_tested bytes (is_utf8 bytes) refl none
+not_text {bytes} none = as_tested bytes (is_utf8 bytes) refl none

@@ -45,6 +45,6 @@ all_harmless (byte ∷ bytes) known = rw (harmless (nat_lt 0 (known_at known byt
 -- one more is at the end of what all are mapped to
 pub mapped_more : {A B : Type 0} (f : A → List B) (xs : List A) {i : ℕ} {x : A} → i < length xs → x ≡ get_or xs i x
     → flat_map f (take (i + 1) xs) ≡ flat_map f (take i xs) ++ f x
-mapped_more f xs {i = i} {x = x} lt is =
+mapped_more f xs {i} {x} lt is =
     ap (flat_map f) (one_taken xs i x lt is) ∙ flat_map-append f (take i xs) (x ∷ [])
     ∙ ap (λ ys. flat_map f (take i xs) ++ ys) (append-nil (f x))

@@ -104,7 +104,7 @@ pub request_run : {chars : ℕ} (made : Printout) (ps : List Piece) → 0 < char
     let end = steps chars (record { style = plain; made = made; used = 0 }) ps in
     (end.made ≡ after_items made.items (printed_by chars made.buffer ps))
     × (end.used ≡ lines_needed (printed_by chars made.buffer ps).items)
-request_run {chars = chars} made ps some le =
+request_run {chars} made ps some le =
     let first : Work = record { style = plain; made = made; used = 0 } in
     let is = same_made chars some ps first plain (begun_segment made.buffer) made.items refl
     (begins_so made.items le) in

@@ -35,7 +35,7 @@ blanked_count s w cells le = grind (arith, length-append, length-take, length-dr
 -- the first cells are blanked, and come last
 feeds_cells : (s w : ℕ) {t : ℕ} (cells next : List DisplayCell) → s + w ≤ length cells → next ≡ blanked s w cells
     → (t ≡ s + w) ⊎ ((s + w ≡ length cells) × (t ≡ 0)) → ShiftsToFront w (turned s cells) (turned t next)
-feeds_cells s w {t = t} cells next within is by = λ k lt.
+feeds_cells s w {t} cells next within is by = λ k lt.
     let count : length next ≡ length cells = ap length is ∙ blanked_count s w cells within in
     let size = turned_count s cells in
     let old = turned_at s (k + w) cells in
@@ -45,7 +45,7 @@ feeds_cells s w {t = t} cells next within is by = λ k lt.
 -- the cells before the first are blanked, and come first
 feeds_cells_back : {s : ℕ} (w t : ℕ) (cells next : List DisplayCell) → t + w ≤ length cells → next ≡ blanked t w cells
     → ((s ≡ 0) × (t + w ≡ length cells)) ⊎ (t + w ≡ s) → ShiftsToEnd w (turned s cells) (turned t next)
-feeds_cells_back {s = s} w t cells next within is by = λ k lt.
+feeds_cells_back {s} w t cells next within is by = λ k lt.
     let count : length next ≡ length cells = ap length is ∙ blanked_count t w cells within in
     let size = turned_count s cells in
     let old = turned_at s (k - w) cells in
@@ -56,7 +56,7 @@ feeds_cells_back {s = s} w t cells next within is by = λ k lt.
 pub feeds : (rows columns first below : ℕ) (cells : List DisplayCell) {next : List DisplayCell}
     → length cells ≡ rows * columns → first < rows → next ≡ blanked (first * columns) columns cells
     → IsBelow rows first below → ShiftsToFront columns (turned (first * columns) cells) (turned (below * columns) next)
-feeds rows columns first below cells {next = next} count lt is by =
+feeds rows columns first below cells {next} count lt is by =
     let within = mul-le-mul_right {m = first + 1} {n = rows} columns (omega arith) in
     feeds_cells (first * columns) columns cells next (omega arith) is (grind arith)
 
@@ -64,7 +64,7 @@ feeds rows columns first below cells {next = next} count lt is by =
 pub feeds_back : (rows columns first above : ℕ) (cells : List DisplayCell) {next : List DisplayCell}
     → length cells ≡ rows * columns → first < rows → next ≡ blanked (above * columns) columns cells
     → IsAbove rows first above → ShiftsToEnd columns (turned (first * columns) cells) (turned (above * columns) next)
-feeds_back rows columns first above cells {next = next} count lt is by =
+feeds_back rows columns first above cells {next} count lt is by =
     let within = mul-le-mul_right {m = above + 1} {n = rows} columns (omega arith) in
     feeds_cells_back columns (above * columns) cells next (omega arith) is (grind arith)
 
@@ -134,7 +134,7 @@ module _ (rows columns first units : ℕ) (old new : List DisplayCell) (lt : fir
 ring_room : (rows columns first row column : ℕ) {start count place long : ℕ} → start ≡ first * columns
     → count ≡ rows * columns → first < rows → row < rows →
     column + long ≤ columns → 1 ≤ long → StandsAt (row * columns + column) start count place → place + long ≤ count
-ring_room rows columns first row column {long = long} e f first_lt lt room some stands =
+ring_room rows columns first row column {long} e f first_lt lt room some stands =
     let end = in_rows rows columns (first + row) (column + long - 1) (omega arith) in
     let last = in_rows rows columns row (column + long - 1) (omega arith) in
     let within = mul-le-mul_right {m = first + 1} {n = rows} columns (omega arith) in

@@ -49,8 +49,8 @@ run_first at attribute b run cells le = ext_get_or blank _ _ (grind (arith, part
     grind (arith, nat_tests, parts, run_at, get_or-set_at, get_or-set_other, length-set))
 
 -- a row has no room for a character only where it is full
-pub row_full : (b : ℕ) {column columns : ℕ} → b ≢ 10 → b ≢ 13 → column ≤ columns → (column < columns → is_character b ≡ false)
-    → column ≡ columns
+pub row_full : (b : ℕ) {column columns : ℕ} → b ≢ 10 → b ≢ 13 → column ≤ columns
+    → (column < columns → is_character b ≡ false) → column ≡ columns
 row_full b e f le stops = grind (arith, nat_tests)
 
 -- so much of a text, and bytes behind it

@@ -38,7 +38,7 @@ moved_cell direction.Right rows columns units row column old new count moved r c
 
 pub scrolls : (direction : Direction) (units : ℕ) {old new : Display} → length old.cells ≡ old.rows * old.columns
     → SameSize old new → Moves direction old.columns units old.cells new.cells → Scrolls old direction units new
-scrolls direction units {old = old} {new = new} count size moved = record {
+scrolls direction units {old} {new} count size moved = record {
   rows = size.rows;
   columns = size.columns;
   count = size.count ∙ count;
@@ -49,5 +49,5 @@ scrolls direction units {old = old} {new = new} count size moved = record {
 pub scrolls_sized : {direction : Direction} {units : ℕ} (rows columns : ℕ) {old new : List DisplayCell}
     → length old ≡ rows * columns → length new ≡ length old → Moves direction columns units old new
     → Scrolls (display_of rows columns old) direction units (display_of rows columns new)
-scrolls_sized {direction = direction} {units = units} rows columns count same moved =
+scrolls_sized {direction} {units} rows columns count same moved =
     scrolls direction units count (record { rows = refl; columns = refl; count = same }) moved

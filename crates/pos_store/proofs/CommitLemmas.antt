@@ -15,7 +15,7 @@ use Rattle.pos_store.specs.declared.medium.StoreMedium.TheVariants as which
 -- the same images over another disk are of the same layout
 pub same_layout : {D : Type 0} (log : LogView D) {new : LogView D} {disk : D} {tail : ℕ}
     → new ≡ log_over (record log.images { disk = disk }) tail → layout_of new.images.slot ≡ layout_of log.images.slot
-same_layout {D = D} log same = ap (λ (l : LogView D). layout_of l.images.slot) same
+same_layout {D} log same = ap (λ (l : LogView D). layout_of l.images.slot) same
 
 -- A group that is applicable, over a log that is ready with the files before it.
 pub record IsGiven {D : Type 0} (bound : Ghosts D) (log : LogView D) (files after : List File)

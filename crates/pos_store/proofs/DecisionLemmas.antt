@@ -48,7 +48,7 @@ spelled_bytes (group ∷ groups) each = (
 
 text_bytes : (groups : List (List ℕ)) {span : List ℕ} → IsBytes span → log.HoldsRecords groups span
     → AllByRecursion IsBytes groups
-text_bytes groups {span = span} each holds = spelled_bytes groups (rw (← holds.front) (IsBytes-take _ span each))
+text_bytes groups {span} each holds = spelled_bytes groups (rw (← holds.front) (IsBytes-take _ span each))
 
 -- some files are the ones after a text, or none are
 abbrev StepOrNone : Limits → List File → List ℕ → Type 0
@@ -70,7 +70,7 @@ carried_out files first changes group spelled (Ok next) is =
         outcome = is;
       },
     )
-carried_out {limits = limits} files first changes group spelled (Err cause) is = inr (λ next step.
+carried_out {limits} files first changes group spelled (Err cause) is = inr (λ next step.
     let same = one_group_spelling step.changes (first ∷ changes) step.group group (sym step.spelled ∙ spelled) in
     let ok = sym is ∙ ap (outcome_of_all limits files) (sym same) ∙ step.outcome in cc)
 
@@ -126,7 +126,7 @@ module _ (bytes : List ℕ) (each : IsBytes bytes) {layout : Layout} where
       → (read : Option (List File))
       → directory_at (limits_of layout) body ≡ read → (standing : Standing) × StandsFor standing bytes
   with_body is None read = grind (arith, no_body_stands, no_body, writable)
-  with_body {body = body} {sequence = sequence} is (Some base) read = with_base base body sequence is read
+  with_body {body} {sequence} is (Some base) read = with_base base body sequence is read
 
 module _ (bytes : List ℕ) (each : IsBytes bytes) where
   with_image : (standing : image.ImageStanding) → image.image_on bytes ≡ standing

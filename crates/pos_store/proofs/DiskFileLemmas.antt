@@ -15,7 +15,7 @@ applies_more limits (first ∷ texts) files last text next applies step =
 -- what the disk of images that are ready shows
 pub shows_now : {D : Type 0} (bound : Ghosts D) {images : View D} → IsReady bound images → bound.honest images.disk
     → image.ShowsImage (layout_of images.slot) images.body images.sequence (bound.state images.disk).reading
-shows_now bound {images = images} ready honest =
+shows_now bound {images} ready honest =
     (ready.leaves honest (bound.state images.disk).reading
     (record { same_length = refl; settled = λ i tight. refl })).image
 

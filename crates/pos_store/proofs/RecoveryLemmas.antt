@@ -40,7 +40,7 @@ pub refused_recovers : {D : Type 0} {bound : Ghosts D} {disk end : D} {layout : 
     → (bound.honest disk → Watches (bound.state disk) (bound.state end))
     → (bound.honest disk → HasNotFailed (bound.state disk) (bound.state end)) → KeepsDisk bound disk end
     → Recovers bound (view_of (which.Off disk layout)) (Err cause) (view_of (which.Off end layout))
-refused_recovers {bound = bound} {disk = disk} {layout = layout} cause none finds watches same keeps =
+refused_recovers {bound} {disk} {layout} cause none finds watches same keeps =
     off_recovers bound disk layout (Err cause) _ finds (λ err. refl) watches (λ h. tt) (λ h. tt)
     (λ h is. absurd (none is)) (λ h. inr (same h)) keeps
 

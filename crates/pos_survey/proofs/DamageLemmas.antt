@@ -31,20 +31,21 @@ pub no_files : {bytes body : List ℕ} {slot : Slot} {sequence : ℕ} (cause : S
 no_files fault.NoMemory current none = tt
 no_files fault.TooSmall current none = absurd none
 no_files fault.Unformatted current none = absurd none
-no_files {bytes = bytes} {body = body} {slot = slot} {sequence = sequence} (fault.Damaged at (rule.NoFiles flaw)) current (none, (within, place_is, has)) = (
-  no_body_stands bytes (layout_of slot) body sequence (image_here current).image none,
-  record {
-    slot = slot;
-    body = body;
-    sequence = sequence;
-    current = current;
-    none = none;
-    within = within;
-    place_is =
-        place_is;
-    has = has;
-  },
-)
+no_files {bytes} {body} {slot} {sequence} (fault.Damaged at (rule.NoFiles flaw)) current
+    (none, (within, place_is, has)) = (
+      no_body_stands bytes (layout_of slot) body sequence (image_here current).image none,
+      record {
+        slot = slot;
+        body = body;
+        sequence = sequence;
+        current = current;
+        none = none;
+        within = within;
+        place_is =
+            place_is;
+        has = has;
+      },
+    )
 no_files (fault.Damaged at other) current none = absurd none
 
 -- a text with a flaw is no step
@@ -58,7 +59,7 @@ no_step rule.NoGroup flaw step = flaw (step.changes, step.group, step.spelled)
 no_step rule.EmptyGroup flaw step =
     step.some (one_group_spelling step.changes [] step.group (record { count = omega arith; each = tt })
     (sym step.spelled ∙ flaw))
-no_step {limits = limits} {files = files} {text = text} (rule.NotApplicable cause) (changes, group, spelled, refused) {next = next} step =
+no_step {limits} {files} {text} (rule.NotApplicable cause) (changes, group, spelled, refused) {next} step =
     refused_step limits files text changes cause group spelled refused next step
 
 -- what goes on behind a text does so behind the files before it
@@ -74,7 +75,7 @@ goes_on base (one ∷ before) behind last (next, step, more) =
 -- records of which one breaks a rule aren't applied
 pub none_applied : {limits : Limits} (base : List File) {texts : List (List ℕ)} {first : ℕ} (at : ℕ) (broken : Rule)
     → StopsAt limits base texts first at broken → (last : List File) → Applies limits base texts last → ⊥
-none_applied {limits = limits} base at broken stops last applies =
+none_applied {limits} base at broken stops last applies =
     let (files, applied, goes) = goes_on base stops.before stops.behind last (rw stops.texts_are at applies) in
     let (next, step) = goes in
     let same = one_end limits stops.before base files stops.files applied stops.applies in

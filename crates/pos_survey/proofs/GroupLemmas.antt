@@ -15,13 +15,13 @@ use Rattle.pos_survey.specs.declared.fault.SurveyFault.TheVariants as fault
 -- what stands before an item, the item, and what stands behind it
 pub in_three : {X : Type 0} (f : X → List ℕ) (xs : List X) (i : ℕ) {x : X} → i < length xs → x ≡ get_or xs i x
     → map f xs ≡ map f (take i xs) ++ f x ∷ map f (drop (i + 1) xs)
-in_three f xs i {x = x} less is =
+in_three f xs i {x} less is =
     ap (map f) (sym (take-append-drop i xs) ∙ ap (λ d. take i xs ++ d) (front_drop xs i x less is))
     ∙ map-append f (take i xs) (x ∷ drop (i + 1) xs)
 
 -- a record ends before all of them do
-pub ends_within : {texts : List (List ℕ)} (before behind : List (List ℕ)) (text : List ℕ) → texts ≡ before ++ text ∷ behind
-    → length (spelling before) + (5 + length text) ≤ length (spelling texts)
+pub ends_within : {texts : List (List ℕ)} (before behind : List (List ℕ)) (text : List ℕ)
+    → texts ≡ before ++ text ∷ behind → length (spelling before) + (5 + length text) ≤ length (spelling texts)
 ends_within before behind text is =
     let whole = ap length (ap spelling is ∙ flat_map-append record_spelling before (text ∷ behind)) in
     let two = length-append (spelling before) (record_spelling text ++ spelling behind) in

@@ -51,7 +51,7 @@ finds_more folder them (first ∷ paths) found path more (here, others, at, rest
 pub sorted_texts : {A : Type 0} (names : List (String A)) → IsSorted string_cmp names
     → IsSorted (slice_cmp nat_cmp) (texts names)
 sorted_texts [] sorted k d low high = absurd (omega (arith, high))
-sorted_texts {A = A} (name ∷ names) sorted k d low high =
+sorted_texts {A} (name ∷ names) sorted k d low high =
     let all : List (String A) = name ∷ names in
     let below : k + 1 < length all =
     subst (λ (n : ℕ). k + 1 < n) (length-map all (λ (x : String A). string_bytes x)) high in

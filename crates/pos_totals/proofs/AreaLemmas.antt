@@ -75,7 +75,7 @@ pub sound_claimed : {layout : Layout} (state : State) (tail : ℕ) {holdings : H
     → IsSound layout state holdings → IsSound layout state (record holdings { area = Some control })
 sound_claimed StoreOff tail free sound =
     record { found = tt; handles = tt; buffers = sound.buffers; apart = tt }
-sound_claimed (StoreReady files sequence) tail {holdings = holdings} {control = control} free sound = record {
+sound_claimed (StoreReady files sequence) tail {holdings} {control} free sound = record {
   found = sound.found;
   handles = sound.handles;
   buffers = sound.buffers;

@@ -45,18 +45,18 @@ pub buffered_after : {layout : Layout} {files : List File} {next control : ℕ} 
     (change buffered : Change)
     → IsUnrefused layout files next control spent change → IsBuffered files next buffered
     → IsBuffered (files_after next files change) (next_after next change) buffered
-buffered_after {files = files} {next = next} (Create name size) (Edit handle edit) may is = (
+buffered_after {files} {next} (Create name size) (Edit handle edit) may is = (
   given_more handle (omega arith) is.0,
   all_with (λ file. is_called handle file ≡ true → fits (length file.bytes) edit ≡ true) files is.1
       (λ called. absurd (new_handle next handle name (replicate (nat_abs size) 0) is.0 called)),
   is.2,
 )
-buffered_after {files = files} (Delete name) (Edit handle edit) may is =
+buffered_after {files} (Delete name) (Edit handle edit) may is =
     (is.0, all_left _ (λ file. not (is_named name file)) files is.1, is.2)
-buffered_after {files = files} {next = next} (Rename other name) (Edit handle edit) may is =
+buffered_after {files} {next} (Rename other name) (Edit handle edit) may is =
     same_buffered files (files_after next files (Rename other name)) next (Edit handle edit)
     (sym (kept outline (is_called other) (λ file. record file { name = name }) files (λ file. refl))) is
-buffered_after {files = files} {next = next} (Edit other done) (Edit handle edit) may is =
+buffered_after {files} {next} (Edit other done) (Edit handle edit) may is =
     same_buffered files (files_after next files (Edit other done)) next (Edit handle edit)
     (sym (edits_keep files other done (all_fit files other done may.theirs.distinct (edit_fits may)))) is
 buffered_after change other may is = absurd is
@@ -136,7 +136,7 @@ pub holds_so : (files after : List File) (sequence later : ℕ) {next following 
     (transactions : List (Option (List Change)))
     → ((change : Change) → IsBuffered files next change → IsBuffered after following change)
     → HaveBuffers (Ready files sequence) next transactions → HaveBuffers (Ready after later) following transactions
-holds_so files after sequence later {next = next} {following = following} transactions so all =
+holds_so files after sequence later {next} {following} transactions so all =
     all_so (MayHold (Ready files sequence) next) (MayHold (Ready after later) following) transactions each all
   where
     each : (transaction : Option (List Change)) → MayHold (Ready files sequence) next transaction

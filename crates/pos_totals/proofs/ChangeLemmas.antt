@@ -50,7 +50,7 @@ pub stays : {D : Type 0} {bound : Ghosts D} {store : StoreView D} {holdings : Ho
     → Changed (HasFailed bound store.disk store.disk) (totals_of store holdings) control change outcome
     (totals_of store holdings)
     → Changes bound (view_of store holdings) control change outcome (view_of store holdings)
-stays {store = store} {holdings = holdings} begins {control = control} {change = change} {outcome = outcome} changed = record {
+stays {store} {holdings} begins {control} {change} {outcome} changed = record {
   answer = changed;
   disk = rests begins _ outcome (is_group store.state store.tail holdings control change begins.directory begins.sound);
 }
@@ -86,7 +86,7 @@ given_below handle (first ∷ files) next below =
 -- a change that is let through and bufferable is what may be buffered
 is_buffered : {layout : Layout} {files : List File} {next control : ℕ} {spent : Option ℕ} (change : Change)
     → IsUnrefused layout files next control spent change → is_some spent ≡ true → IsBuffered files next change
-is_buffered {files = files} {next = next} (Edit handle edit) may inside =
+is_buffered {files} {next} (Edit handle edit) may inside =
     let fit = edit_fits may in
     let found = fitting (find (is_called handle) files) edit fit in (
       found_has (is_called handle) (λ file. IsGiven next handle) files found.0
@@ -104,7 +104,7 @@ may_hold : (mode : Mode) (next : ℕ) (transactions : List (Option (List Change)
     → IsBuffered (files_of mode) next change → MayHold mode next (Some (buffer ++ change ∷ []))
 may_hold Off next transactions control change held some is =
     absurd (let none = held_at Off next transactions control held some in cc)
-may_hold (Ready files sequence) next transactions control {buffer = buffer} change held some is =
+may_hold (Ready files sequence) next transactions control {buffer} change held some is =
     all_with (IsBuffered files next) buffer (held_at (Ready files sequence) next transactions control held some) is
 
 -- ---- a change that is let through
@@ -113,16 +113,16 @@ may_hold (Ready files sequence) next transactions control {buffer = buffer} chan
 has_place : {layout : Layout} {files : List File} {next control : ℕ} {spent : Option ℕ} (change : Change)
     → IsUnrefused layout files next control spent change → (is_create change && nat_eq next last_number) ≡ false
     → next < 2 ^ 64 → HasPlace (tags_of files) next (file_change files change)
-has_place {layout = layout} {files = files} {next = next} (Create name size) may left small =
+has_place {layout} {files} {next} (Create name size) may left small =
     let rows = may.rows in
     let few : length files < (limits_of layout).files = grind (arith, nat_tests) in
     let other = eqb-false next last_number left in
     (grind (arith, length-map files tag_of, few), omega (arith, other, small))
-has_place {files = files} (Delete name) may left small =
+has_place {files} (Delete name) may left small =
     let found = deleted may in
     omega (arith, length-map files tag_of, found_inside (is_named name) files found.0 found.1)
 has_place (Rename handle name) may left small = tt
-has_place {files = files} {next = next} (Edit handle edit) may left small =
+has_place {files} {next} (Edit handle edit) may left small =
     (keeps_handles (index_of (is_called handle) files) edit).place (tags_of files) next
 
 -- the holdings after a change that was done
@@ -153,7 +153,7 @@ pub allowed : {D : Type 0} {bound : Ghosts D} {disk : D} {layout : Layout} (stat
     → ChecksAt (totals_at state tail holdings) control change (Ok made)
     → Allowed bound (record { disk = disk; layout = layout; state = state; tail = tail }) holdings control change made
 allowed StoreOff begins checks = absurd checks.1
-allowed (StoreReady files sequence) {holdings = holdings} begins checks = record {
+allowed (StoreReady files sequence) {holdings} begins checks = record {
   begins = begins;
   ready = tt;
   unrefused = rw checks.0 checks.1.unrefused;
@@ -305,7 +305,7 @@ pub put_down : {D : Type 0} {bound : Ghosts D} {store : StoreView
     later_holdings holdings (kept_holdings holdings made.change) result in
     Changes bound (view_of store holdings) control change (answer_by (value_after holdings.handles.next made.change)
     result) (view_of new now) × IsSound new.layout new.state now
-put_down {holdings = holdings} {change = change} (FoundFile disk files sequence tail) may free left {new = new} {result = result} commits =
+put_down {holdings} {change} (FoundFile disk files sequence tail) may free left {new} {result} commits =
     let did = puts (put may free left) new result (rw (← may.passes.made) at commits) in
     rw (← may.passes.made, (numbers_are (there may free left) change holdings.handles.next).2)
     (record { answer = did.0; disk = rw (grouped may free) did.1 }, did.2)
@@ -314,7 +314,7 @@ put_down {holdings = holdings} {change = change} (FoundFile disk files sequence 
 pub theirs : {layout : Layout} (state : State) (tail : ℕ) {holdings : Holdings} → HasDirectory holdings.layout state
     → IsSound layout state holdings → HasItsFiles (totals_at state tail holdings)
 theirs StoreOff tail directory sound = record { files = tt; buffers = sound.buffers; apart = grind arith }
-theirs (StoreReady files sequence) tail {holdings = holdings} directory sound = record {
+theirs (StoreReady files sequence) tail {holdings} directory sound = record {
   files = sound_files holdings directory sound.handles;
   buffers = sound.buffers;
   apart = files_apart holdings.area holdings.handles.given files sound.apart;

@@ -48,7 +48,7 @@ reclaims : {layout : Layout} (state : State) (tail : ℕ) {holdings : Holdings} 
     }) × IsSound layout state (with_claims holdings whose claim)
 reclaims StoreOff tail whose claim sound own =
     (refl, record { found = tt; handles = tt; buffers = sound.buffers; apart = tt })
-reclaims (StoreReady files sequence) tail {holdings = holdings} whose claim sound own =
+reclaims (StoreReady files sequence) tail {holdings} whose claim sound own =
     let tags = holdings.handles.given in
     let xs = with_tags tags files in
     let same = files_reclaimed whose claim tags files in
@@ -78,7 +78,7 @@ pub claim_changes : {layout : Layout} {state : State} (tail : ℕ) {holdings : H
     → let later = with_claims holdings (whose.File number) (claim_after control claiming) in
     Arranges (totals_at state tail holdings) control (arrangement_by handle claiming) (answer.Done value.Empty)
     (totals_at state tail later) × IsSound layout state later
-claim_changes {state = state} tail {holdings = holdings} control {handle = handle} claiming {number = number} through sound =
+claim_changes {state} tail {holdings} control {handle} claiming {number} through sound =
     let passes = through.0 in
     let both = reclaims state tail (whose.File number) (claim_after control claiming) sound
     (grind (arith, nat_tests)) in
@@ -103,7 +103,7 @@ without holdings control = record holdings {
 pub control_dropped : {layout : Layout} {state : State} (tail : ℕ) {holdings : Holdings} (control : ℕ)
     → IsSound layout state holdings → let later = with_claims (without holdings control) (whose.Control control) None in
     (totals_at state tail later ≡ without_control (totals_at state tail holdings) control) × IsSound layout state later
-control_dropped {state = state} tail {holdings = holdings} control sound =
+control_dropped {state} tail {holdings} control sound =
     reclaims state tail (whose.Control control) None (record {
       found = sound.found;
       handles = sound.handles;

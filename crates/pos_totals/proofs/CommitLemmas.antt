@@ -33,7 +33,7 @@ one_group : {layout : Layout} (state : State) (tail : ℕ) {holdings : Holdings}
     → IsSound layout state holdings → first_refusal (refusals_of_commit (totals_at state tail holdings) control) ≡ None
     → transaction_at holdings.transactions control ≡ Some buffer → IsOneGroup (totals_at state tail holdings) buffer
 one_group StoreOff tail control directory sound passes some = absurd (grind (arith, nat_tests))
-one_group (StoreReady files sequence) tail {holdings = holdings} control {buffer = buffer} directory sound passes some =
+one_group (StoreReady files sequence) tail {holdings} control {buffer} directory sound passes some =
     let xs = with_tags holdings.handles.given files in
     let there : list_any (is_of_none xs) buffer ≡ false = grind (arith, nat_tests) in
     makes_all holdings.layout xs holdings.handles.next buffer (sound_files holdings directory sound.handles).distinct
@@ -183,7 +183,7 @@ pub put_down : {D : Type 0} {bound : Ghosts D} {store : StoreView D} {holdings :
     → let now = later_holdings holdings (ended begins control) result in
     CommitsBuffer bound (view_of store holdings) control (answer_by value.Empty result) (view_of new now)
     × IsSound new.layout new.state now
-put_down (FoundFile disk files sequence tail) begins {control = control} passes {new = new} {result = result} does =
+put_down (FoundFile disk files sequence tail) begins {control} passes {new} {result} does =
     let it = does.gathered in
     let did = puts (put begins control passes it.first it.others it.buffered) new result (rw it.made at does.commits) in
     (record { answer = did.0; disk = rw (grouped begins control passes it.first it.others it.buffered) did.1 }, did.2)
@@ -192,7 +192,7 @@ put_down (FoundFile disk files sequence tail) begins {control = control} passes 
 pub found : {D : Type 0} {bound : Ghosts D} {store : StoreView D} {holdings : Holdings} → Begins bound store holdings
     → (control : ℕ)
     → first_refusal (refusals_of_commit (totals_of store holdings) control) ≡ None → IsFound holdings store
-found {store = store} {holdings = holdings} begins control passes =
+found {store} {holdings} begins control passes =
     as_found begins (ready_so store.state store.tail holdings control passes)
 
 -- a commit that is done, with a group on the disk or with nothing to do

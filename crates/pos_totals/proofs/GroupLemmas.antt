@@ -113,7 +113,7 @@ module _ {layout : Layout} {files : List File} {next control : ℕ} {spent : Opt
   -- the file of a delete
   pub deleted : {name : List ℕ} → IsUnrefused layout files next control spent (Delete name)
       → (file : File) × (find (is_named name) files ≡ Some file)
-  deleted {name = name} may =
+  deleted {name} may =
       let there : has_file (is_named name) files ≡ true = grind (arith, nat_tests, may.rows) in
       some_of (find (is_named name) files) there
 

@@ -94,7 +94,7 @@ pub are_after : {layout : Layout} {files : List File} {next control : ℕ} {spen
     → IsUnrefused layout files next control spent change
     → AreHandles (given_after (tags_of files) next (file_change files change)) (plain (files_after next files change))
     (following next (file_change files change))
-are_after {files = files} {next = next} change may =
+are_after {files} {next} change may =
     let numbers : numbers_of (tags_of files) ≡ handles_of files =
     map-map (λ (tag : FileTag). tag.handle) tag_of files in
     let after = handles_after (file_change files change) (tags_of files) next (rw numbers may.theirs.distinct)

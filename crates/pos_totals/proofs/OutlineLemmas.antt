@@ -80,7 +80,7 @@ none_meets test P (first ∷ files) none =
 pub one_meets : (test : File → Bool) (P : File → Type 0) (files : List File) {file : File} → OnlyOne test files
     → find test files ≡ Some file → P file → AllByRecursion (λ file. test file ≡ true → P file) files
 one_meets test P [] only found here = absurd cc
-one_meets test P (first ∷ files) {file = file} only found here = ⊎_elim
+one_meets test P (first ∷ files) {file} only found here = ⊎_elim
     (λ is. (λ meets. subst P (sym (same_Some first file (rw is at found))) here, none_meets test P files (only.0 is)))
     (λ is. (λ meets. absurd cc, one_meets test P files only.1 (rw is at found) here)) (cases_Bool (test first))
 

@@ -49,7 +49,7 @@ pub their_files : {layout : Layout} (state : State) {holdings : Holdings} (disk 
     → IsSound layout state holdings
     → LeavesItsFiles layout state disk → LeavesTheirFiles holdings.layout (mode_of holdings.handles.given state) disk
 their_files StoreOff disk sound leaves = tt
-their_files (StoreReady files sequence) {holdings = holdings} disk sound leaves =
+their_files (StoreReady files sequence) {holdings} disk sound leaves =
     rw (plain_of holdings.handles.given files sound.handles.count, ← sound.found) leaves
 
 -- where the records of its disk end, in the totals' words
@@ -85,15 +85,15 @@ passes_here : {disk : DiskState} (layout : Layout) (next : ℕ) (mode : Mode) (c
     → ((c : List ℕ) → disk.left_since disk.moment c → MayLeave disk c)
     → WhenOff mode (LeavesOneOf left disk) → LeavesTheirFiles layout mode disk
     → Passes disk disk (settled layout mode left) (settled layout mode (in_doubt layout next left changes mode))
-passes_here {disk = disk} layout next Off changes left only leaves their = stays disk left only leaves
-passes_here {disk = disk} layout next (Ready files sequence) changes left only leaves their =
+passes_here {disk} layout next Off changes left only leaves their = stays disk left only leaves
+passes_here {disk} layout next (Ready files sequence) changes left only leaves their =
     stays disk (Stands layout (plain files) sequence ∷ []) only their
 
 -- the files that a store has, with their tags, are sound
 pub sound_files : (holdings : Holdings) {files : List PlainFile} → IsDirectory (limits_of holdings.layout) files
     → AreHandles holdings.handles.given files holdings.handles.next
     → AreTheirFiles holdings.layout (with_tags holdings.handles.given files) holdings.handles.next
-sound_files holdings {files = files} directory handles = record {
+sound_files holdings {files} directory handles = record {
   distinct = rw (numbers_in holdings.handles.given files handles.count) handles.distinct;
   below = rw (numbers_in holdings.handles.given files handles.count) handles.below;
   directory = rw (plain_of holdings.handles.given files handles.count) directory;
@@ -158,7 +158,7 @@ stands_among : {layout : Layout} {files : List PlainFile} {sequence : ℕ} (sequ
     → IsAmong sequence sequences → {bytes : List ℕ}
     → StandsFor (Stands layout files sequence) bytes → StandsForOneOf (map (λ n. Stands layout files n) sequences) bytes
 stands_among [] among stands = absurd among
-stands_among {layout = layout} {files = files} (first ∷ others) among {bytes = bytes} stands =
+stands_among {layout} {files} (first ∷ others) among {bytes} stands =
     ⊎_elim (λ same. inl (subst (λ (n : ℕ). StandsFor (Stands layout files n) bytes) same stands))
     (λ rest. inr (stands_among others rest stands)) among
 
@@ -169,7 +169,7 @@ pub group_applies : {layout : Layout} (state : State) (tail : ℕ) {holdings : H
     → IsSound layout state holdings → IsOneGroup (totals_at state tail holdings) changes
     → IsApplicable layout state (group_of (files_of (mode_of holdings.handles.given state)) changes)
 group_applies StoreOff tail changes sound group = tt
-group_applies (StoreReady files sequence) tail {holdings = holdings} changes sound group =
+group_applies (StoreReady files sequence) tail {holdings} changes sound group =
     rw (sound.found, (rw (plain_of holdings.handles.given files sound.handles.count) at group)) refl
 
 -- What a call is that puts a group on the disk of a store that is ready: its table answers it by what becomes of the

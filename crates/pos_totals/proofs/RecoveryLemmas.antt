@@ -23,7 +23,7 @@ pub ready_recovers : {D : Type 0} {bound : Ghosts D} {disk : D} {layout : Layout
     → let old = view_of (record { disk = disk; layout = layout; state = state; tail = tail }) holdings in
     Recovers bound old (Ok tt) old
 ready_recovers StoreOff tail sound ready leaves = absurd cc
-ready_recovers {bound = bound} {disk = disk} (StoreReady files sequence) tail sound ready leaves = record {
+ready_recovers {bound} {disk} (StoreReady files sequence) tail sound ready leaves = record {
   ready = (refl, refl);
   answer = tt;
   one_of = λ h. tt;
@@ -94,7 +94,7 @@ off_is disk layout StoreOff tail off = WasOff disk layout tail
 off_is disk layout (StoreReady files sequence) tail off = absurd cc
 
 pub was_off : {D : Type 0} {old : StoreView D} → store_mode_of old.state ≡ mode.Off → IsOff old
-was_off {old = old} off = off_is old.disk old.layout old.state old.tail off
+was_off {old} off = off_is old.disk old.layout old.state old.tail off
 
 -- a store that shows files
 pub data Shows {D : Type 0} (files : List PlainFile) : StoreView D → Type 0 where
@@ -110,7 +110,7 @@ shown_at disk layout (StoreReady found sequence) tail files is = let same : foun
 
 pub shown : {D : Type 0} {mid : StoreView D} {files : List PlainFile} → store_files_of mid.state ≡ Some files
     → Shows files mid
-shown {mid = mid} {files = files} is = shown_at mid.disk mid.layout mid.state mid.tail files is
+shown {mid} {files} is = shown_at mid.disk mid.layout mid.state mid.tail files is
 
 module _ {D : Type 0} {bound : Ghosts D} where
   -- the store met a fault
@@ -122,7 +122,7 @@ module _ {D : Type 0} {bound : Ghosts D} where
       → {why : StoreFault} {result : RecoveryFault} → store.Recovers bound old (Err why) mid → told_as why ≡ Some result
       → Recovers bound (view_of old holdings) (Err result) (view_of mid holdings) × IsSound mid.layout mid.state
       holdings
-  store_failed {mid = mid} (WasOff disk layout tail) {holdings = holdings} sound {why = why} did tells =
+  store_failed {mid} (WasOff disk layout tail) {holdings} sound {why} did tells =
       let none = (told_finds (store.DiskStandsFor bound disk) holdings why mid.layout did.answer tells).0 in
       let still : IsSound mid.layout mid.state holdings =
       rw none (record { found = tt; handles = tt; buffers = sound.buffers; apart = tt }) in (
@@ -140,8 +140,8 @@ module _ {D : Type 0} {bound : Ghosts D} where
       → Numbers holdings.handles.given holdings.handles.next (length files) true table.given table.next
       → Recovers bound (view_of old holdings) (Ok tt) (view_of mid (found_by holdings mid.layout table))
       × IsSound mid.layout mid.state (found_by holdings mid.layout table)
-  store_found {files = files} (WasOff disk layout tail)
-      (Shown after found sequence end) {holdings = holdings} sound did numbers = rw (numbers.1, numbers.2) (
+  store_found {files} (WasOff disk layout tail)
+      (Shown after found sequence end) {holdings} sound did numbers = rw (numbers.1, numbers.2) (
       let next = holdings.handles.next in
       let later = found_by holdings found (found_table next (length files)) in
       let still : IsSound found (StoreReady files sequence) later = record {
@@ -173,8 +173,8 @@ module _ {D : Type 0} {bound : Ghosts D} where
       → new ≡ record { disk = mid.disk; layout = Layout1; state = StoreOff; tail = 0 }
       → Recovers bound (view_of old holdings) (Err fault.Handles) (view_of new (with_table holdings table)) × IsSound
       new.layout new.state (with_table holdings table)
-  store_found_more {files = files} (WasOff disk layout tail)
-      (Shown after found sequence end) {holdings = holdings} sound did numbers turned =
+  store_found_more {files} (WasOff disk layout tail)
+      (Shown after found sequence end) {holdings} sound did numbers turned =
       rw (turned, numbers.1, numbers.2) (
         let many = numbers.0 in
             off_recovers holdings did StoreOff holdings (λ P finds. (

@@ -54,7 +54,7 @@ pub shows : {layout : Layout} (state : State) {holdings : Holdings} {directory :
     → HasDirectory holdings.layout state × IsDirectory (limits_of holdings.layout) directory.files
     × (length holdings.handles.given ≡ length directory.files)
 shows StoreOff sound is limits within = absurd cc
-shows (StoreReady files sequence) {holdings = holdings} {directory = directory} sound is limits within =
+shows (StoreReady files sequence) {holdings} {directory} sound is limits within =
     let same : directory.files ≡ files = cc in
     let found : IsDirectory (limits_of holdings.layout) directory.files = rw (limits, sound.found) at within in
     (rw same at found, found, sound.handles.count ∙ ap length (sym same))

@@ -9,7 +9,7 @@ use Rattle.pos_wire.specs.Frames.{AllDo, Does}
 pub asks : (width : ℕ) {sent : List ℕ}
     → ((press : Press) → press.begun ≡ [] → press_after width press sent ≡ questioned sent press)
     → AllDo false width [] [] (sent ∷ []) sent
-asks width {sent = sent} h press ready =
+asks width {sent} h press ready =
     subst (λ (new : Press). Does [] [] (sent ∷ []) press new) (sym (h press ready.whole)) (record {
       paper = sym (append-nil press.paper);
       pulses = sym (append-nil press.pulses);

@@ -54,7 +54,7 @@ pub drawer_sends : {settings : WireSettings} {is_new : Bool} {end : JobEnd} {sta
     → ((width : ℕ) → AllDo is_new width [] (kick_pulse (kick_of settings) ∷ [])
     (asked_first is_new ++ asked_last end) bytes)
     → SendsOrder settings is_new end state asked bytes
-drawer_sends {settings = settings} {is_new = is_new} {end = end} {state = state} {asked = asked} {bytes = bytes} is_on is fits all =
+drawer_sends {settings} {is_new} {end} {state} {asked} {bytes} is_on is fits all =
     let there = opens asked state.plant.mechanism is fits in
     record {
       new = switched_on (mechanism.Drawer true);
@@ -94,7 +94,7 @@ pub printer_sends : {settings : WireSettings} {is_new : Bool} {end : JobEnd} {st
     → AllDo is_new settings.width (all_on_paper (cut_of settings) roll.items) []
     (asked_first is_new ++ asked_last end) bytes
     → SendsOrder settings is_new end state asked bytes
-printer_sends {settings = settings} {is_new = is_new} {end = end} {state = state} {asked = asked} {roll = roll} {bytes = bytes} adds all =
+printer_sends {settings} {is_new} {end} {state} {asked} {roll} {bytes} adds all =
     let printer = adds.printer in
     let left = mechanism.Printer (record roll { items = printer.items ++ roll.items }) in
     let same = subst (λ (items : List Item). AllDo is_new settings.width (all_on_paper (cut_of settings) items) []
@@ -113,7 +113,7 @@ pub display_sends : {settings : WireSettings} {is_new : Bool} (end : JobEnd) {st
     {old : Display} (new : Display) {bytes : List ℕ}
     → IsOn state.plant → state.plant.mechanism ≡ mechanism.Display old → Performs asked (lit old) reply.Done (lit new)
     → AllShow settings is_new old new bytes → SendsOrder settings is_new end state asked bytes
-display_sends {settings = settings} {is_new = is_new} end {asked = asked} new {bytes = bytes} is_on is done shows = record {
+display_sends {settings} {is_new} end {asked} new {bytes} is_on is done shows = record {
   new = lit new;
   done = subst (λ (plant : Plant). Performs asked plant reply.Done (lit new)) (sym (lit_is is_on is)) done;
   sends = subst (λ (was : Mechanism). Sends settings is_new end asked was (mechanism.Display new) bytes) (sym is) shows;
@@ -138,7 +138,7 @@ adds_nothing chars near is_new state asked is nothing =
 -- a printer's characters a line
 chars_are : {chars : ℕ} (near : ℕ) {old : Mechanism} {printer : Printer} → old ≡ mechanism.Printer printer
     → IsMechanismOf (kind.Printer chars near) old → printer.chars ≡ chars
-chars_are {chars = chars} near {printer = printer} is kind_is =
+chars_are {chars} near {printer} is kind_is =
     let there : IsMechanismOf (kind.Printer chars near) (mechanism.Printer printer) =
     subst (λ (f : Mechanism). IsMechanismOf (kind.Printer chars near) f) is kind_is in
     there
@@ -147,7 +147,7 @@ chars_are {chars = chars} near {printer = printer} is kind_is =
 pub adds_misfit : (chars near : ℕ) (is_new : Bool) (state : PeripheralState) {asked : Order} {roll : Printer}
     → IsPlantOf (kind.Printer chars near) state.plant → Adds state.plant asked roll → all_fit chars roll.items ≡ false
     → HasNoBytes is_new state asked
-adds_misfit chars near is_new state {asked = asked} {roll = roll} is adds misfit =
+adds_misfit chars near is_new state {asked} {roll} is adds misfit =
     let printer = adds.printer in
     let left = mechanism.Printer (record roll { items = printer.items ++ roll.items }) in
     let same : printer.chars ≡ chars = chars_are near adds.stands is in

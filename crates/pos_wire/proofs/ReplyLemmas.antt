@@ -62,7 +62,7 @@ lone_comes (Some status) b reader = ⊎_elim (λ (plain : is_plain b ≡ true).
 
 continued_comes : (begun : List ℕ) (first : ℕ) {b : ℕ} (reader : Reader) → Counts begun (continued begun first b reader)
     → Comes begun reader b (continued begun first b reader)
-continued_comes begun first {b = b} reader count = ⊎_elim (λ (whole : (length begun + 1 == reply_size first) ≡ true).
+continued_comes begun first {b} reader count = ⊎_elim (λ (whole : (length begun + 1 == reply_size first) ≡ true).
     let told = whole_reply (begun ++ b ∷ []) in
     let end = step_of (record { skipped = 0; reply = told }) (idle reader) in
     let is : continued begun first b reader ≡ end = rw whole refl in
@@ -76,8 +76,8 @@ continued_comes begun first {b = b} reader count = ⊎_elim (λ (whole : (length
 
 later_comes : (begun : List ℕ) {b : ℕ} (reader : Reader) → Counts begun (later_received begun b reader)
     → Comes begun reader b (later_received begun b reader)
-later_comes [] {b = b} reader count = lone_comes reader.asked_in_order b reader
-later_comes (first ∷ more) {b = b} reader count = ⊎_elim (λ (goes : goes_on first (length (first ∷ more)) b ≡ true).
+later_comes [] {b} reader count = lone_comes reader.asked_in_order b reader
+later_comes (first ∷ more) {b} reader count = ⊎_elim (λ (goes : goes_on first (length (first ∷ more)) b ≡ true).
     let is : later_received (first ∷ more) b reader ≡ continued (first ∷ more) first b reader = rw goes refl in
     let counted : Counts (first ∷ more) (continued (first ∷ more) first b reader) =
     subst (λ (step : Step). Counts (first ∷ more) step) is count in
@@ -94,7 +94,7 @@ begins reader first starts = rw (first, starts) refl
 
 first_comes : {b : ℕ} (reader : Reader) → is_first b ≡ true
     → Comes reader.begun reader b (first_received reader.begun b reader)
-first_comes {b = b} reader first = ⊎_elim (λ (starts : (begins_status b || begins_job b) ≡ true).
+first_comes {b} reader first = ⊎_elim (λ (starts : (begins_status b || begins_job b) ≡ true).
     let is : first_received reader.begun b reader ≡ reads_none (length reader.begun) (b ∷ []) reader = rw starts refl in
     inr (inr (inl (is, begins reader first starts))))
     (λ (other : (begins_status b || begins_job b) ≡ false). ⊎_elim
@@ -109,7 +109,7 @@ first_comes {b = b} reader first = ⊎_elim (λ (starts : (begins_status b || be
 
 byte_comes : (reader : Reader) {b : ℕ} → Counts reader.begun (byte_received reader b)
     → Comes reader.begun reader b (byte_received reader b)
-byte_comes reader {b = b} count = ⊎_elim (λ (first : is_first b ≡ true).
+byte_comes reader {b} count = ⊎_elim (λ (first : is_first b ≡ true).
     let is : byte_received reader b ≡ first_received reader.begun b reader = rw first refl in
     subst (λ (step : Step). Comes reader.begun reader b step) (sym is) (first_comes reader first))
     (λ (other : is_first b ≡ false).
@@ -128,7 +128,7 @@ record After (reader : Reader) (b : ℕ) (step : Step) : Type 0 where
 after_byte : Pieces → {reader : Reader} {b : ℕ} {step : Step} → reading_of (idle reader) reader.begun ≡ quiet 0 reader
     → byte_received reader b ≡ step → Comes reader.begun reader b step → step.received.reply ≡ None
     → After reader b step
-after_byte pieces {reader = reader} {b = b} {step = step} again is comes none =
+after_byte pieces {reader} {b} {step} again is comes none =
     let begun = reader.begun in
     let skips : step ≡ skips_all begun reader → After reader b step = λ e.
     let all : drop (length begun + 1) (begun ++ b ∷ []) ≡ [] =
@@ -173,7 +173,7 @@ read_more : Pieces → {start reader next : Reader} {bytes : List ℕ} {place no
     → step_of received next ≡ byte_received reader b
     → reading_of start (take (place + 1) bytes)
     ≡ record { replies = replies_before received.reply []; skipped = none + received.skipped; reader = next }
-read_more pieces {start = start} {reader = reader} {next = next} {bytes = bytes} {place = place} {none = none} b {received = received} at more is =
+read_more pieces {start} {reader} {next} {bytes} {place} {none} b {received} at more is =
     let count : received.skipped + 0 ≡ received.skipped = omega arith in
     ap (reading_of start) more ∙ pieces start (take place bytes) (b ∷ []) ∙ ap
     (λ (r : Reading). joined r (reading_of r.reader (b ∷ []))) at.read ∙ ap
@@ -182,13 +182,13 @@ read_more pieces {start = start} {reader = reader} {next = next} {bytes = bytes}
 
 byte_taken : (bytes : List ℕ) {place b : ℕ} → place < length bytes → get_or bytes place 0 ≡ b
     → take (place + 1) bytes ≡ take place bytes ++ b ∷ []
-byte_taken bytes {place = place} within here = take_more bytes place 0 within ∙ ap (λ (k : ℕ). take place bytes ++ k ∷ []) here
+byte_taken bytes {place} within here = take_more bytes place 0 within ∙ ap (λ (k : ℕ). take place bytes ++ k ∷ []) here
 
 pub goes_past : Pieces → {start reader next : Reader} {bytes : List ℕ} {place none b : ℕ} {received : Received}
     → At start reader bytes place none → place < length bytes → get_or bytes place 0 ≡ b
     → step_of received next ≡ byte_received reader b → Counts reader.begun (step_of received next)
     → received.reply ≡ None → At start next bytes (place + 1) (none + received.skipped)
-goes_past pieces {reader = reader} {next = next} {bytes = bytes} {place = place} {none = none} {b = b} {received = received} at within here is count told =
+goes_past pieces {reader} {next} {bytes} {place} {none} {b} {received} at within here is count told =
     let prefix = take place bytes in
     let more : take (place + 1) bytes ≡ prefix ++ b ∷ [] = byte_taken bytes within here in
     let counted : Counts reader.begun (byte_received reader b) = subst (λ (s : Step). Counts reader.begun s) is count in
@@ -211,7 +211,7 @@ goes_past pieces {reader = reader} {next = next} {bytes = bytes} {place = place}
 -- none has begun behind a reply
 none_begun : (begun : List ℕ) (reader : Reader) {b : ℕ} {step : Step} {told : PrinterReply}
     → step.received.reply ≡ Some told → Comes begun reader b step → step.reader.begun ≡ []
-none_begun begun reader {b = b} {step = step} is = ⊎_elim
+none_begun begun reader {b} {step} is = ⊎_elim
     (λ (ends : (step.received.reply ≡ None → ⊥) × (step.reader.begun ≡ [])). ends.1)
     (⊎_elim (λ (e : step ≡ skips_all begun reader). absurd (some_reply (sym is ∙ ap (λ (s : Step). s.received.reply)
     e))) (⊎_elim (λ (e : (step ≡ reads_none (length begun) (b ∷ []) reader)
@@ -226,7 +226,8 @@ pub one_ends : Pieces → {start reader next : Reader} {bytes : List ℕ} {place
     → step_of received next ≡ byte_received reader b
     → Counts reader.begun (step_of received next) → received.reply ≡ Some told
     → read.used ≡ place + 1 → read.skipped ≡ none + received.skipped → EndsWith start bytes read told
-one_ends pieces {start = start} {reader = reader} {next = next} {bytes = bytes} {place = place} {none = none} {b = b} {received = received} {told = told} at within here is count ends used skipped =
+one_ends pieces {start} {reader} {next} {bytes} {place} {none} {b} {received} {told} at within here is count ends used
+    skipped =
     let more : take (place + 1) bytes ≡ take place bytes ++ b ∷ [] = byte_taken bytes within here in
     let counted : Counts reader.begun (byte_received reader b) = subst (λ (s : Step). Counts reader.begun s) is count in
     let comes : Comes reader.begun reader b (step_of received next) =
@@ -238,7 +239,6 @@ one_ends pieces {start = start} {reader = reader} {next = next} {bytes = bytes} 
             replies = replies_before r [];
             skipped = none + received.skipped;
             reader = next;
-          }) ends ∙ ap (λ (k : ℕ). record { replies = told ∷ []; skipped = k; reader = next })
-          (sym skipped);
+          }) ends ∙ ap (λ (k : ℕ). record { replies = told ∷ []; skipped = k; reader = next }) (sym skipped);
       whole = none_begun reader.begun reader ends comes;
     }

@@ -17,10 +17,8 @@ first_run g c honest =
       arith,
       places c.args.image.now.slot,
       c.start-at.ensures,
-      ap
-          length c.head_of.ensures.bytes,
-    )) (c.write.ensures.writes honest) (run_start
-    (λ f left. g.met.D.Disk.only_now c.args.disk.now f honest left))
+      ap length c.head_of.ensures.bytes,
+    )) (c.write.ensures.writes honest) (run_start (λ f left. g.met.D.Disk.only_now c.args.disk.now f honest left))
 
 second_run : (g : Over) (c : After-write-2 g) → g.D.Disk.honest c.args.disk.now
     → IsBehind c.args.image.now.slot (g.D.Disk.state c.args.disk.now) (g.D.Disk.state c.write.new.self)

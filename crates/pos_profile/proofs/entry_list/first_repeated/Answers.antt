@@ -32,6 +32,5 @@ pub returns : goal.returns
 returns c =
     all_single (names_of c.args.entries.now) c.loop-place.place (omega (
       arith,
-      length-map c.args.entries.now
-          (λ (e : Entry). e.name),
+      length-map c.args.entries.now (λ (e : Entry). e.name),
     )) c.loop-place.invariant.single

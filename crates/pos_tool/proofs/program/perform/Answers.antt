@@ -13,8 +13,7 @@ returns-in-Err g c =
       done = subst (λ words. DoesAsRead (DoesAsAsked g.F.NamedFiles g.F.File.BlockFile _ _ c.args.files.now
           g.S.FileSystem g.S.Folder g.S.File.BlockFile c.args.system.now c.args.pages.now c.args.terminals)
           g.T.AsStr.text words streams streams outcome) (sym c.in-Err.is) (
-            ap (λ why. Err (fault.Words why))
-                c.fault_of_unread.ensures,
+            ap (λ why. Err (fault.Words why)) c.fault_of_unread.ensures,
             refl,
           );
       ends = c.end-in-Err.ensures;

@@ -24,7 +24,7 @@ loop-request-init g c =
 -- the next of those that wait
 next : {A : Type 0} {waiting : List A} (rest : List A) {request : A} → waiting ≡ rest ++ request ∷ []
     → reverse waiting ≡ request ∷ reverse rest
-next rest {request = request} is = ap reverse is ∙ reverse-append rest (request ∷ [])
+next rest {request} is = ap reverse is ∙ reverse-append rest (request ∷ [])
 
 pub respond-response-requires-clause-in_service : goal.respond-response-requires-clause-in_service
 respond-response-requires-clause-in_service g c =

@@ -23,7 +23,6 @@ returns c =
     let put : c.put_characters.new.cells
     ≡ with_run_at c.in_ring-first.result c.args.attribute c.args.characters.now was.cells.items = grind arith in
     ap (display_of was.rows was.columns) (rw (
-      with_items_is was.cells c.put_characters.new.cells
-          (grind (arith, run_count, was.cells.ok.0)),
+      with_items_is was.cells c.put_characters.new.cells (grind (arith, run_count, was.cells.ok.0)),
       put,
     ) (rw c.start.ensures.start at turned.1))

@@ -6,6 +6,5 @@ loop-place-preserved c =
     map_over_more (λ (transaction : Option (List Change)). None) c.args.self.now c.loop-place.place-items
     c.loop-place.place-index c.place-item.result (omega (
       arith,
-      ap (λ (ts : List (Option (List Change))). length ts)
-          c.self.view_is,
+      ap (λ (ts : List (Option (List Change))). length ts) c.self.view_is,
     )) c.loop-place.invariant c.place-item.is
