@@ -1211,6 +1211,20 @@ def try_roll():
              shop.host.lines("get r RecNearEnd", "deliver r"))
 
 
+def try_near_end():
+    """A roll whose near end is early: the lines are counted down to that, and begin again before it."""
+    if WORDS.name == "Rust":
+        return
+    with contextlib.ExitStack() as stack:
+        device = stack.enter_context(Printer(cable()))
+        host = Host(stack, PROFILE.replace("near = 20", "near = 500"))
+        told("a printer", "ok", host.ask(f"printer r1 {device.path} timeout {AMPLE} pause 10 lines 1000"))
+        host.lines("new r POSPrinter", "open r r1", "claim r 0", "set r DeviceEnabled true")
+        told("more lines than until the near end", ["ok"] * 12,
+             [host.line("call r printNormal 2 " + "410a" * 60) for _ in range(12)])
+        told("no event of the paper", ["ok false", "none"], host.lines("get r RecNearEnd", "deliver r"))
+
+
 def try_keys():
     """The keys of a keypad, a separator, a key that is held down, and keys that have no character."""
 

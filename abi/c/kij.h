@@ -562,7 +562,8 @@ typedef struct kij_escpos_settings {
     bool is_open_high;
     /** How many lines the till counts with when the sensors see enough paper: more than where its device is near the
      * end, at most 100,000. If they still see enough when it has counted down to the near end, it begins again. With
-     * 100 lines or more it begins when a quarter of them is left, or 4,096, so that no long request is refused. */
+     * 100 lines or more before that it begins a quarter of those earlier, or 4,096, so that no long request is refused.
+     */
     int lines;
     /** Whether the printer says nothing by itself, and doesn't know GS ( H. Then it is asked for its status (DLE EOT),
      * and whether an order is printed (GS r). */

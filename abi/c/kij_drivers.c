@@ -14,7 +14,8 @@ static kij_result plain(int code) { return kij_internal_result(code, 0, KIJ_NO_C
 static const int64_t quickly = 250, settle = 1000, rest = 100, never = -1000000000;
 
 /* The longest code of a scanner, how many ports are waited for at once, of how many orders of a printer the till keeps
-   the paper, and from how many lines on a roll is long; as many as a request of line feeds alone feeds. */
+   the paper, and from how many lines before the near end on a roll is long; as many as a request of line feeds alone
+   feeds. */
 enum { LONGEST_CODE = 4096, MOST_PORTS = 64, KEPT_ORDERS = 500, LONG_ROLL = 100, MOST_FEEDS = 4096 };
 
 /* The drive of the device of a name, which is written behind a space; or null. */
@@ -78,10 +79,10 @@ static void settle_drawer(kij_drive *drive, kij_buffer *lines, size_t from) {
     else if (is_closed) lines->size -= size;
 }
 
-/* Whether so many lines of a long roll are counted down that the till might refuse the next order, though the sensors
+/* Whether so many lines of a long roll are counted down that the next order might end near its end, though the sensors
    may still see enough paper. */
 static bool is_counted_down(const kij_drive *drive) {
-    uint64_t lines = drive->wire.lines, left = lines / 4;
+    uint64_t lines = drive->wire.lines - drive->near, left = lines / 4;
     if (left > MOST_FEEDS) left = MOST_FEEDS;
     return lines >= LONG_ROLL && drive->link->lines - drive->belief.counted_from >= lines - left;
 }
@@ -754,16 +755,32 @@ static int make_drive(kij_till *till, const char *device, kij_category category,
     return KIJ_OK;
 }
 
-/* Whether the settings fit the device, which is a printer or a drawer: a code of enum kij_code. */
-static int settings_code(kij_till *till, const kij_drive *drive) {
+/* Whether settings fit the device, which is a printer or a drawer: a code of enum kij_code. */
+static int settings_code(kij_till *till, const kij_drive *drive, const kijolvar_wire_settings *wire) {
     size_t used = 0, skipped = 0, needed = 0;
     switch (kijolvar_replies(till->inner, &till->inner.at, (const uint8_t *)drive->name.text + 1, drive->name.size - 1,
-                             &drive->wire, 0, NULL, 0, &used, &skipped, NULL, 0, &needed)) {
+                             wire, 0, NULL, 0, &used, &skipped, NULL, 0, &needed)) {
     case KIJOLVAR_OK: return KIJ_OK;
     case KIJOLVAR_NO_MEMORY: return KIJ_NO_MEMORY;
     case KIJOLVAR_BAD_SETTINGS: return KIJ_BAD_SETTINGS;
     default: return KIJ_NO_DEVICE;
     }
+}
+
+/* Finds out at how many lines a printer is near its end, whose settings fit: the library takes no roll that is as short
+   as that. A code of enum kij_code. */
+static int find_near(kij_till *till, kij_drive *drive) {
+    kijolvar_wire_settings wire = drive->wire;
+    uint32_t refused = 0, taken = wire.lines;
+    while (taken - refused > 1) {
+        wire.lines = refused + (taken - refused) / 2;
+        int code = settings_code(till, drive, &wire);
+        if (code == KIJ_OK) taken = wire.lines;
+        else if (code == KIJ_BAD_SETTINGS) refused = wire.lines;
+        else return code;
+    }
+    drive->near = refused;
+    return KIJ_OK;
 }
 
 /* Makes the orders of a device wait from now on: a code of enum kij_code. */
@@ -890,14 +907,15 @@ static int open_printer(kij_till *till, const char *device, const char *port, co
     if (code == KIJ_OK) code = make_drive(till, device, KIJ_POS_PRINTER, printer);
     if (code != KIJ_OK) return code;
     (*printer)->wire = wire;
-    code = settings_code(till, *printer);
+    code = settings_code(till, *printer, &wire);
+    if (code == KIJ_OK) code = find_near(till, *printer);
     if (code == KIJ_OK && !make_link(till, *printer, port, settings)) code = KIJ_NO_MEMORY;
     if (code == KIJ_OK && settings->drawer != NULL) {
         code = make_drive(till, settings->drawer, KIJ_CASH_DRAWER, drawer);
         if (code != KIJ_OK) return code;
         (*drawer)->wire = wire;
         (*drawer)->link = (*printer)->link;
-        code = settings_code(till, *drawer);
+        code = settings_code(till, *drawer, &wire);
     }
     if (code != KIJ_OK) return code;
     return take_drives(till, printer, drawer);

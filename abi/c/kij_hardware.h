@@ -178,7 +178,9 @@ typedef struct kij_drive {
     /* A printer, and its drawer: the line, and whether this device has it. */
     kij_link *link;
     bool has_link;
-    /* A printer: how many orders it has done since its paper was taken away, and when output that waited failed. */
+    /* A printer: at how many lines it is near its end, how many orders it has done since its paper was taken away, and
+       when output that waited failed. */
+    uint32_t near;
     unsigned orders;
     int64_t failed_at;
     /* A drawer: when it got its pulse, or -1, and how many statuses had come. */
