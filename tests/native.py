@@ -135,8 +135,8 @@ TROUBLES = {
 class Shop:
     """A host whose printer is emulated, and may be in trouble. One of the kind "asked" is simpler, on "usb"."""
 
-    def __init__(self, stack, kind="usb", words="", lines=1000, is_claimed=True, timeout=TIMEOUT):
-        self.device = stack.enter_context(Printer(cable(kind), lines=lines, is_simple="asked" in kind))
+    def __init__(self, stack, kind="usb", words="", lines=1000, is_claimed=True, timeout=TIMEOUT, made=Printer):
+        self.device = stack.enter_context(made(cable(kind), lines=lines, is_simple="asked" in kind))
         self.host = Host(stack)
         words += " asked" * ("asked" in kind) + " serial 115200" * ("serial" in kind)
         opened = f"printer r1 {self.device.path} timeout {timeout} pause 10 lines 1000 {words}"
@@ -515,6 +515,51 @@ def try_asked_retries():
         told("it answers at last", True, shop.settle())
         told("a retry of the last one", "ok", shop.print(b"Last\n"))
         told("it is printed once", 1, [item[1] for item in shop.paper()].count(b"Last"))
+
+
+class HeldPrinter(Printer):
+    """A printer behind a line that holds back what is sent for a time."""
+
+    held = None
+
+    def arrives(self, data):
+        if self.held is None:
+            return super().arrives(data)
+        self.held += data
+        return b""
+
+    def hold(self, is_held):
+        with self.lock:
+            held, self.held = self.held, bytearray() if is_held else None
+            self._got += self.arrives(held or b"")
+        self._wake()
+
+
+def try_held_back():
+    """Late answers of a printer that is asked, to questions that a line has held back: none is taken for another."""
+    if WORDS.name == "Rust":
+        return
+    with contextlib.ExitStack() as stack:
+        shop = Shop(stack, "asked", made=HeldPrinter)
+
+        def runs(seconds):
+            end = time.monotonic() + seconds
+            until(lambda: shop.host.ask("run 10") and time.monotonic() > end)
+        # The bit of the drawer's pin is that of an open cover in another answer.
+        shop.device.drawer(True)
+        told("the printer is well", True, shop.settle())
+        runs(0.3)
+        told("nothing else has happened", "none", shop.host.line("deliver r"))
+        shop.device.hold(True)
+        runs(3.5 * TIMEOUT / 1000)
+        told("questions are held back", True, shop.device.held.count(b"\x10\x04\1") > 2)
+        told("the printer is off", "offline 0", shop.host.ask("state r1"))
+        shop.device.hold(False)
+        runs(1)
+        told("late answers say nothing else", "none", shop.host.line("deliver r"))
+        told("the printer is back", "online 0", shop.host.ask("state r1"))
+        told("an order then", "ok", shop.print(TEXT))
+        told("its paper", PRINTED, shop.paper())
 
 
 def try_late_line():

@@ -149,9 +149,11 @@ typedef struct kij_link {
     int64_t heard_at;
     int64_t tried_at;
     int64_t refreshed_at;
-    /* Of one that is asked: the question that is out, when it was put, and what was heard of 1, 2 and 4. */
+    /* Of one that is asked: the question that was put last, how many have no answer, whether late answers come, when one
+       was put or such an answer came, and what was heard of 1, 2 and 4. */
     uint32_t question;
-    bool is_asking;
+    unsigned unanswered;
+    bool has_late_answers;
     int64_t questioned_at;
     kij_told heard[3];
     kij_signs hearing;

@@ -28,9 +28,9 @@ enum {
     ENOUGH = 2048
 };
 
-/* How long a lost port may take to open while other devices wait, how often a printer is asked, in milliseconds, and
-   a time before all others. */
-static const int64_t quickly = 250, often = 100, never = -1000000000;
+/* How long a lost port may take to open while other devices wait, how often a printer is asked, and how long its late
+   answers may be apart, in milliseconds; and a time before all others. */
+static const int64_t quickly = 250, often = 100, apart = 250, never = -1000000000;
 
 static inline int64_t least(int64_t one, int64_t other) { return one < other ? one : other; }
 
@@ -67,15 +67,23 @@ static void put_question(kij_link *link, uint32_t question) {
     put(link, bytes, sizeof bytes);
 }
 
+/* Puts a question of DLE EOT whose answer is waited for. */
+static void ask_for(kij_link *link, uint32_t question) {
+    link->questioned_at = kij_internal_now();
+    link->unanswered++;
+    put_question(link, question);
+}
+
 /* Asks a printer that says nothing by itself how it is: the printer, why it is offline, the paper, one after another.
-   */
+   It begins again if one isn't answered in time. */
 static void ask_on(kij_link *link) {
-    int64_t now = kij_internal_now();
-    if (!link->is_asked || !is_idle(link)) return;
-    if (now - link->questioned_at < (link->is_asking ? link->timeout : often)) return;
-    link->questioned_at = now;
-    link->is_asking = true;
-    put_question(link, 1);
+    int64_t time = link->unanswered > 0 ? link->timeout : often;
+    if (link->has_late_answers) time = least(time, apart);
+    if (!link->is_asked || !is_idle(link) || kij_internal_now() - link->questioned_at < time) return;
+    /* The late answers that haven't come are lost. */
+    if (link->has_late_answers) link->unanswered = 0;
+    link->has_late_answers = false;
+    ask_for(link, 1);
 }
 
 /* Asks whether the printer is there. It may have been off meanwhile, and have forgotten that it is to say how it is: it
@@ -373,22 +381,27 @@ static void take_answer(kij_link *link, const char *text, const kij_told *told) 
         acknowledge(link, 0);
         return;
     }
-    link->is_asking = false;
+    /* The answers don't say what was asked, and a line may hold questions back that were asked again meanwhile. */
+    link->unanswered--;
+    link->has_late_answers = link->unanswered > 0;
+    if (link->has_late_answers) {
+        link->questioned_at = kij_internal_now();
+        return;
+    }
     link->heard[link->question / 2] = *told;
     hear(&link->hearing, last_line(text));
     if (link->question != 4) {
-        link->is_asking = true;
-        put_question(link, 2 * link->question);
+        ask_for(link, 2 * link->question);
         return;
     }
     link->rounds++;
     compose(link);
 }
 
-/* Reads a byte as the answer to the question that is out, or as an acknowledgement. */
+/* Reads a byte as the answer to a question, or as an acknowledgement. */
 static void take_byte(kij_link *link, uint8_t byte) {
     char text[256];
-    for (int round = link->is_asking ? 0 : 1; round < 2; round++) {
+    for (int round = link->unanswered > 0 ? 0 : 1; round < 2; round++) {
         size_t used = 0, skipped = 0, needed = 0;
         kij_told told;
         memset(&told, 0, sizeof told);
@@ -539,7 +552,8 @@ static void forget(kij_link *link) {
     /* Acknowledgements without a number can't be told from those of another connection. */
     lose_due(link);
     memset(&link->hearing, 0, sizeof link->hearing);
-    link->is_asking = false;
+    link->unanswered = 0;
+    link->has_late_answers = false;
     link->questioned_at = never;
 }
 
