@@ -1289,6 +1289,8 @@ def try_keys():
             event = host.lines("set s DataEventEnabled true", "deliver s")[1]
             told(name, wanted, host.line("get s ScanData") if event == "event DataEvent 0" else event)
         comes("a keypad", "ok " + b"789-456+1230".hex(), *range(71, 83))
+        if WORDS.name != "Rust":
+            comes("a keypad behind Num Lock", "ok 3132", 69, 79, 80, 69)
         comes("a separator", "ok 301d31", 11, (29, 1), 27, (29, 0), 2)
         comes("a separator by the other key", "ok 301d31", 11, (97, 1), 27, (97, 0), 2)
         comes("a key that is held", "ok 313232", 2, (3, 1), (3, 2), (3, 2), (3, 0), 3)

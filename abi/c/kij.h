@@ -653,7 +653,7 @@ kij_result kij_serial_display_open(kij_till *till, const char *device, const cha
  *
  * While a call waits for a printer, the system keeps fewer key events than a code of 13 digits has. If it drops some,
  * the scan has failed (kij_input_scan_fault). So has one of more than 4,096 bytes, and one with a key that is neither a
- * character of the layout nor of its keypad. The control key and ] are the separator GS.
+ * character of the layout nor of its keypad, nor Num Lock. The control key and ] are the separator GS.
  *
  * @param device   the name of a scanner of the profile
  * @param port     /dev/input/.. for a keyboard wedge; else as kij_escpos_printer_open takes it

@@ -516,7 +516,7 @@ static void add_byte(kij_drive *drive, uint8_t byte) {
 enum { KEY_EVENT = 1, EVENTS_LOST = 3, EVENT_SIZE = 24 };
 
 /* The first key with a character and how many there are, and those of the keypad. */
-enum { FIRST_KEY = 2, KEY_COUNT = 56, FIRST_OF_PAD = 71, PAD_COUNT = 13, DIVIDE_KEY = 98 };
+enum { FIRST_KEY = 2, KEY_COUNT = 56, FIRST_OF_PAD = 71, PAD_COUNT = 13, DIVIDE_KEY = 98, NUM_LOCK = 69 };
 
 /* What separates the fields of a code. Scanners type it as the control key and ]. */
 enum { SEPARATOR = 0x1d };
@@ -557,7 +557,7 @@ static bool take_key(kij_drive *drive, const uint8_t *event) {
     else if (key == 29 || key == 97) drive->is_control = value != 0;
     /* A code that was lost up to its end ends where the key goes up. */
     else if (key == 28 || key == 96) return value == 1 || (value == 0 && drive->is_torn);
-    else if (value == 1) {
+    else if (value == 1 && key != NUM_LOCK) {
         /* A key that is held down repeats by the value 2, and types its character once all the same. */
         char found = character_of(drive, key);
         if (found != 0) add_byte(drive, (uint8_t)found);
