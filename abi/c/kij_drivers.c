@@ -340,14 +340,16 @@ static uint32_t tell(kij_till *till, const kij_report *made, size_t *needed) {
 }
 
 /* Keeps a part of the answer, without the answers to the inputs of a report, which are first: whether there is memory.
-   Whether it answers any line is written. */
+   An input that found none is told again. Whether it answers any line is written. */
 static bool keep(kij_till *till, const kij_report *made, size_t needed, bool *is_any) {
     const kij_buffer *inputs = &till->drives->inputs;
     size_t from = 0;
     for (size_t at = 0; made->has_inputs && at < inputs->size; at++) {
         if (inputs->bytes[at] != '\n') continue;
-        const char *end = (const char *)memchr(till->text + from, '\n', needed - from);
-        if (end != NULL) from = (size_t)(end - till->text) + 1;
+        const char *answer = till->text + from, *end = (const char *)memchr(answer, '\n', needed - from);
+        if (end == NULL) continue;
+        if (strncmp(answer, "memory\n", 7) == 0) made->drive->belief = made->before;
+        from += (size_t)(end - answer) + 1;
     }
     if (needed > from) *is_any = true;
     return kij_internal_buffer_add(&till->drives->answer, till->text + from, needed - from);

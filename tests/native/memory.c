@@ -32,11 +32,11 @@ void *__wrap_realloc(void *at, size_t size) { return size > most ? NULL : __real
 static enum { NONE, WAITING, HANDED_OUT, REPORTED } progress;
 
 /* The lines that are held, the answer of those before them, and how often there is no memory: for the lines of a call,
-   for a line whose order was reported, for a report, for a scan, and for closing a control. */
+   for a line whose order was reported, for a report, for a scan, for a device that is off, and for closing a control. */
 static char held[8][100], answer[30000];
 static size_t held_count, answer_size;
 static bool is_cut, wants_memory, is_done, is_off;
-static int no_lines, no_line, no_report, no_scan, no_close;
+static int no_lines, no_line, no_report, no_scan, no_power, no_close;
 /* After how many bytes an answer is cut, if that isn't 0; how many bytes an order has; and what was done. */
 static size_t cut_at, order_size = 5;
 static int noted, scans, drives;
@@ -58,7 +58,13 @@ static const char *print_line(const char *line) {
             return "memory";
         }
     }
-    if (strcmp(line, "input p1 power off") == 0) is_off = true;
+    if (strcmp(line, "input p1 power off") == 0) {
+        if (no_power > 0) {
+            no_power--;
+            return "memory";
+        }
+        is_off = true;
+    }
     if (strncmp(line, "close ", 6) == 0 && no_close > 0) {
         no_close--;
         return "memory";
@@ -436,6 +442,18 @@ static void try_power(void) {
     closes(&self);
 }
 
+/* A device is off, and there is no memory for that line of the report of an order: the till is told of it later. */
+static void try_unheard_power(void) {
+    shop self;
+    opens(&self, false);
+    pull(&self);
+    no_power = 1;
+    answered(&self, "an order of a device that isn't told as off", "order\n", "err 111\n");
+    told("the devices run", KIJ_OK, kij_run_devices(self.till, 0, NULL).code);
+    told("it is told as off", true, is_off);
+    closes(&self);
+}
+
 /* An order without bytes isn't done if the display is gone. */
 static void try_no_bytes(void) {
     shop self;
@@ -532,6 +550,7 @@ int main(void) {
     try_failed_order();
     try_held_lines();
     try_power();
+    try_unheard_power();
     try_no_bytes();
     try_scans();
     try_scan_beside();
