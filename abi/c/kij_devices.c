@@ -180,9 +180,9 @@ static bool is_order(char *text, kij_order *order) {
 /* Takes an order's line out, into the till's answer: the library's code. */
 static uint32_t take_order(kij_till *till) {
     size_t needed = 0;
-    if (kij_internal_kept_order(till)) return KIJOLVAR_ORDER;
-    uint32_t code =
-        kijolvar_next_order(till->inner, &till->inner.at, (uint8_t *)till->text, till->text_room - 1, &needed);
+    uint32_t code = kij_internal_kept_order(till);
+    if (code != KIJOLVAR_OK) return code;
+    code = kijolvar_next_order(till->inner, &till->inner.at, (uint8_t *)till->text, till->text_room - 1, &needed);
     if (code == KIJOLVAR_SHORT) {
         if (!kij_internal_text(till, needed + 1)) return KIJOLVAR_NO_MEMORY;
         code = kijolvar_next_order(till->inner, &till->inner.at, (uint8_t *)till->text, needed, &needed);

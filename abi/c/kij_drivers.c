@@ -279,16 +279,16 @@ static uint32_t take_order(kij_till *till, kij_drive **drive) {
     }
 }
 
-bool kij_internal_kept_order(kij_till *till) {
+uint32_t kij_internal_kept_order(kij_till *till) {
     kij_buffer *hosted = till->drives == NULL ? NULL : &till->drives->hosted;
-    if (hosted == NULL || hosted->size == 0) return false;
+    if (hosted == NULL || hosted->size == 0) return KIJOLVAR_OK;
     size_t size = (size_t)((const char *)memchr(hosted->bytes, '\n', hosted->size) - hosted->bytes);
-    if (!kij_internal_text(till, size + 1)) return false;
+    if (!kij_internal_text(till, size + 1)) return KIJOLVAR_NO_MEMORY;
     memcpy(till->text, hosted->bytes, size);
     till->text[size] = 0;
     hosted->size -= size + 1;
     memmove(hosted->bytes, hosted->bytes + size + 1, hosted->size);
-    return true;
+    return KIJOLVAR_ORDER;
 }
 
 /* ---- Lines that wait ---- */

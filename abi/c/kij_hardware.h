@@ -313,9 +313,9 @@ int kij_internal_served(kij_till *till, uint32_t code, size_t *needed);
    stays. */
 int kij_internal_hand_in(kij_till *till, bool *is_any);
 
-/* Takes the oldest order of a hosted device that came before one of a driven device into the till's text: whether there
-   was one. */
-bool kij_internal_kept_order(kij_till *till);
+/* Takes the oldest order of a hosted device that came before one of a driven device into the till's text. A code of the
+   library: KIJOLVAR_OK if there is none. */
+uint32_t kij_internal_kept_order(kij_till *till);
 
 /* Drives the device of a name again, if it has a driver, since another peripheral serves it now. */
 void kij_internal_drive_again(kij_till *till, const char *name, size_t size);

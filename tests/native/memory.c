@@ -40,6 +40,8 @@ static int no_lines, no_line, no_report, no_scan, no_power, no_close;
 /* After how many bytes an answer is cut, if that isn't 0; how many bytes an order has; and what was done. */
 static size_t cut_at, order_size = 5;
 static int noted, scans, drives;
+/* An order of another device, which is the host's, or null. */
+static const char *others_order;
 
 /* What a line prints; null if it waits. `long` prints much, `note` is counted, and `order` waits for the display. */
 static const char *print_line(const char *line) {
@@ -151,12 +153,14 @@ uint32_t kijolvar_answer(kijolvar_till till, void **out, uint8_t *text, size_t t
 
 uint32_t kijolvar_next_order(kijolvar_till till, void **out, uint8_t *text, size_t text_len, size_t *needed) {
     static const char order[] = "p1 clearText";
+    const char *line = others_order != NULL ? others_order : progress == WAITING ? order : "";
     *out = till.at;
-    *needed = progress == WAITING ? sizeof order - 1 : 0;
-    if (progress != WAITING) return KIJOLVAR_OK;
+    *needed = strlen(line);
+    if (*needed == 0) return KIJOLVAR_OK;
     if (*needed > text_len) return KIJOLVAR_SHORT;
-    memcpy(text, order, *needed);
-    progress = HANDED_OUT;
+    memcpy(text, line, *needed);
+    if (others_order != NULL) others_order = NULL;
+    else progress = HANDED_OUT;
     return KIJOLVAR_ORDER;
 }
 
@@ -428,6 +432,26 @@ static void try_held_lines(void) {
     closes(&self);
 }
 
+/* An order of a device that is the host's, for which there is no memory, comes before those behind it. */
+static void try_kept_order(void) {
+    shop self;
+    kij_order order;
+    char first[2000];
+    opens(&self, false);
+    snprintf(first, sizeof first, "p2 displayTextAt 0 0 %01000d 0", 0);
+    others_order = first;
+    answered(&self, "an order behind one of the host's", "order\n", "ok\n");
+    others_order = "d1 openDrawer";
+    most = 1000;
+    told("the host's order without memory", KIJ_NO_MEMORY, kij_next_order(self.till, &order).code);
+    most = SIZE_MAX;
+    told("the host's order", KIJ_OK, kij_next_order(self.till, &order).code);
+    told("its size", 500, (long)order.size);
+    told("the one behind it", KIJ_OK, kij_next_order(self.till, &order).code);
+    told("that", KIJ_ORDER_OPEN_DRAWER, order.kind);
+    closes(&self);
+}
+
 /* A device is off, and its report finds no memory: the till is told of that later. */
 static void try_power(void) {
     shop self;
@@ -549,6 +573,7 @@ int main(void) {
     try_cut_answer();
     try_failed_order();
     try_held_lines();
+    try_kept_order();
     try_power();
     try_unheard_power();
     try_no_bytes();
