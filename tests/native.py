@@ -517,6 +517,23 @@ def try_asked_retries():
         told("it is printed once", 1, [item[1] for item in shop.paper()].count(b"Last"))
 
 
+def try_begun_late():
+    """An order whose time is over when what is due before it is given up isn't sent: it has failed."""
+    with contextlib.ExitStack() as stack:
+        shop = Shop(stack, "asked stays")
+        shop.device.pull_plug()
+        told("an order of a printer that is off", "err 111", shop.print(b"First\n"))
+        shop.device.plug_in()
+        told("it is on", True, shop.settle())
+        told("an order that waits for the first", "err 111", shop.print(b"Second\n"))
+        time.sleep(0.1)
+        told("nothing is printed", [], shop.paper())
+        told("it is still on", True, shop.settle())
+        told("the second order again", "ok", shop.print(b"Second\n"))
+        told("it is printed once", [("left", b"Second")], shop.paper())
+        told("nothing was late", "0", shop.late())
+
+
 class HeldPrinter(Printer):
     """A printer behind a line that holds back what is sent for a time."""
 

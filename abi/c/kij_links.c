@@ -680,9 +680,9 @@ static kij_job *take_up(kij_link *link, bool is_once, int64_t end) {
     return job;
 }
 
-/* Sends the order, as far as it wasn't: false if the port was lost. */
+/* Sends the order, as far as it wasn't, unless its time is over: false if the port was lost. */
 static bool post(kij_link *link, kij_job *job, int64_t end) {
-    if (job->is_done || is_stopped(link) || is_due(link, job)) return true;
+    if (job->is_done || is_stopped(link) || is_due(link, job) || kij_internal_now() >= end) return true;
     link->posting = job;
     fill(link);
     bool is_kept = link->out_sent == link->out.size || write_some(link);
