@@ -208,7 +208,7 @@ int kij_internal_hand_in(kij_till *till, bool *is_any) {
 /* Reads what a display says, which is of no use: false if its port was lost. */
 static bool listen_to(kij_drive *drive) {
     size_t count = 1;
-    while (count > 0) {
+    for (int part = 0; part < KIJ_MOST_PARTS && count > 0; part++) {
         bool can_read, can_write;
         kij_internal_port_wait(&drive->port, false, 0, &can_read, &can_write);
         if (!can_read) return true;
@@ -592,7 +592,7 @@ static int scans(kij_till *till, kij_drive *drive, bool *is_any) {
     kij_port *port = &drive->port;
     bool can_read, can_write;
     int code = take_scans(till, drive, is_any);
-    while (code == KIJ_OK && kij_internal_port_is_open(port)) {
+    for (int part = 0; part < KIJ_MOST_PARTS && code == KIJ_OK && kij_internal_port_is_open(port); part++) {
         size_t room = sizeof drive->got - drive->got_size, count = 0;
         kij_internal_port_wait(port, false, 0, &can_read, &can_write);
         if (!can_read || !kij_internal_port_read(port, drive->got + drive->got_size, room, &count) || count == 0) break;

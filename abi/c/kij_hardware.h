@@ -20,8 +20,9 @@ typedef struct kij_address {
     socklen_t size;
 } kij_address;
 
-/* How many addresses of a TCP port are kept. */
-enum { KIJ_ADDRESS_ROOM = 4 };
+/* How many addresses of a TCP port are kept, and in how many parts is read what has come: a device may send on and on.
+   */
+enum { KIJ_ADDRESS_ROOM = 4, KIJ_MOST_PARTS = 64 };
 
 /* A port. Its name stays as long as it does. */
 typedef struct kij_port {

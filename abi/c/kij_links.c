@@ -461,12 +461,12 @@ static bool read_some(kij_link *link, bool *is_any) {
 
 /* Reads what has come: false if the port was lost. */
 static bool receive(kij_link *link) {
-    bool can_read, can_write, is_any;
-    do {
+    bool can_read, can_write, is_any = true;
+    for (int part = 0; part < KIJ_MOST_PARTS && is_any; part++) {
         is_any = false;
         kij_internal_port_wait(&link->port, false, 0, &can_read, &can_write);
         if (can_read && !read_some(link, &is_any)) return false;
-    } while (is_any);
+    }
     return true;
 }
 

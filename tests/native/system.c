@@ -197,6 +197,30 @@ static void try_empty(void) {
     kij_close(till);
 }
 
+/* A device that sends on and on, and gives nothing of use, lets the loop go on. */
+static void try_endless(void) {
+    static const char *const devices[] = {"r1", "p1", "s1"};
+    kij_till *till = NULL;
+    kij_driver_view view;
+    kij_escpos_settings settings = KIJ_ESCPOS_SETTINGS;
+    settings.timeout = 100;
+    told("a till", KIJ_OK, kij_open(NULL, NULL, KIJ_EXISTING, &till).code);
+    told("a printer", KIJ_OK, kij_escpos_printer_open(till, devices[0], "/dev/zero", &settings).code);
+    told("a display", KIJ_OK, kij_serial_display_open(till, devices[1], "/dev/zero", NULL).code);
+    told("a scanner", KIJ_OK, kij_wedge_scanner_open(till, devices[2], "/dev/zero", NULL).code);
+    /* It ends this program if it takes too long. */
+    alarm(20);
+    int64_t began = kij_internal_now();
+    told("the devices run", KIJ_OK, kij_run_devices(till, 300, NULL).code);
+    told("in time", true, kij_internal_now() - began < 2000);
+    alarm(0);
+    for (size_t place = 0; place < 3; place++) {
+        told("a device is driven", KIJ_OK, kij_show_driver(till, devices[place], &view).code);
+        told("its port is open", place > 0, view.is_online);
+    }
+    kij_close(till);
+}
+
 static void ignore(int number) { (void)number; }
 
 /* A signal doesn't end the wait for a connection. */
@@ -269,6 +293,7 @@ int main(int count, char **words) {
     try_lost_line();
     try_closing();
     try_names();
+    try_endless();
     try_signal();
     try_addresses();
     try_empty();
