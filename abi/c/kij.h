@@ -618,7 +618,8 @@ typedef struct kij_scanner_settings {
  * within the timeout: KIJ_E_EXTENDED with KIJ_EPTR_COVER_OPEN or KIJ_EPTR_REC_EMPTY, KIJ_E_OFFLINE, or KIJ_E_FAILURE if
  * the printer gives no reason. If an order failed and the next one is the same, as a retry is, only the lines and cuts
  * that the printer hasn't acknowledged are sent again. A printer counts as off once it was asked whether it is there,
- * and has answered nothing for the timeout. Over TCP the port is opened again then.
+ * and has answered nothing for the timeout. Over TCP the port is opened again then; if an order that failed may still
+ * be acknowledged, once the other end has taken nothing for a minute.
  *
  * @param device   the name of a printer of the profile
  * @param port     /dev/usb/lp0, /dev/ttyUSB0, tcp:HOST or tcp:HOST:PORT (9100 if there is none). HOST had better be an

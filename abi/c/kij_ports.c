@@ -25,6 +25,10 @@
 /* How long a name isn't looked up again, in milliseconds. */
 static const int64_t rarely = 60000;
 
+/* How long the other end may take to acknowledge what was sent, in milliseconds. Else a printer that lost its power in the
+   middle of an order is noticed only minutes after it is back. */
+static const int acknowledged_within = 60000;
+
 bool kij_internal_buffer_room(kij_buffer *buffer, size_t room) {
     if (room <= buffer->room) return true;
     size_t wanted = room + room / 2 + 64;
@@ -175,13 +179,14 @@ static int finish(int file, int64_t end) {
 
 /* Connects to an address: 0 or errno. */
 static int join(const kij_address *address, int64_t end, int *file) {
-    int one = 1;
+    int one = 1, time = acknowledged_within;
     *file = socket(address->place.ss_family, SOCK_STREAM | SOCK_NONBLOCK | SOCK_CLOEXEC, 0);
     if (*file < 0) return errno;
     int why = connect(*file, (const struct sockaddr *)&address->place, address->size) == 0 ? 0 : errno;
     if (why == EINPROGRESS) why = finish(*file, end);
     if (why == 0 && (setsockopt(*file, IPPROTO_TCP, TCP_NODELAY, &one, sizeof one) != 0 ||
-                     setsockopt(*file, SOL_SOCKET, SO_KEEPALIVE, &one, sizeof one) != 0))
+                     setsockopt(*file, SOL_SOCKET, SO_KEEPALIVE, &one, sizeof one) != 0 ||
+                     setsockopt(*file, IPPROTO_TCP, TCP_USER_TIMEOUT, &time, sizeof time) != 0))
         why = errno;
     if (why != 0) close(*file);
     return why;

@@ -10,6 +10,7 @@
 #include <fcntl.h>
 #include <netdb.h>
 #include <netinet/in.h>
+#include <netinet/tcp.h>
 #include <signal.h>
 #include <stdio.h>
 #include <stdlib.h>
@@ -162,11 +163,13 @@ static void keep_address(kij_port *port, size_t place, int number) {
     port->address_count = place + 1;
 }
 
-/* An address that says nothing leaves time to the next one, and a host that acknowledges nothing is lost soon. */
+/* An address that says nothing leaves time to the next one, and a host that acknowledges nothing is lost soon: the
+   system sends it what is due for a minute. */
 static void try_addresses(void) {
     kij_port port;
     char name[64];
-    int silent = 0, number = 0, full = listen_here(0, &silent), listener = listen_here(8, &number), waiting[8];
+    int silent = 0, number = 0, full = listen_here(0, &silent), listener = listen_here(8, &number), waiting[8], time = 0;
+    socklen_t size = sizeof time;
     make_tcp(&port, name, sizeof name, silent);
     keep_address(&port, 0, silent);
     for (size_t place = 0; place < 8; place++) {
@@ -177,6 +180,8 @@ static void try_addresses(void) {
     int64_t began = kij_internal_now();
     told("the second address", true, kij_internal_port_open(&port, 1000));
     told("after half of the time", true, kij_internal_now() - began < 900);
+    told("the system's time", 0, getsockopt(port.file, IPPROTO_TCP, TCP_USER_TIMEOUT, &time, &size));
+    told("it is a minute", 60000, time);
     kij_internal_port_close(&port);
     for (size_t place = 0; place < 8; place++) close(waiting[place]);
     close(full);
