@@ -288,6 +288,24 @@ def try_asynchronous():
             told(f"{name}: the paper", PRINTED, shop.paper())
 
 
+def try_scan_between():
+    """A code that comes while output is printed is read behind the request during which it came."""
+    if WORDS.name == "Rust":
+        return
+    with contextlib.ExitStack() as stack:
+        scanner = stack.enter_context(Scanner(cable()))
+        shop = Shop(stack, timeout=AMPLE)
+        told("a scanner", "ok", shop.host.ask(f"scanner s1 {scanner.path} keys pause 10"))
+        shop.host.lines("new s Scanner", "open s s1", "claim s 0", "set s DeviceEnabled true",
+                        "set s DataEventEnabled true", "set r AsyncMode true")
+        told("output waits", ["ok"] * 3, shop.host.lines(*["call r printNormal 2 410a"] * 3))
+        shop.device.after(1, lambda: scanner.types(b"123"))
+        shop.device.slow(0.2)
+        told("it is printed", "true", shop.host.ask("run 0"))
+        told("all of it", 3, len(shop.paper()))
+        told("the code", ["event DataEvent 0", "ok 313233"], shop.host.lines("deliver s", "get s ScanData"))
+
+
 def try_tear_off():
     """The till keeps the paper of at most 500 orders of a printer that has a driver, and what it prints stays right."""
     with contextlib.ExitStack() as stack:

@@ -625,37 +625,51 @@ static void look(kij_drive *drive) {
     if (drive->category == KIJ_LINE_DISPLAY && kij_internal_port_is_open(&drive->port)) (void)listen_to(drive);
 }
 
-/* Works off the output that waits for a printer, until nothing waits or a request fails: a code of enum kij_code. One
-   that has failed waits a while, since the default reply to its ErrorEvent tries it again at once. */
-static int work(kij_till *till, kij_drive *drive, bool *is_any) {
-    char *value;
-    if (kij_internal_now() - drive->failed_at < rest) return KIJ_OK;
-    for (;;) {
-        int code = kij_internal_run(till, KIJ_VERB_WORK, &drive->name, NULL, NULL, 0);
-        if (code != KIJ_OK) return code;
-        if (strcmp(till->text, "idle") == 0) return KIJ_OK;
-        bool is_done = strncmp(till->text, "done ", 5) == 0;
-        if (!is_done && strncmp(till->text, "failed ", 7) != 0) {
-            code = kij_internal_answer(till, KIJ_NO_CATEGORY, &value).code;
-            /* Nothing waits for one that is detached. */
-            return code == KIJ_BAD_DEVICE ? KIJ_OK : code;
-        }
-        *is_any = true;
-        if (is_done) continue;
-        drive->failed_at = kij_internal_now();
-        return KIJ_OK;
+/* Reads the scanners, whatever each comes to: the first code of enum kij_code that isn't KIJ_OK. */
+static int read_scanners(kij_till *till, bool *is_any) {
+    int code = KIJ_OK;
+    for (kij_drive *drive = till->drives->first; drive != NULL; drive = drive->next) {
+        int found = drive->category == KIJ_SCANNER ? scans(till, drive, is_any) : KIJ_OK;
+        if (code == KIJ_OK) code = found;
     }
+    return code;
+}
+
+/* Does the first request that waits for a printer: a code of enum kij_code. Whether it is done is written. One that has
+   failed waits a while, since the default reply to its ErrorEvent tries it again at once. */
+static int work_once(kij_till *till, kij_drive *drive, bool *is_done, bool *is_any) {
+    char *value;
+    *is_done = false;
+    int code = kij_internal_run(till, KIJ_VERB_WORK, &drive->name, NULL, NULL, 0);
+    if (code != KIJ_OK || strcmp(till->text, "idle") == 0) return code;
+    *is_done = strncmp(till->text, "done ", 5) == 0;
+    bool has_failed = strncmp(till->text, "failed ", 7) == 0;
+    if (has_failed) drive->failed_at = kij_internal_now();
+    *is_any |= *is_done || has_failed;
+    if (*is_done || has_failed) return KIJ_OK;
+    code = kij_internal_answer(till, KIJ_NO_CATEGORY, &value).code;
+    /* Nothing waits for one that is detached. */
+    return code == KIJ_BAD_DEVICE ? KIJ_OK : code;
+}
+
+/* Works off the output that waits for a printer, until nothing waits or a request fails: a code of enum kij_code. The
+   system keeps few key events, so scanners are read after each request. */
+static int work(kij_till *till, kij_drive *drive, bool *is_any) {
+    bool is_done = kij_internal_now() - drive->failed_at >= rest;
+    int code = KIJ_OK;
+    while (code == KIJ_OK && is_done) {
+        code = work_once(till, drive, &is_done, is_any);
+        if (code == KIJ_OK && is_done) code = read_scanners(till, is_any);
+    }
+    return code;
 }
 
 static int run_round(kij_till *till, bool *is_any) {
     kij_drive *first = till->drives->first;
     for (kij_drive *drive = first; drive != NULL; drive = drive->next) look(drive);
     int code = kij_internal_hand_in(till, is_any);
-    /* The system keeps few key events, so each scanner is read whatever the others came to. */
-    for (kij_drive *drive = first; drive != NULL; drive = drive->next) {
-        int found = drive->category == KIJ_SCANNER ? scans(till, drive, is_any) : KIJ_OK;
-        if (code == KIJ_OK) code = found;
-    }
+    int found = read_scanners(till, is_any);
+    if (code == KIJ_OK) code = found;
     for (kij_drive *drive = first; drive != NULL && code == KIJ_OK; drive = drive->next)
         if (drive->category == KIJ_POS_PRINTER) code = work(till, drive, is_any);
     return code;
