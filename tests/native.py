@@ -1215,7 +1215,7 @@ def try_exchange():
         return
     with contextlib.ExitStack() as stack:
         device = stack.enter_context(Printer(cable()))
-        host = Host(stack, PROFILE + SPARE + SPARE)
+        host = Host(stack, PROFILE + 3 * SPARE)
         begun = ["new r POSPrinter", "open r r1", "claim r 0", "set r DeviceEnabled true"]
         told("a printer and a drawer", "ok", host.ask(f"printer r1 {device.path} drawer d1 timeout {AMPLE} pause 10"))
         told("the drawer is enabled", ["ok"] * 3,
@@ -1234,6 +1234,10 @@ def try_exchange():
         told("that is enabled", ["ok"] * 3, host.lines(*begun[1:]))
         told("its order too", "ok", host.line("call r printNormal 2 420a"))
         told("that is printed too", 2, len(device.receipt()))
+        if WORDS.name != "Rust":
+            told("an order of one that is attached by the same lines", ["ok"] * 7,
+                 host.lines("close r", "detach r1", "attach r1 3", *begun[1:], "call r printNormal 2 430a"))
+            told("that is printed as well", 3, len(device.receipt()))
         device.cover(True)
         told("its cover is open", True,
              until(lambda: host.ask("run 10") and host.line("get r CoverOpen") == "ok true"))

@@ -458,7 +458,7 @@ kij_result kij_show_printer(kij_till *till, const char *device, kij_printer_view
 bool kij_next_printed(kij_printer_view *view, kij_printed *printed);
 
 /** A spare of the profile, by its number from 1 on, serves the device from now on. If the device has a driver, that
- * carries out the spare's orders. Lines behind an `attach` line in the same kij_carry_out are run before it does. */
+ * carries out the spare's orders. */
 kij_result kij_attach(kij_till *till, const char *device, int64_t spare);
 
 /** The device has no peripheral from now on. */

@@ -60,21 +60,64 @@ void kij_close(kij_till *till) {
     free_till(till);
 }
 
-/* Drives the devices again that lines may have attached a peripheral to. One that was driven stays so. */
-static void drive_attached(kij_till *till, const char *lines, size_t size) {
+/* How many bytes lines have up to the first one that attaches something to a device, and with it: its name is written.
+   If there is none, all of them. */
+static size_t attach_end(const char *lines, size_t size, const char **name, size_t *name_size) {
     static const char verb[] = "attach ";
-    const char *end = lines + size;
-    while (lines < end) {
-        const char *feed = (const char *)memchr(lines, '\n', (size_t)(end - lines));
-        const char *last = feed == NULL ? end : feed, *name;
-        while (lines < last && *lines == ' ') lines++;
-        if ((size_t)(last - lines) >= sizeof verb && memcmp(lines, verb, sizeof verb - 1) == 0) {
-            for (lines += sizeof verb - 1; lines < last && *lines == ' ';) lines++;
-            for (name = lines; lines < last && *lines != ' ';) lines++;
-            kij_internal_drive_again(till, name, (size_t)(lines - name));
+    const char *at = lines, *end = lines + size;
+    *name_size = 0;
+    while (at < end) {
+        const char *feed = (const char *)memchr(at, '\n', (size_t)(end - at));
+        const char *last = feed == NULL ? end : feed, *next = feed == NULL ? end : feed + 1;
+        while (at < last && *at == ' ') at++;
+        if ((size_t)(last - at) >= sizeof verb && memcmp(at, verb, sizeof verb - 1) == 0) {
+            for (at += sizeof verb - 1; at < last && *at == ' ';) at++;
+            for (*name = at; at < last && *at != ' ';) at++;
+            *name_size = (size_t)(at - *name);
+            if (*name_size > 0) return (size_t)(next - lines);
         }
-        lines = feed == NULL ? end : feed + 1;
+        at = next;
     }
+    return size;
+}
+
+/* Puts the front of an answer before the till's, if there is one. By the code of what is behind it returns that of
+   both. */
+static int put_before(kij_till *till, kij_buffer *front, int code) {
+    if (front->size == 0) return code;
+    if (kij_internal_buffer_add(front, till->text, till->text_size + 1)) {
+        char *text = till->text;
+        till->text = front->bytes;
+        till->text_room = front->room;
+        till->text_size = front->size - 1;
+        front->bytes = text;
+    } else {
+        if (code == KIJ_OK) code = KIJ_NO_ANSWER;
+        till->text_size = 0;
+        till->text[0] = 0;
+    }
+    free(front->bytes);
+    return code == KIJ_NO_MEMORY ? (int)KIJ_NO_ANSWER : code;
+}
+
+/* Carries out lines: a code of enum kij_code. A driven device that something was attached to is driven again before the
+   next line. */
+static int carry_out(kij_till *till, const char *lines, size_t size) {
+    kij_buffer front = {NULL, 0, 0};
+    const char *name = NULL;
+    size_t name_size = 0, part = attach_end(lines, size, &name, &name_size);
+    int code = kij_internal_carry_out(till, lines, part);
+    while (name_size > 0) {
+        kij_internal_drive_again(till, name, name_size);
+        lines += part;
+        size -= part;
+        if (size == 0 || code != KIJ_OK) break;
+        if (!kij_internal_buffer_add(&front, till->text, till->text_size)) code = KIJ_NO_ANSWER;
+        if (code != KIJ_OK) break;
+        part = attach_end(lines, size, &name, &name_size);
+        code = kij_internal_carry_out(till, lines, part);
+    }
+    return put_before(till, &front, code);
 }
 
 kij_result kij_carry_out(kij_till *till, const char *lines, size_t size, const char **answer) {
@@ -82,8 +125,7 @@ kij_result kij_carry_out(kij_till *till, const char *lines, size_t size, const c
     int code = kij_internal_enter(till);
     if (code != KIJ_OK) return plain(code);
     if (size == KIJ_ZERO_ENDED) size = strlen(lines);
-    code = kij_internal_carry_out(till, lines, size);
-    if (till->drives != NULL && size > 0) drive_attached(till, lines, size);
+    code = till->drives == NULL ? kij_internal_carry_out(till, lines, size) : carry_out(till, lines, size);
     if (code == KIJ_OK || code == KIJ_NO_ANSWER) *answer = till->text;
     kij_internal_leave(till);
     return plain(code);

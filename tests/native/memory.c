@@ -35,7 +35,7 @@ static enum { NONE, WAITING, HANDED_OUT, REPORTED } progress;
    for a line whose order was reported, for a report, for a scan, for a device that is off, and for closing a control. */
 static char held[8][100], answer[30000];
 static size_t held_count, answer_size;
-static bool is_cut, wants_memory, is_done, is_off;
+static bool is_cut, wants_memory, is_done, is_off, is_driven;
 static int no_lines, no_line, no_report, no_scan, no_power, no_close;
 /* After how many bytes an answer is cut, if that isn't 0; how many bytes an order has; and what was done. */
 static size_t cut_at, order_size = 5;
@@ -71,7 +71,9 @@ static const char *print_line(const char *line) {
         no_close--;
         return "memory";
     }
-    if (strcmp(line, "order") != 0) return "ok";
+    /* What is attached is simulated, until it is driven. */
+    if (strncmp(line, "attach p1 ", 10) == 0) is_driven = false;
+    if (strcmp(line, "order") != 0 || !is_driven) return "ok";
     if (progress == REPORTED) {
         progress = NONE;
         return is_done ? "ok" : is_off ? "err 108" : "err 111";
@@ -213,6 +215,7 @@ void kijolvar_close(kijolvar_till till) { (void)till; }
 uint32_t kijolvar_drive(kijolvar_till till, void **out, const uint8_t *name, size_t name_len) {
     (void)name, (void)name_len;
     drives++;
+    is_driven = true;
     *out = till.at;
     return KIJOLVAR_OK;
 }
@@ -546,9 +549,18 @@ static void try_attached(void) {
     told("it is driven again", 2, drives);
     told("another device", KIJ_OK, kij_attach(self.till, "d1", 1).code);
     told("that isn't driven", 2, drives);
-    answered(&self, "attached by lines", "note\n  attach  p1 1 \nattach p11 1\nattach\n# attach p1 1",
-             "ok\nok\nok\nok\nok\n");
+    answered(&self, "attached by lines", "note\n  attach  p1 1 \nattach p11 1\nattach\nattach  \n# attach p1 1\nnote",
+             "ok\nok\nok\nok\nok\nok\nok\n");
     told("it is driven once more", 3, drives);
+    told("all lines are carried out", 2, noted);
+    answered(&self, "an order behind that", "note\nattach p1 1\norder\nattach p1 2\norder", "ok\nok\nok\nok\nok\n");
+    told("both are done", 10, got(&self));
+    most = 60;
+    told("no memory for a front", KIJ_NO_ANSWER, lines(&self, "attach p1 1\norder\n"));
+    most = SIZE_MAX;
+    told("the order isn't done", 0, got(&self));
+    answered(&self, "the next one", "order\n", "ok\n");
+    told("it is", 5, got(&self));
     closes(&self);
 }
 
