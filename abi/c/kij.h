@@ -181,7 +181,7 @@ enum kij_flags {
 kij_result kij_open(const char *profile, const char *totals, int flags, kij_till **till);
 
 /** Closes a till and its controls, and the file of its totals. Null is fine. No other call of the till may be under
- * way. */
+ * way. In a process that was forked it leaves the lock and the devices to the process that opened the till. */
 void kij_close(kij_till *till);
 
 /**

@@ -29,8 +29,9 @@ typedef struct kij_port {
     kij_port_kind kind;
     const char *name;
     kij_serial_settings serial;
-    /* The open file, or -1. */
+    /* The open file, or -1, and the process that opened it. */
     int file;
+    pid_t process;
     /* How often it was opened. */
     unsigned turns;
     /* Whether reading no bytes means that it is lost, and whether the last reading gave none. */
@@ -264,6 +265,8 @@ static inline bool kij_internal_port_is_open(const kij_port *port) { return port
 /* Opens a port that isn't open, in so many milliseconds: whether it is open. Looking a name up isn't limited. */
 bool kij_internal_port_open(kij_port *port, int64_t time);
 
+/* Closes a port. What isn't sent yet is dropped, but not in a process that was forked: there the port is still that of the
+   process that opened it. */
 void kij_internal_port_close(kij_port *port);
 
 /* Waits until bytes can be read, or written if that is asked, at most so many milliseconds. */

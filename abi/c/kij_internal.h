@@ -5,12 +5,14 @@
 #include "kij.h"
 #include "kijolvar.h"
 #include <string.h>
+#include <sys/types.h>
 
 /* A till: the library's, the file of its totals, the line that is written, and the answer that is read. */
 struct kij_till {
     kijolvar_till inner;
-    /* The file of the totals, or -1; and room for what is written to it. */
+    /* The file of the totals, or -1, and the process that opened it; and room for what is written to it. */
     int file;
+    pid_t process;
     uint8_t *errand;
     char *line;
     size_t line_room;

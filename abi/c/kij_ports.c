@@ -250,6 +250,7 @@ bool kij_internal_port_open(kij_port *port, int64_t time) {
         return false;
     }
     port->file = file;
+    port->process = getpid();
     port->was_empty = false;
     port->turns++;
     return true;
@@ -269,7 +270,7 @@ static void drop_unsent(int file) {
 
 void kij_internal_port_close(kij_port *port) {
     if (port->file >= 0) {
-        if (port->kind != KIJ_PORT_TCP) drop_unsent(port->file);
+        if (port->kind != KIJ_PORT_TCP && port->process == getpid()) drop_unsent(port->file);
         close(port->file);
     }
     port->file = -1;

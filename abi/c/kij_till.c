@@ -3,6 +3,7 @@
 #include <stdio.h>
 #include <stdlib.h>
 #include <string.h>
+#include <sys/file.h>
 #include <unistd.h>
 
 int kij_version(void) { return KIJ_VERSION; }
@@ -24,9 +25,12 @@ static void free_till(kij_till *till) {
 
 static kij_result plain(int code) { return kij_internal_result(code, 0, KIJ_NO_CATEGORY); }
 
-/* Closing the file unlocks it. */
-static void close_file(int file) {
-    if (file >= 0) close(file);
+/* Unlocks the file and closes it. A process that was forked meanwhile has it too, and would keep it locked; but it
+   doesn't unlock it itself. */
+static void close_file(const kij_till *till) {
+    if (till->file < 0) return;
+    if (till->process == getpid()) (void)flock(till->file, LOCK_UN);
+    close(till->file);
 }
 
 kij_result kij_open(const char *profile, const char *totals, int flags, kij_till **till) {
@@ -35,6 +39,7 @@ kij_result kij_open(const char *profile, const char *totals, int flags, kij_till
     kij_till *made = (kij_till *)calloc(1, sizeof *made);
     if (made == NULL) return plain(KIJ_NO_MEMORY);
     made->file = -1;
+    made->process = getpid();
     if (!kij_internal_rooms(made)) {
         free_till(made);
         return plain(KIJ_NO_MEMORY);
@@ -46,7 +51,7 @@ kij_result kij_open(const char *profile, const char *totals, int flags, kij_till
             *till = made;
             return plain(KIJ_OK);
         }
-        close_file(made->file);
+        close_file(made);
     }
     free_till(made);
     return why < 0 ? plain(-why) : kij_internal_result(KIJ_SYSTEM, why, KIJ_NO_CATEGORY);
@@ -56,7 +61,7 @@ void kij_close(kij_till *till) {
     if (till == NULL) return;
     kij_internal_end_drives(till);
     kijolvar_close(till->inner);
-    close_file(till->file);
+    close_file(till);
     free_till(till);
 }
 

@@ -1,5 +1,6 @@
 /* Tries the layer of C where the system does something that no emulated device can bring about: a serial line that is
-   pulled out before its bytes are out, names that are looked up, signals, and files that are read and written in parts.
+   pulled out before its bytes are out, processes that are forked, names that are looked up, signals, and files that are
+   read and written in parts.
    What is linked with it has -Wl,--wrap=getaddrinfo,--wrap=fsync,--wrap=pread,--wrap=pwrite.
 
    Usage: system FOLDER. It makes files in the folder, and prints what fails. Its status is 0 if nothing does. */
@@ -16,6 +17,7 @@
 #include <stdlib.h>
 #include <string.h>
 #include <sys/time.h>
+#include <sys/wait.h>
 #include <termios.h>
 #include <time.h>
 #include <unistd.h>
@@ -102,6 +104,42 @@ static void try_closing(void) {
     told("a closed one has none", true, tcgetattr(line, &found) == 0 && (found.c_cflag & CRTSCTS) == 0);
     close(line);
     close(other);
+}
+
+/* A process that was forked leaves the line and the lock as they are, and keeps neither. */
+static void try_forked(const char *path) {
+    kij_port port;
+    kij_till *till = NULL, *other = NULL;
+    struct termios found;
+    int end = open_line(&port), ways[2], status = 0;
+    char byte;
+    told("a till", KIJ_OK, kij_open(NULL, path, KIJ_CREATE, &till).code);
+    fflush(stdout);
+    if (pipe(ways) != 0) abort();
+    pid_t closes = fork();
+    if (closes == 0) {
+        kij_internal_port_close(&port);
+        kij_close(till);
+        _exit(0);
+    }
+    told("a forked process closes both", closes, waitpid(closes, &status, 0));
+    told("it ends well", 0, status);
+    told("the line is as it was", true, tcgetattr(port.file, &found) == 0 && (found.c_cflag & CRTSCTS) != 0);
+    told("the file is locked", EWOULDBLOCK, kij_open(NULL, path, KIJ_EXISTING, &other).extended);
+    pid_t waits = fork();
+    if (waits == 0) {
+        close(ways[1]);
+        _exit(read(ways[0], &byte, 1) != 0);
+    }
+    kij_internal_port_close(&port);
+    kij_close(till);
+    till = NULL;
+    told("it isn't locked by a process that has it still", KIJ_OK, kij_open(NULL, path, KIJ_EXISTING, &till).code);
+    kij_close(till);
+    close(ways[1]);
+    told("that ends", waits, waitpid(waits, &status, 0));
+    close(ways[0]);
+    close(end);
 }
 
 /* Listens on this machine, where so many and one may wait: the file and the number of the port. */
@@ -214,6 +252,7 @@ static void try_endless(void) {
     told("a display", KIJ_OK, kij_serial_display_open(till, devices[1], "/dev/zero", NULL).code);
     told("a scanner", KIJ_OK, kij_wedge_scanner_open(till, devices[2], "/dev/zero", NULL).code);
     /* It ends this program if it takes too long. */
+    fflush(stdout);
     alarm(20);
     int64_t began = kij_internal_now();
     told("the devices run", KIJ_OK, kij_run_devices(till, 300, NULL).code);
@@ -289,7 +328,7 @@ static void try_totals(const char *path) {
 }
 
 int main(int count, char **words) {
-    char path[4096];
+    char path[4096], forked[4096];
     if (count != 2) {
         fprintf(stderr, "Usage: system FOLDER\n");
         return 2;
@@ -297,6 +336,8 @@ int main(int count, char **words) {
     snprintf(path, sizeof path, "%s/system-totals", words[1]);
     try_lost_line();
     try_closing();
+    snprintf(forked, sizeof forked, "%s/forked-totals", words[1]);
+    try_forked(forked);
     try_names();
     try_endless();
     try_signal();
