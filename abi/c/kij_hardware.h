@@ -151,8 +151,8 @@ typedef struct kij_link {
     int64_t heard_at;
     int64_t tried_at;
     int64_t refreshed_at;
-    /* Of one that is asked: the question that was put last, how many have no answer, whether late answers come, when one
-       was put or such an answer came, and what was heard of 1, 2 and 4. */
+    /* Of one that is asked: the question that was put last, how many have no answer, whether late answers come, when
+       one was put or such an answer came, and what was heard of 1, 2 and 4. */
     uint32_t question;
     unsigned unanswered;
     bool has_late_answers;
@@ -265,8 +265,8 @@ static inline bool kij_internal_port_is_open(const kij_port *port) { return port
 /* Opens a port that isn't open, in so many milliseconds: whether it is open. Looking a name up isn't limited. */
 bool kij_internal_port_open(kij_port *port, int64_t time);
 
-/* Closes a port. What isn't sent yet is dropped, but not in a process that was forked: there the port is still that of the
-   process that opened it. */
+/* Closes a port. What isn't sent yet is dropped, but not in a process that was forked: there the port is still that of
+   the process that opened it. */
 void kij_internal_port_close(kij_port *port);
 
 /* Waits until bytes can be read, or written if that is asked, at most so many milliseconds. */
@@ -308,7 +308,7 @@ uint32_t kij_internal_order_bytes(kij_till *till, const kijolvar_wire_settings *
 /* Closes the port, and frees what the line has. */
 void kij_internal_link_end(kij_link *link);
 
-/* kij_drives.c */
+/* kij_drivers.c */
 
 /* What is left to do where a driven till's call isn't done: a code of enum kij_code, and the answer is in the till. */
 int kij_internal_served(kij_till *till, uint32_t code, size_t *needed);

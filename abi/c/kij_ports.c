@@ -25,8 +25,8 @@
 /* How long a name isn't looked up again, in milliseconds. */
 static const int64_t rarely = 60000;
 
-/* How long the other end may take to acknowledge what was sent, in milliseconds. Else a printer that lost its power in the
-   middle of an order is noticed only minutes after it is back. */
+/* How long the other end may take to acknowledge what was sent, in milliseconds. Else a printer that lost its power in
+   the middle of an order is noticed only minutes after it is back. */
 static const int acknowledged_within = 60000;
 
 bool kij_internal_buffer_room(kij_buffer *buffer, size_t room) {

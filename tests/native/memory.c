@@ -32,7 +32,8 @@ void *__wrap_realloc(void *at, size_t size) { return size > most ? NULL : __real
 static enum { NONE, WAITING, HANDED_OUT, REPORTED } progress;
 
 /* The lines that are held, the answer of those before them, and how often there is no memory: for the lines of a call,
-   for a line whose order was reported, for a report, for a scan, for a device that is off, and for closing a control. */
+   for a line whose order was reported, for a report, for a scan, for a device that is off, and for closing a control.
+   */
 static char held[8][100], answer[30000];
 static size_t held_count, answer_size;
 static bool is_cut, wants_memory, is_done, is_off, is_driven;

@@ -206,7 +206,8 @@ static void keep_address(kij_port *port, size_t place, int number) {
 static void try_addresses(void) {
     kij_port port;
     char name[64];
-    int silent = 0, number = 0, full = listen_here(0, &silent), listener = listen_here(8, &number), waiting[8], time = 0;
+    int silent = 0, number = 0, full = listen_here(0, &silent), listener = listen_here(8, &number), waiting[8];
+    int time = 0;
     socklen_t size = sizeof time;
     make_tcp(&port, name, sizeof name, silent);
     keep_address(&port, 0, silent);
