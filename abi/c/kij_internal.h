@@ -244,6 +244,9 @@ int kij_internal_open_till(kij_till *till, const char *profile);
 /* Moves the totals in a file to layout 2: 0, or errno, or a code of enum kij_code with a minus. */
 int kij_internal_move_file(const char *path);
 
+/* Whether a file or a folder is synced, whatever signals come; else errno says why. */
+bool kij_internal_is_synced(int file);
+
 /* Reads a file, as many bytes as totals have: 0 or errno. */
 int kij_internal_read_file(int file, uint8_t *bytes, size_t *size);
 

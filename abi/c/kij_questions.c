@@ -99,7 +99,7 @@ static int read_file(int file, uint8_t **bytes, size_t *size) {
     if (flock(file, LOCK_SH | LOCK_NB) != 0) return errno;
     /* What a till has written last before it was killed may be in memory alone, and not stay. A file system that can't
        sync can't be written. */
-    if (fsync(file) != 0 && errno != EINVAL && errno != EROFS) return errno;
+    if (!kij_internal_is_synced(file) && errno != EINVAL && errno != EROFS) return errno;
     *bytes = (uint8_t *)malloc(KIJOLVAR_DISK_LENGTH);
     if (*bytes == NULL) return -KIJ_NO_MEMORY;
     int why = kij_internal_read_file(file, *bytes, size);

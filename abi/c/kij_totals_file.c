@@ -23,8 +23,7 @@ static bool is_written(int file, const uint8_t *bytes, size_t size, uint64_t at)
     return true;
 }
 
-/* Whether a file is synced; else errno says why. */
-static bool is_synced(int file) {
+bool kij_internal_is_synced(int file) {
     int found;
     do found = fsync(file);
     while (found != 0 && errno == EINTR);
@@ -52,7 +51,7 @@ uint32_t kij_internal_settle(kij_till *till) {
         /* Unless the file says why. */
         errno = EIO;
         if (code == KIJOLVAR_WRITE && is_written(till->file, till->errand, count, at)) continue;
-        if (code == KIJOLVAR_SYNC && is_synced(till->file)) continue;
+        if (code == KIJOLVAR_SYNC && kij_internal_is_synced(till->file)) continue;
         int why = errno;
         kijolvar_errand_failed(till->inner, &till->inner.at);
         errno = why;
@@ -132,7 +131,7 @@ static int open_existing(const char *path, int *file) {
     if (flock(*file, LOCK_EX | LOCK_NB) != 0) return dropped(*file, errno);
     int why = open_folder(path, &name, &folder);
     if (why != 0) return dropped(*file, why);
-    if (fsync(folder) != 0) why = errno;
+    if (!kij_internal_is_synced(folder)) why = errno;
     close(folder);
     return why == 0 ? 0 : dropped(*file, why);
 }
@@ -162,7 +161,7 @@ static int name_file(int file, int folder, const char *name) {
     char unnamed[32];
     snprintf(unnamed, sizeof unnamed, "/proc/self/fd/%d", file);
     if (linkat(AT_FDCWD, unnamed, folder, name, AT_SYMLINK_FOLLOW) != 0) return errno;
-    return fsync(folder) == 0 ? 0 : errno;
+    return kij_internal_is_synced(folder) ? 0 : errno;
 }
 
 /* Creates a file of totals without files, and locks it. It gets its name when it is whole, so a crash leaves nothing or
