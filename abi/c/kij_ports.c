@@ -150,12 +150,14 @@ static int open_file(kij_port *port, int *file) {
     return why;
 }
 
-/* Reads tcp:HOST, tcp:HOST:PORT, and both with // behind the first colon. */
+/* Reads tcp:HOST, tcp:HOST:PORT, and both with // behind the first colon. An address of IPv6 may be in brackets. */
 static bool is_address(const char *name, char *host, size_t host_room, char *service, size_t service_room) {
     const char *from = name + strlen("tcp:");
     if (begins_with(from, "//")) from += 2;
-    const char *colon = strrchr(from, ':');
+    const char *bracket = *from == '[' ? strchr(from, ']') : NULL;
+    const char *colon = strrchr(bracket == NULL ? from : bracket, ':');
     size_t size = colon == NULL ? strlen(from) : (size_t)(colon - from);
+    if (bracket != NULL) size = (size_t)(bracket - ++from);
     if (size == 0 || size >= host_room) return false;
     memcpy(host, from, size);
     host[size] = 0;

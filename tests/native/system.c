@@ -24,6 +24,7 @@
 
 static int failed, lookups, lookup_fault, calls, read_fault, write_fault, syncs;
 static bool is_partial;
+static char looked_up[100];
 
 int __real_getaddrinfo(const char *host, const char *service, const struct addrinfo *wanted, struct addrinfo **found);
 int __real_fsync(int file);
@@ -36,6 +37,7 @@ ssize_t __wrap_pwrite(int file, const void *bytes, size_t size, off_t at);
 
 int __wrap_getaddrinfo(const char *host, const char *service, const struct addrinfo *wanted, struct addrinfo **found) {
     lookups++;
+    snprintf(looked_up, sizeof looked_up, "%s %s", host, service);
     return lookup_fault != 0 ? lookup_fault : __real_getaddrinfo(host, service, wanted, found);
 }
 
@@ -191,6 +193,26 @@ static void try_names(void) {
     told("it is looked up again", 3, lookups);
 }
 
+/* What is looked up for a port's name. */
+static void try_hosts(void) {
+    static const char *const names[][2] = {
+        {"tcp:printer", "printer 9100"},
+        {"tcp://printer:91", "printer 91"},
+        {"tcp:192.0.2.7", "192.0.2.7 9100"},
+        {"tcp:[2001:db8::7]", "2001:db8::7 9100"},
+        {"tcp:[::1]:91", "::1 91"},
+    };
+    static const kij_serial_settings serial = KIJ_SERIAL_SETTINGS;
+    lookup_fault = EAI_AGAIN;
+    for (size_t place = 0; place < sizeof names / sizeof names[0]; place++) {
+        kij_port port;
+        kij_internal_port(&port, names[place][0], &serial, false);
+        told("it isn't found", false, kij_internal_port_open(&port, 100));
+        told(names[place][0], 0, strcmp(looked_up, names[place][1]));
+    }
+    lookup_fault = lookups = 0;
+}
+
 /* The address of a listener that takes no more connections: it says nothing. */
 static void keep_address(kij_port *port, size_t place, int number) {
     struct sockaddr_in address;
@@ -343,6 +365,7 @@ int main(int count, char **words) {
     try_closing();
     snprintf(forked, sizeof forked, "%s/forked-totals", words[1]);
     try_forked(forked);
+    try_hosts();
     try_names();
     try_endless();
     try_signal();
