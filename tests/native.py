@@ -854,8 +854,6 @@ near = 20
 
 def try_exchanged():
     """A printer and its drawer: one goes on while the other is detached, and a spare has the driver of its device."""
-    if WORDS.name != "Rust":
-        return
     with contextlib.ExitStack() as stack:
         device = stack.enter_context(Printer(cable()))
         host = Host(stack, PROFILE + SPARES)

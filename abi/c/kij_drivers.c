@@ -809,6 +809,7 @@ static int begin_drive(kij_till *till, const kij_drive *drive) {
 }
 
 void kij_internal_drive_again(kij_till *till, const char *name, size_t size) {
+    bool is_any = false;
     kij_drive *drive = drive_of(till->drives, name, size);
     if (drive == NULL) return;
     /* One that isn't attached after all can't be driven. */
@@ -816,6 +817,8 @@ void kij_internal_drive_again(kij_till *till, const char *name, size_t size) {
     memset(&drive->belief, 0, sizeof drive->belief);
     drive->kicked_at = -1;
     drive->is_new = true;
+    /* What isn't handed in now is the next time. */
+    if (!till->is_holding) (void)kij_internal_hand_in(till, &is_any);
 }
 
 /* Adds a drive behind the others. */

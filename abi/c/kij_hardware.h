@@ -321,7 +321,8 @@ int kij_internal_hand_in(kij_till *till, bool *is_any);
    library: KIJOLVAR_OK if there is none. */
 uint32_t kij_internal_kept_order(kij_till *till);
 
-/* Drives the device of a name again, if it has a driver, since another peripheral serves it now. */
+/* Drives the device of a name again, if it has a driver, since another peripheral serves it now: that is told how the
+   hardware is. */
 void kij_internal_drive_again(kij_till *till, const char *name, size_t size);
 
 /* Frees the drivers of a till, and closes their ports. */
