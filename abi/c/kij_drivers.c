@@ -122,7 +122,7 @@ static bool add_all(kij_till *till, kij_drive *drive, kij_buffer *lines) {
     kij_power before = drive->belief.power;
     lines->size = 0;
     /* A device that is off has no scans any more. */
-    if (!is_online(drive) && !drive->is_untold) {
+    if (!is_online(drive) && !drive->is_untold && !drive->has_failed) {
         drive->belief.power = KIJ_POWER_OFF;
         return before == KIJ_POWER_OFF || add_line(lines, drive, " power off");
     }
@@ -471,39 +471,38 @@ static int type_of(const uint8_t *name) {
     return 501;
 }
 
-/* Tells the till of a scan: a code of enum kij_code. */
+/* Tells the till of a scan: a code of enum kij_code. Whether it couldn't be told for want of memory is written. */
 static int tell_scan(kij_till *till, const kij_drive *drive, const kij_word *word, const kij_argument *arguments,
-                     size_t count) {
+                     size_t count, bool *is_untold) {
     char *value;
+    *is_untold = true;
+    /* Lines that are held from here on have the scan in them. */
+    if (till->is_holding) kij_internal_give_up(till);
+    if (till->is_holding) return KIJ_NO_MEMORY;
     int code = kij_internal_run(till, KIJ_VERB_INPUT, &drive->name, word, arguments, count);
     if (code == KIJ_OK) code = kij_internal_answer(till, KIJ_NO_CATEGORY, &value).code;
+    *is_untold = code == KIJ_NO_MEMORY && !till->is_holding;
     /* Nothing happens at a device that is detached. */
     return code == KIJ_BAD_DEVICE ? KIJ_OK : code;
 }
 
-/* Tells the till of the code that has come, or that a scan failed if a part of it was lost or it is longer than any: a
-   code of enum kij_code. What can't be told for want of memory stays. */
+/* Tells the till of the code that has come: a code of enum kij_code. What can't be told for want of memory stays. A
+   scan has failed if a part of it was lost or it is longer than any code: that is told later. */
 static int scan(kij_till *till, kij_drive *drive, bool *is_any) {
-    static const kij_word fault = KIJ_WORD(" fault"), word = KIJ_WORD(" scan");
+    static const kij_word word = KIJ_WORD(" scan");
     kij_argument arguments[3];
-    size_t size = drive->begun_size;
-    bool is_failed = drive->is_torn || size > LONGEST_CODE, has_name = size > 3 && drive->begun[0] == ']';
+    size_t size = drive->begun_size, front = size > 3 && drive->begun[0] == ']' ? 3 : 0;
     int code = KIJ_OK;
-    /* Lines that are held from here on have the scan in them. */
-    if (till->is_holding) kij_internal_give_up(till);
-    drive->is_untold = till->is_holding;
-    if (drive->is_untold) return KIJ_NO_MEMORY;
-    if (is_failed) {
-        code = tell_scan(till, drive, &fault, NULL, 0);
+    if (drive->is_torn || size > LONGEST_CODE) {
+        drive->has_failed = true;
     } else if (size > 0) {
-        arguments[0] = kij_internal_number(has_name ? type_of(drive->begun + 1) : drive->type);
+        arguments[0] = kij_internal_number(front > 0 ? type_of(drive->begun + 1) : drive->type);
         arguments[1] = kij_internal_bytes(drive->begun, size);
-        arguments[2] = kij_internal_bytes(drive->begun + (has_name ? 3 : 0), size - (has_name ? 3 : 0));
-        code = tell_scan(till, drive, &word, arguments, 3);
+        arguments[2] = kij_internal_bytes(drive->begun + front, size - front);
+        code = tell_scan(till, drive, &word, arguments, 3, &drive->is_untold);
+        if (drive->is_untold) return code;
+        *is_any = true;
     }
-    drive->is_untold = code == KIJ_NO_MEMORY && !till->is_holding;
-    if (drive->is_untold) return code;
-    *is_any |= is_failed || size > 0;
     drive->begun_size = 0;
     drive->is_torn = false;
     return code;
@@ -587,18 +586,25 @@ static int take_scans(kij_till *till, kij_drive *drive, bool *is_any) {
     return code;
 }
 
-/* Reads what a scanner has sent: a code of enum kij_code. */
+/* Reads what a scanner has sent: a code of enum kij_code. A control ignores codes from a failed scan on, so those that
+   have come are first. */
 static int scans(kij_till *till, kij_drive *drive, bool *is_any) {
+    static const kij_word fault = KIJ_WORD(" fault");
     kij_port *port = &drive->port;
-    bool can_read, can_write;
-    int code = take_scans(till, drive, is_any);
+    bool can_read, can_write, is_code = false;
+    int code = take_scans(till, drive, &is_code);
     for (int part = 0; part < KIJ_MOST_PARTS && code == KIJ_OK && kij_internal_port_is_open(port); part++) {
         size_t room = sizeof drive->got - drive->got_size, count = 0;
         kij_internal_port_wait(port, false, 0, &can_read, &can_write);
         if (!can_read || !kij_internal_port_read(port, drive->got + drive->got_size, room, &count) || count == 0) break;
         drive->got_size += count;
-        code = take_scans(till, drive, is_any);
+        code = take_scans(till, drive, &is_code);
     }
+    if (code == KIJ_OK && drive->has_failed && !is_code) {
+        code = tell_scan(till, drive, &fault, NULL, 0, &drive->has_failed);
+        is_code = !drive->has_failed;
+    }
+    *is_any |= is_code;
     return code;
 }
 

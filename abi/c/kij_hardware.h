@@ -197,12 +197,14 @@ typedef struct kij_drive {
     int64_t tried_at;
     bool is_new;
     /* A scanner: what of a code has come, of key events, whether a shift and a control key are down, whether a part of
-       the code was lost, and whether a whole code couldn't be told for want of memory. */
+       the code was lost, whether a whole code couldn't be told for want of memory, and whether a failed scan is to be
+       told. */
     int type;
     bool is_shifted;
     bool is_control;
     bool is_torn;
     bool is_untold;
+    bool has_failed;
     uint8_t *begun;
     size_t begun_size;
     uint8_t got[64];
