@@ -233,8 +233,6 @@ def try_troubles():
 def try_ports_that_stay():
     """A port that stays open while the printer is off, and loses what is sent: a cable with a chip of its own, or a
     print server. What was lost is never told as printed, and a retry prints it."""
-    if WORDS.name != "Rust":
-        return
     for kind in ("usb stays", "tcp stays", "asked stays"):
         for place in (0, 30, 50):
             name = f"off after {place} bytes, over {kind}"
@@ -670,8 +668,6 @@ def try_idle():
 
 def try_dropped():
     """A code of a keyboard of which Linux has dropped events fails, and the next one is whole."""
-    if WORDS.name != "Rust":
-        return
 
     def events(*events):
         return b"".join(struct.pack("@llHHi", 0, 0, *event) for event in events)
@@ -703,8 +699,6 @@ def try_dropped():
 
 def try_counted():
     """Answers without a number, after a printer was silent for two retries: an order isn't done by one of before it."""
-    if WORDS.name != "Rust":
-        return
     with contextlib.ExitStack() as stack:
         shop = Shop(stack, "asked")
         shop.device.hang()
@@ -731,8 +725,6 @@ def try_counted():
 
 def try_link():
     """A link to a serial line, which is made after the driver is opened. The line is the host's own terminal."""
-    if WORDS.name != "Rust":
-        return
     link = WORK / "receipt"
     with contextlib.ExitStack() as stack:
         device = stack.enter_context(Display(cable()))
@@ -760,8 +752,6 @@ def try_link():
 
 def try_silence():
     """A printer that falls silent is off soon, although an order is tried again and again."""
-    if WORDS.name != "Rust":
-        return
     for kind in ("usb", "tcp", "serial", "asked"):
         with contextlib.ExitStack() as stack:
             shop = Shop(stack, kind)
@@ -795,8 +785,6 @@ def try_silence():
 
 def try_blinks():
     """A printer whose port stays is off for a moment, which nobody sees: its status is asked for again."""
-    if WORDS.name != "Rust":
-        return
     for kind in ("serial", "usb stays", "tcp stays"):
         with contextlib.ExitStack() as stack:
             shop = Shop(stack, kind)
@@ -885,8 +873,6 @@ def try_exchanged():
 
 def try_refused():
     """Output that waits and is refused is tried again only now and then."""
-    if WORDS.name != "Rust":
-        return
     with contextlib.ExitStack() as stack:
         shop = Shop(stack, timeout=AMPLE)
         shop.device.cover(True)
@@ -904,8 +890,6 @@ def try_refused():
 
 def try_counted_down():
     """Lines that are counted down begin again while the sensors see enough paper, so that no receipt is refused."""
-    if WORDS.name != "Rust":
-        return
     with contextlib.ExitStack() as stack:
         device = stack.enter_context(Printer(cable()))
         host = Host(stack)
@@ -1040,8 +1024,6 @@ def try_memory_while():
 
 def try_memory_scans():
     """Want of memory at each allocation of a scan in turn: each code comes once, and each failed scan."""
-    if not WORDS.name.startswith("Rust"):
-        return
     for opened in ("no other driver", "own d2 0"):
         with contextlib.ExitStack() as stack:
             device = stack.enter_context(Scanner(cable()))
@@ -1079,8 +1061,6 @@ def try_memory_scans():
 
 def try_memory_inputs():
     """Want of memory at each allocation of what happens at a printer in turn: the till knows all of it in the end."""
-    if not WORDS.name.startswith("Rust"):
-        return
     papers, powers, refused = [], [], 0
     for number in range(1, 40):
         with contextlib.ExitStack() as stack:
@@ -1105,8 +1085,6 @@ def try_memory_inputs():
     told("want of memory: the printer is off", ["err 108"] * 39, powers)
 
 
-# ---- what the layer of C alone is tried at here
-
 SPARE = """
 [[spare]]
 category = "POSPrinter"
@@ -1118,8 +1096,6 @@ near = 20
 
 def try_stays():
     """A port that stays while its printer is off, as a print server's: what was lost then isn't told as printed."""
-    if WORDS.name == "Rust":
-        return
     for kind in ("stays", "stays asked"):
         with contextlib.ExitStack() as stack:
             shop = Shop(stack, kind)
@@ -1141,24 +1117,6 @@ def try_stays():
                  until(lambda: shop.host.ask("run 10") and shop.host.line("get r CoverOpen") == "ok true"))
 
 
-def try_silent():
-    """A printer that is silent counts as off, however often its order is tried again."""
-    if WORDS.name == "Rust":
-        return
-    for kind in ("usb", "serial", "asked"):
-        with contextlib.ExitStack() as stack:
-            shop, answers = Shop(stack, kind), []
-            shop.device.hang()
-            for _ in range(4):
-                answers.append(shop.print(b"Once\n"))
-                shop.host.ask("run 50")
-            told(f"orders of a silent printer over {kind}", ["err 111", "err 108"], [answers[0], answers[-1]])
-            told(f"it is off over {kind}", "offline 0", shop.host.ask("state r1"))
-            shop.device.hang(False)
-            told(f"it is back over {kind}", True, shop.settle())
-            told(f"the order over {kind}", True, until(lambda: shop.print(b"Once\n") == "ok"))
-
-
 def try_unheard():
     """A network printer that says nothing any more is connected to again, unless something is due."""
     with contextlib.ExitStack() as stack:
@@ -1177,8 +1135,6 @@ def try_unheard():
 
 def try_switched():
     """A serial printer that is switched off and on: it isn't told as off later, and its status is what it is then."""
-    if WORDS.name == "Rust":
-        return
 
     def is_open(wanted):
         """Whether the cover is told as open in time."""
@@ -1217,8 +1173,6 @@ def try_switched():
 
 def try_exchange():
     """A printer and a drawer whose devices are detached and attached again."""
-    if WORDS.name == "Rust":
-        return
     with contextlib.ExitStack() as stack:
         device = stack.enter_context(Printer(cable()))
         host = Host(stack, PROFILE + 3 * SPARE)
@@ -1227,12 +1181,12 @@ def try_exchange():
         told("the drawer is enabled", ["ok"] * 3,
              host.lines("new d CashDrawer", "open d d1", "set d DeviceEnabled true"))
         told("the drawer is opened", "ok", host.line("call d openDrawer"))
-        told("the printer is detached", "ok", host.ask("detach r1"))
+        told("the printer is detached", "ok", host.line("detach r1"))
         told("the drawer is opened again", "ok", host.line("call d openDrawer"))
         told("by the printer", 2, len(device.pulses))
         host.ask("run 100")
         told("both are there", ["online 0"] * 2, [host.ask("state r1"), host.ask("state d1")])
-        told("a spare is attached", "ok", host.ask("attach r1 1"))
+        told("a spare is attached", "ok", host.line("attach r1 1"))
         told("it is enabled", ["ok"] * 4, host.lines(*begun))
         told("its order", "ok", host.line("call r printNormal 2 410a"))
         told("it is printed", 1, len(device.receipt()))
@@ -1251,13 +1205,11 @@ def try_exchange():
 
 def try_detached_codes():
     """A code of a device that is detached is lost, and nothing else is."""
-    if WORDS.name == "Rust":
-        return
     with contextlib.ExitStack() as stack:
         device = stack.enter_context(Scanner(cable()))
         shop = Shop(stack, timeout=AMPLE)
         told("another device", "ok", shop.host.ask(f"scanner s1 {device.path} pause 10"))
-        told("it is detached", "ok", shop.host.ask("detach s1"))
+        told("it is detached", "ok", shop.host.line("detach s1"))
         told("output waits", ["ok", "ok"], shop.host.lines("set r AsyncMode true", "call r printNormal 2 410a"))
         device.scan(b"4006381333931")
         time.sleep(0.1)
@@ -1267,8 +1219,6 @@ def try_detached_codes():
 
 def try_refused_output():
     """Output that is refused again and again leaves time for other things."""
-    if WORDS.name == "Rust":
-        return
     with contextlib.ExitStack() as stack:
         shop, events, runs = Shop(stack), [], 0
         told("accepted", ["ok", "ok"],
@@ -1289,8 +1239,6 @@ def try_refused_output():
 
 def try_roll():
     """A roll whose lines are counted down while the printer still sees enough paper."""
-    if WORDS.name == "Rust":
-        return
     with contextlib.ExitStack() as stack:
         shop = Shop(stack, lines=100_000, timeout=AMPLE)
         text = b"".join(b"Line %d\n" % number for number in range(60))
