@@ -343,6 +343,49 @@ def try_absent():
         told("it is taken as off", "offline 0", host.ask("state r1"))
 
 
+def try_offline():
+    """A printer that is offline when its port is opened or it is switched on, and keeps what it is sent: it is known
+    why."""
+    if WORDS.name == "Rust":
+        return
+    for kind in ("usb", "tcp", "serial"):
+        with contextlib.ExitStack() as stack:
+            device = stack.enter_context(Printer(cable(kind)))
+            device.cover(True)
+            host, began = Host(stack), time.monotonic()
+            words = "serial 115200" if kind == "serial" else ""
+            told(f"a printer over {kind}", "ok",
+                 host.ask(f"printer r1 {device.path} timeout {AMPLE} pause 10 lines 1000 {words}"))
+            told(f"at once over {kind}", True, time.monotonic() - began < AMPLE / 1000)
+            told(f"it is enabled over {kind}", ["ok"] * 4,
+                 host.lines("new r POSPrinter", "open r r1", "claim r 0", "set r DeviceEnabled true"))
+            told(f"its cover is open over {kind}", "ok true", host.line("get r CoverOpen"))
+            told(f"an order over {kind}", "err 114 201", host.line("call r printNormal 2 410a"))
+            device.cover(False)
+            told(f"it goes on over {kind}", True,
+                 until(lambda: host.ask("run 10") and host.line("get r CoverOpen") == "ok false"))
+            told(f"the order again over {kind}", "ok", host.line("call r printNormal 2 410a"))
+            told(f"it is printed once over {kind}", 1, len(device.receipt()))
+            device.cover(True)
+            told(f"it is open again over {kind}", True,
+                 until(lambda: host.ask("run 10") and host.line("get r CoverOpen") == "ok true"))
+    for kind in ("serial", "usb stays", "tcp stays"):
+        with contextlib.ExitStack() as stack:
+            shop = Shop(stack, kind)
+            told(f"the printer is idle over {kind}", True,
+                 until(lambda: shop.host.ask("run 10") == "false" and shop.device.is_idle))
+            shop.device.pull_plug()
+            shop.device.cover(True)
+            shop.device.plug_in()
+            told(f"its cover was opened while it was off over {kind}", True,
+                 until(lambda: shop.host.ask("run 10") and shop.host.line("get r CoverOpen") == "ok true", 5))
+            told(f"an order then over {kind}", "err 114 201", shop.print(TEXT))
+            shop.device.cover(False)
+            told(f"it goes on then over {kind}", True, shop.settle())
+            told(f"that order over {kind}", "ok", shop.print(TEXT))
+            told(f"its paper over {kind}", PRINTED, shop.paper())
+
+
 def try_garbage():
     """Bytes that are no replies, in any place, and answers that are lost."""
     for kind in ("usb", "tcp"):

@@ -151,9 +151,11 @@ typedef struct kij_link {
     int64_t heard_at;
     int64_t tried_at;
     int64_t refreshed_at;
-    /* Of one that is asked: the question that was put last, how many have no answer, whether late answers come, when
-       one was put or such an answer came, and what was heard of 1, 2 and 4. */
+    /* The question that was put last, and how many statuses had come when one that is offline was asked why. Of one
+       that is asked: how many have no answer, whether late answers come, when one was put or such an answer came, and
+       what was heard of 1, 2 and 4. */
     uint32_t question;
+    uint64_t asked_why_at;
     unsigned unanswered;
     bool has_late_answers;
     int64_t questioned_at;

@@ -346,24 +346,6 @@ static const char *last_line(const char *text) {
     return line;
 }
 
-/* A reply of a printer that says by itself how it is. Its automatic status alone tells of cover and paper at once. */
-static void take_reply(kij_link *link, const char *text, const kij_told *told) {
-    const char *line = last_line(text);
-    answered(link);
-    if (strncmp(line, "job ", 4) == 0) {
-        acknowledge_number(link, (uint32_t)strtoul(line + 4, NULL, 10));
-    } else if (strncmp(line, "status", 6) == 0 && strstr(line, " cover ") != NULL && strstr(line, " paper ") != NULL) {
-        hear(&link->signs, line);
-        link->told[0] = *told;
-        link->told_count = 1;
-        link->is_refreshing = false;
-        link->statuses++;
-    } else if (is_stopped(link) && says(line, "offline", "no")) {
-        /* It prints again, and hasn't said so: it was off, and has lost that it was asked. */
-        put_refresh(link);
-    }
-}
-
 /* Puts the replies to the three questions together to what an automatic status would say. */
 static void compose(kij_link *link) {
     if (link->told_count == 0 || memcmp(&link->hearing, &link->signs, sizeof link->signs) != 0) {
@@ -371,6 +353,46 @@ static void compose(kij_link *link) {
         memcpy(link->told, link->heard, sizeof link->told);
         link->told_count = 3;
         link->statuses++;
+    }
+}
+
+/* A printer that is offline and hasn't said so by itself was so when it was switched on. It keeps what tells it to say
+   how it is until it goes on. So it is asked why, and for its paper, which it answers at once. */
+static void take_cause(kij_link *link, const char *line, const kij_told *told) {
+    if (told->asked == ASKED_NOW) {
+        link->asked_why_at = link->statuses;
+        memset(&link->hearing, 0, sizeof link->hearing);
+    }
+    link->question = ASKED_NOW;
+    /* It has said it meanwhile. */
+    if (link->statuses != link->asked_why_at) return;
+    link->heard[told->asked / 2] = *told;
+    hear(&link->hearing, line);
+    if (told->asked < 4) put_question(link, 2 * told->asked);
+    else compose(link);
+}
+
+/* Whether the printer has said by itself that it is offline, which is one reply. */
+static bool has_said_offline(const kij_link *link) { return link->told_count == 1 && link->signs.is_offline; }
+
+/* A reply of a printer that says by itself how it is: an acknowledgement, an automatic status, which alone has several
+   bytes, or the answer to a question. */
+static void take_reply(kij_link *link, const char *text, const kij_told *told) {
+    const char *line = last_line(text);
+    answered(link);
+    if (strncmp(line, "job ", 4) == 0) {
+        acknowledge_number(link, (uint32_t)strtoul(line + 4, NULL, 10));
+    } else if (told->size > 1) {
+        hear(&link->signs, line);
+        link->told[0] = *told;
+        link->told_count = 1;
+        link->is_refreshing = false;
+        link->statuses++;
+    } else if (told->asked != ASKED_NOW || (says(line, "offline", "yes") && !has_said_offline(link))) {
+        take_cause(link, line, told);
+    } else if (is_stopped(link) && says(line, "offline", "no")) {
+        /* It prints again, and hasn't said so: it was off, and has lost that it was asked. */
+        put_refresh(link);
     }
 }
 
@@ -421,7 +443,7 @@ static void take_byte(kij_link *link, uint8_t byte) {
 static bool take_first(kij_link *link) {
     char text[256];
     size_t used = 0, skipped = 0, needed = 0;
-    uint32_t asked = link->was_asked ? ASKED_NOW : 0;
+    uint32_t asked = link->was_asked || link->question > ASKED_NOW ? link->question : 0;
     uint32_t code = read_reply(link, asked, link->got, link->got_size, &used, &skipped, text, sizeof text - 1, &needed);
     if (code != KIJOLVAR_OK || used == 0) return false;
     text[needed] = 0;
