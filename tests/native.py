@@ -862,8 +862,6 @@ def try_blinks():
 
 def try_lost_scanner():
     """A code that comes just before its port is lost. The scanner is off only after it."""
-    if WORDS.name != "Rust":
-        return
     with contextlib.ExitStack() as stack:
         device = stack.enter_context(Scanner(cable("tcp")))
         host = Host(stack)

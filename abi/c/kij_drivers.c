@@ -672,10 +672,14 @@ static int work(kij_till *till, kij_drive *drive, bool *is_any) {
 
 static int run_round(kij_till *till, bool *is_any) {
     kij_drive *first = till->drives->first;
+    bool is_code = false;
     for (kij_drive *drive = first; drive != NULL; drive = drive->next) look(drive);
     int code = kij_internal_hand_in(till, is_any);
-    int found = read_scanners(till, is_any);
+    int found = read_scanners(till, &is_code);
     if (code == KIJ_OK) code = found;
+    /* A scanner that was lost behind its codes is off now. */
+    if (code == KIJ_OK && is_code) code = kij_internal_hand_in(till, is_any);
+    *is_any |= is_code;
     for (kij_drive *drive = first; drive != NULL && code == KIJ_OK; drive = drive->next)
         if (drive->category == KIJ_POS_PRINTER) code = work(till, drive, is_any);
     return code;
