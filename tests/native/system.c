@@ -16,6 +16,7 @@
 #include <stdio.h>
 #include <stdlib.h>
 #include <string.h>
+#include <sys/stat.h>
 #include <sys/time.h>
 #include <sys/wait.h>
 #include <termios.h>
@@ -354,8 +355,21 @@ static void try_totals(const char *path) {
     read_fault = 0;
 }
 
+/* A pipe that nobody writes is no file of totals, and isn't waited for. */
+static void try_pipe(const char *path) {
+    size_t needed = 0;
+    uint64_t place = 0;
+    if (mkfifo(path, 0600) != 0) abort();
+    signal(SIGALRM, SIG_DFL);
+    /* It ends this program if it takes too long. */
+    fflush(stdout);
+    alarm(10);
+    told("a pipe", ESPIPE, kij_files(path, NULL, 0, &needed, &place).extended);
+    alarm(0);
+}
+
 int main(int count, char **words) {
-    char path[4096], forked[4096];
+    char path[4096], forked[4096], fifo[4096];
     if (count != 2) {
         fprintf(stderr, "Usage: system FOLDER\n");
         return 2;
@@ -372,5 +386,7 @@ int main(int count, char **words) {
     try_addresses();
     try_empty();
     try_totals(path);
+    snprintf(fifo, sizeof fifo, "%s/system-pipe", words[1]);
+    try_pipe(fifo);
     return failed != 0;
 }
