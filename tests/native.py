@@ -141,6 +141,8 @@ class Shop:
         words += " asked" * ("asked" in kind) + " serial 115200" * ("serial" in kind)
         opened = f"printer r1 {self.device.path} timeout {timeout} pause 10 lines 1000 {words}"
         told("the printer is opened", "ok", self.host.ask(opened))
+        # On a machine that is busy it may have been silent meanwhile.
+        until(lambda: self.host.ask("state r1").startswith("online") or not self.host.ask("run 10"))
         if is_claimed:
             lines = ("new r POSPrinter", "open r r1", "claim r 0", "set r DeviceEnabled true")
             told("the printer is enabled", ["ok"] * 4, self.host.lines(*lines))
@@ -223,6 +225,7 @@ def try_troubles():
                     told(f"{name}: the answer", found_as, shop.print(TEXT))
                     told(f"{name}: in time", True, time.monotonic() - began < TIMEOUT / 1000 + WORDS.slack)
                     told(f"{name}: still", "err", shop.print(TEXT)[:3])
+                    shop.device.clear_triggers()
                     undo(shop.device)
                     told(f"{name}: it ends", True, shop.settle())
                     told(f"{name}: again", True, until(lambda: shop.print(TEXT) == "ok"))
@@ -842,7 +845,7 @@ def try_blinks():
             device.cover(True)
             told(f"the cover is open over {kind}", True, until(lambda: shows("ok true")))
             told(f"it is asked for more over {kind}", True,
-                 until(lambda: shop.host.ask("run 10") and device._got == b"\x1da\xff"))
+                 until(lambda: shop.host.ask("run 10") and device._got and not device._got.replace(b"\x1da\xff", b"")))
             device.pull_plug()
             device.cover(False)
             device.plug_in()
