@@ -82,6 +82,25 @@ impl Drives {
         self.list.is_empty()
     }
 
+    /// The lines up to the first that attaches a spare to a driven device: how many bytes they have, and the place of
+    /// the device's drive.
+    pub(crate) fn first_attach(&self, lines: &[u8]) -> (usize, Option<usize>) {
+        if self.is_empty() {
+            return (lines.len(), None);
+        }
+        let mut count = 0;
+        for line in lines.split_inclusive(|byte| *byte == b'\n') {
+            count += line.len();
+            let mut words = line.split(|byte| b" \r\n".contains(byte)).filter(|word| !word.is_empty());
+            let (Some(b"attach"), Some(device)) = (words.next(), words.next()) else { continue };
+            let place = self.list.iter().position(|drive| drive.name.as_bytes() == device);
+            if place.is_some() {
+                return (count, place);
+            }
+        }
+        (count, None)
+    }
+
     pub(crate) fn hosted_order(&mut self) -> Option<String> {
         self.hosted.pop_front()
     }
@@ -419,21 +438,8 @@ impl Inner {
         }
     }
 
-    /// Drives the devices again to which lines have attached a spare: nobody drives that yet.
-    pub(crate) fn drive_attached(&mut self, lines: &[u8]) {
-        if self.drives.is_empty() {
-            return;
-        }
-        for line in lines.split(|byte| *byte == b'\n') {
-            let mut words = line.split(|byte| *byte == b' ').filter(|word| !word.is_empty());
-            let (Some(b"attach"), Some(device)) = (words.next(), words.next()) else { continue };
-            if let Some(place) = self.drives.list.iter().position(|drive| drive.name.as_bytes() == device) {
-                self.drive_again(place);
-            }
-        }
-    }
-
-    fn drive_again(&mut self, place: usize) {
+    /// Drives a device again to which a spare was attached: nobody drives that yet.
+    pub(crate) fn drive_again(&mut self, place: usize) {
         let (name, category) = (self.drives.list[place].name.clone(), self.drives.list[place].category);
         // One that is detached has nothing to drive.
         if self.make_wait(&name, category).is_err() {

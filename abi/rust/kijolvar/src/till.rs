@@ -137,11 +137,28 @@ impl Inner {
         unsafe { kijolvar_answer(till, out, self.text.as_mut_ptr(), self.text.len(), needed) }
     }
 
-    /// Carries out lines: the text of their answers, once what they changed is in the file.
+    /// Carries out lines: the text of their answers, once what they changed is in the file. The driver of a device goes
+    /// on with a spare that a line attaches before the next line.
     pub(crate) fn carry_out(&mut self, lines: &[u8]) -> Result<String, Cause> {
-        let answers = self.carry_out_lines(lines);
-        self.drive_attached(lines);
-        answers
+        let (mut answers, mut rest) = (String::new(), lines);
+        loop {
+            let (count, attached) = self.drives.first_attach(rest);
+            let found = self.carry_out_lines(&rest[..count]);
+            // It may be attached also if there was no memory for the answer.
+            if let Some(place) = attached.filter(|_| found.as_ref().map_or(true, |text| text.ends_with("ok\n"))) {
+                self.drive_again(place);
+            }
+            let found = match found {
+                // Lines before these were carried out.
+                Err(Cause::NoMemory) if rest.len() < lines.len() => return Err(Cause::NoAnswer),
+                found => found?,
+            };
+            answers = if answers.is_empty() { found } else { answers + &found };
+            rest = &rest[count..];
+            if rest.is_empty() {
+                return Ok(answers);
+            }
+        }
     }
 
     fn carry_out_lines(&mut self, lines: &[u8]) -> Result<String, Cause> {
@@ -606,8 +623,7 @@ impl Till {
     }
 
     /// Attaches a spare of the profile, by its number from 1 on: it serves the device from now on. If the device has a
-    /// driver, that carries out its orders too. The same is so of an `attach` among lines ([`Till::carry_out`]), for
-    /// the orders of later calls.
+    /// driver, that carries out its orders too. The same is so of an `attach` among lines ([`Till::carry_out`]).
     ///
     /// # Errors
     ///

@@ -544,6 +544,17 @@ fn a_spare_has_the_driver_of_its_device() {
 }
 
 #[test]
+fn a_spare_has_the_driver_from_the_next_line_on() {
+    let (till, count) = (till(), Arc::new(AtomicU32::new(1)));
+    till.drive("d1", Counted(Arc::clone(&count))).unwrap();
+    let lines = "attach d1 1\ndetach d1\nattach d1 9\nattach d1 1\n\nnew d CashDrawer\nopen d d1\n\
+                 set d DeviceEnabled true\ncall d openDrawer\nattach d1 1";
+    let answers = "refused InUse\nok\nbad spare\nok\nok\nok\nok\nok\nbad spare\n";
+    assert_eq!(till.carry_out(lines).unwrap(), answers);
+    assert_eq!(count.load(Ordering::Relaxed), 2);
+}
+
+#[test]
 fn output_that_is_refused_is_not_tried_all_the_time() {
     let till = till();
     till.drive("r1", Paper).unwrap();
