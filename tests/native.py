@@ -1067,6 +1067,29 @@ def try_memory_while():
         told("want of memory for a while: what was printed last", wanted, found)
 
 
+def try_memory_lines():
+    """Want of memory at each allocation of a text with two orders in turn: if nothing is said to be done, nothing is."""
+    with contextlib.ExitStack() as stack:
+        host = Host(stack)
+        if host.ask("memory 0") != "ok":
+            return
+        device = stack.enter_context(Printer(cable(), lines=100_000))
+        host.ask(f"printer r1 {device.path} timeout 100 pause 10")
+        host.lines("new r POSPrinter", "open r r1", "claim r 0", "set r DeviceEnabled true")
+        printed, refused = [], 0
+        for number in range(1, 60):
+            host.ask(f"memory {number} 1")
+            before = len(device.receipt())
+            orders = [f"call r printNormal 2 {(b'%c%d' % (letter, number)).hex()}0a" for letter in b"AB"]
+            answer = host.ask("lines " + ";".join(orders))
+            host.ask("memory 0")
+            if answer == "KIJ_NO_MEMORY":
+                refused += 1
+                printed += [number] if len(device.receipt()) > before else []
+        told("want of memory for two orders: some are refused", True, refused > 0)
+        told("want of memory for two orders: what was refused and printed", [], printed)
+
+
 def try_memory_scans():
     """Want of memory at each allocation of a scan in turn: each code comes once, and each failed scan."""
     for opened in ("no other driver", "own d2 0"):

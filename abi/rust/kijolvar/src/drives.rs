@@ -232,7 +232,11 @@ impl Inner {
             }
             let made = match report.take() {
                 Some(report) => report,
-                None => self.serve(is_wanted)?,
+                None => match self.serve(is_wanted) {
+                    // Lines before this one were carried out.
+                    Err(Cause::NoMemory) if is_any_done || !parts.is_empty() => return Err(Cause::NoAnswer),
+                    served => served?,
+                },
             };
             is_any_done |= made.is_done;
             code = self.tell(&made, &mut needed);
