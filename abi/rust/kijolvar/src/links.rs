@@ -17,8 +17,9 @@ const QUESTION_SIZE: usize = 3;
 const ENOUGH: usize = 2048;
 const DUE_OF_JOB: usize = 32;
 const MOST_KEPT: usize = 1024;
-/// How often a printer is asked.
+/// How often a printer is asked, and how long late answers may be apart.
 const OFTEN: Duration = Duration::from_millis(100);
+const APART: Duration = Duration::from_millis(500);
 
 /// The questions of DLE EOT that are asked one after the other: the printer, why it is offline, its paper.
 const QUESTIONS: [Asked; 3] = [Asked::Printer, Asked::OfflineCause, Asked::Paper];
@@ -156,10 +157,13 @@ pub(crate) struct Link {
     heard_at: Option<Instant>,
     tried_at: Option<Instant>,
     refreshed_at: Option<Instant>,
-    /// Of one that is asked: the question that is out, when it was put, and what was heard.
+    /// Of one that is asked: the last question, how many aren't answered, and when it was put or a late answer came.
+    /// Answers don't say what was asked, and a line may hold questions back, which are put again meanwhile.
     question: usize,
-    is_asking: bool,
+    unanswered: u32,
     questioned_at: Option<Instant>,
+    /// Whether late answers come, and what was heard.
+    is_late: bool,
     heard: Vec<Told>,
     hearing: Signs,
     rounds: u32,
@@ -210,8 +214,9 @@ impl Link {
             tried_at: None,
             refreshed_at: None,
             question: 0,
-            is_asking: false,
+            unanswered: 0,
             questioned_at: None,
+            is_late: false,
             heard: Vec::new(),
             hearing: Signs::default(),
             rounds: 0,
@@ -251,16 +256,23 @@ impl Link {
 
     /// Puts a question of DLE EOT.
     fn put_question(&mut self, question: usize) {
-        self.question = question;
+        (self.question, self.questioned_at) = (question, Some(Instant::now()));
+        self.unanswered += 1;
         self.control.extend_from_slice(&[0x10, 0x04, QUESTIONS[question] as u8]);
     }
 
     /// Asks a printer that says nothing by itself how it is.
     fn ask_on(&mut self) {
-        let time = if self.is_asking { self.timeout } else { OFTEN };
+        let time = match self.unanswered {
+            0 => OFTEN,
+            _ if self.is_late => self.timeout.min(APART),
+            _ => self.timeout,
+        };
         if self.is_asked && self.is_idle() && is_over(self.questioned_at, time) {
-            self.questioned_at = Some(Instant::now());
-            self.is_asking = true;
+            if std::mem::take(&mut self.is_late) {
+                // The answers that haven't come are lost.
+                self.unanswered = 0;
+            }
             self.put_question(0);
         }
     }
@@ -436,14 +448,19 @@ impl Link {
             self.acknowledge(0);
             return;
         }
-        self.is_asking = false;
+        self.unanswered -= 1;
+        self.is_late = self.unanswered > 0;
+        if self.is_late {
+            // It is to an earlier question.
+            self.questioned_at = Some(Instant::now());
+            return;
+        }
         if self.question == 0 {
             self.heard.clear();
         }
         self.heard.push(told);
         self.hearing.hear(line);
         if self.question + 1 < QUESTIONS.len() {
-            self.is_asking = true;
             self.put_question(self.question + 1);
             return;
         }
@@ -462,7 +479,7 @@ impl Link {
 
     /// Reads a byte as the answer to the question that is out, or as an acknowledgement.
     fn take_byte(&mut self, till: &mut DriverTill<'_>, byte: u8) {
-        let question = self.is_asking.then_some(QUESTIONS[self.question]);
+        let question = (self.unanswered > 0).then_some(QUESTIONS[self.question]);
         let due = (!self.due.is_empty()).then_some(Asked::PaperInOrder);
         for asked in [question, due].into_iter().flatten() {
             let Some(reply) = self.reply(till, asked, &[byte]) else { return };
@@ -595,7 +612,7 @@ impl Link {
             // Acknowledgements without a number can't be told from those of another connection.
             self.lose_due();
             self.hearing = Signs::default();
-            self.is_asking = false;
+            (self.unanswered, self.is_late) = (0, false);
             self.questioned_at = None;
         }
     }
