@@ -553,12 +553,13 @@ impl Addresses {
     }
 }
 
-/// Connects to the first address that answers.
+/// Connects to the first address that answers. Each has its part of the time, so that one that says nothing leaves some
+/// to the others.
 fn connect_to_any(addresses: &[SocketAddr], end: Instant) -> io::Result<TcpStream> {
     let mut fault: io::Error = ErrorKind::HostUnreachable.into();
-    for address in addresses {
-        let left = end.saturating_duration_since(Instant::now()).max(Duration::from_millis(1));
-        match TcpStream::connect_timeout(address, left) {
+    for (place, address) in addresses.iter().enumerate() {
+        let left = end.saturating_duration_since(Instant::now()) / (addresses.len() - place) as u32;
+        match TcpStream::connect_timeout(address, left.max(Duration::from_millis(1))) {
             Ok(stream) => return set_up_tcp(stream),
             Err(found) => fault = found,
         }
@@ -661,6 +662,26 @@ mod tests {
         assert!(slow.connect(|| fails(QUICKLY + Duration::from_millis(10)), SOON).is_err());
         let fault = slow.connect(|| panic!("it is looked up again"), SOON).unwrap_err();
         assert_eq!(number_of(&fault), EHOSTUNREACH);
+    }
+
+    #[test]
+    fn an_address_that_says_nothing_leaves_time_to_the_others() {
+        extern "C" {
+            fn listen(file: c_int, count: c_int) -> c_int;
+        }
+        let (silent, other) = (TcpListener::bind("127.0.0.1:0").unwrap(), TcpListener::bind("127.0.0.1:0").unwrap());
+        let addresses = [&silent, &other].map(|listener| listener.local_addr().unwrap());
+        // SAFETY: the socket is open.
+        assert_eq!(unsafe { listen(silent.as_raw_fd(), 0) }, 0);
+        // Once its queue is full, it says nothing.
+        let mut queue = Vec::new();
+        while let Ok(stream) = TcpStream::connect_timeout(&addresses[0], SOON) {
+            queue.push(stream);
+        }
+        let began = Instant::now();
+        let found = connect_to_any(&addresses, end_after(SOON * 2)).unwrap();
+        assert_eq!(found.peer_addr().unwrap(), addresses[1]);
+        assert!(began.elapsed() < SOON * 2);
     }
 
     #[test]
