@@ -369,7 +369,7 @@ impl Driver for EscPosPrinter {
     }
 
     fn file(&self) -> Option<RawFd> {
-        lock(&self.link).cable.file()
+        lock(&self.link).cable.waits_at()
     }
 
     fn late_orders(&self) -> u64 {
@@ -439,7 +439,7 @@ impl Driver for EscPosDrawer {
     }
 
     fn file(&self) -> Option<RawFd> {
-        lock(&self.link).cable.file()
+        lock(&self.link).cable.waits_at()
     }
 
     fn port_error(&self) -> Option<i32> {
@@ -591,7 +591,7 @@ impl Driver for SerialDisplay {
     }
 
     fn file(&self) -> Option<RawFd> {
-        self.port.cable.file()
+        self.port.cable.waits_at()
     }
 
     fn port_error(&self) -> Option<i32> {
@@ -812,7 +812,7 @@ impl Driver for WedgeScanner {
     }
 
     fn file(&self) -> Option<RawFd> {
-        self.port.cable.file()
+        self.port.cable.waits_at()
     }
 
     fn port_error(&self) -> Option<i32> {

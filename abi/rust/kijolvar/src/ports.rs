@@ -332,8 +332,9 @@ enum Stream {
 pub(crate) struct Cable {
     pub(crate) port: Port,
     stream: Option<Stream>,
-    /// Whether reading no bytes means that it is lost.
+    /// Whether reading no bytes means that it is lost, and whether none came the last time.
     ends_empty: bool,
+    was_empty: bool,
     /// Why it couldn't be opened or was lost the last time, as the system's number (errno).
     pub(crate) fault: Option<c_int>,
     /// Those of a TCP port's host.
@@ -346,7 +347,8 @@ pub(crate) struct Lost;
 
 impl Cable {
     pub(crate) fn new(port: Port) -> Cable {
-        Cable { port, stream: None, ends_empty: true, fault: None, addresses: Addresses::default() }
+        let addresses = Addresses::default();
+        Cable { port, stream: None, ends_empty: true, was_empty: false, fault: None, addresses }
     }
 
     pub(crate) fn is_open(&self) -> bool {
@@ -359,6 +361,11 @@ impl Cable {
             Some(Stream::Tcp(stream)) => Some(stream.as_raw_fd()),
             None => None,
         }
+    }
+
+    /// The file at which something may come. One that gives nothing may be readable all the time.
+    pub(crate) fn waits_at(&self) -> Option<RawFd> {
+        self.file().filter(|_| !self.was_empty)
     }
 
     /// Opens the port, unless it is open. Returns whether it is.
@@ -410,6 +417,7 @@ impl Cable {
 
     /// What reading or writing came to: how many bytes it was.
     fn kept(&mut self, done: io::Result<usize>, is_reading: bool) -> Result<usize, Lost> {
+        self.was_empty = is_reading && matches!(done, Ok(0));
         let fault = match done {
             Ok(0) if is_reading && self.ends_empty => ErrorKind::UnexpectedEof.into(),
             Ok(count) => return Ok(count),

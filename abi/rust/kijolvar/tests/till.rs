@@ -612,6 +612,29 @@ fn a_timeout_may_be_any() {
     assert!(till.run_devices(timeout).unwrap());
 }
 
+/// A drawer that counts how often its driver looks at it.
+struct Polled(Arc<AtomicU32>);
+
+impl Driver for Polled {
+    fn category(&self) -> Category {
+        Category::CashDrawer
+    }
+
+    fn poll(&mut self, _: &mut DriverTill<'_>) {
+        self.0.fetch_add(1, Ordering::Relaxed);
+    }
+}
+
+#[test]
+fn a_port_that_gives_nothing_is_not_read_all_the_time() {
+    let (till, count) = (till(), Arc::new(AtomicU32::new(0)));
+    till.drive("d1", Polled(Arc::clone(&count))).unwrap();
+    till.drive("p1", SerialDisplay::open("/dev/null", DisplaySettings::default())).unwrap();
+    assert!(!till.run_devices(Duration::from_millis(300)).unwrap());
+    let count = count.load(Ordering::Relaxed);
+    assert!(count <= 5, "{count}");
+}
+
 #[test]
 fn a_till_without_drivers_waits() {
     let (till, began, timeout) = (till(), Instant::now(), Duration::from_millis(30));
