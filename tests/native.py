@@ -476,6 +476,9 @@ def try_display():
                  until(lambda: host.ask("run 10") and host.ask("state p1").startswith("online")))
             shows(b"Total 9.00", "a text again")
             told(f"{protocol}: all of it", b"Total 9.00".ljust(20) + b"Thanks".ljust(20), device.shows())
+            device.pull_plug()
+            told(f"{protocol}: an order that changes nothing, without a display", True,
+                 until(lambda: host.line(f"call p displayTextAt 0 0 {b'Total 9.00'.hex()} 0") == "err 108", 5))
 
 
 def try_scanner():

@@ -574,8 +574,10 @@ impl Driver for SerialDisplay {
 
     fn carry_out(&mut self, till: &mut DriverTill<'_>, _: &Order) -> bool {
         let end = end_after(self.timeout);
+        // An order may have no bytes, and isn't done either if the display is gone.
+        self.port.read();
         let Ok(bytes) = till.order_bytes(&self.settings, self.is_new, OrderEnd::Nothing) else { return false };
-        let is_done = self.shows(&bytes, end);
+        let is_done = self.port.cable.is_open() && self.shows(&bytes, end);
         self.is_new = !is_done;
         if !is_done {
             // The display has a part of it.
