@@ -2,7 +2,7 @@
 use crate::devices::Order;
 use crate::error::{Cause, Error};
 use crate::links::{is_over, Link, Told};
-use crate::ports::{end_after, Cable, Port, QUICKLY};
+use crate::ports::{end_after, Cable, Port, MOST_READS, QUICKLY};
 use crate::standard::Category;
 use crate::till::Inner;
 use crate::wire::{Asked, PrinterReply, WireSettings};
@@ -501,7 +501,10 @@ impl Reopened {
     fn read(&mut self) -> Vec<u8> {
         let mut found = Vec::new();
         let mut room = [0; 1024];
-        while self.cable.wait(false, Duration::ZERO).reading {
+        for _ in 0..MOST_READS {
+            if !self.cable.wait(false, Duration::ZERO).reading {
+                break;
+            }
             match self.cable.read(&mut room) {
                 Ok(count) if count > 0 => found.extend_from_slice(&room[..count]),
                 _ => break,

@@ -1,7 +1,7 @@
 //! The line to a receipt printer: what is sent, what has been acknowledged, and what the printer says of itself. The
 //! bytes of orders and the meaning of replies are the library's.
 use crate::drivers::{DriverTill, OrderEnd};
-use crate::ports::{end_after, Cable, Lost, Port, ETIMEDOUT, QUICKLY};
+use crate::ports::{end_after, Cable, Lost, Port, ETIMEDOUT, MOST_READS, QUICKLY};
 use crate::wire::{Asked, PrinterReply, WireSettings};
 use std::collections::VecDeque;
 use std::time::{Duration, Instant, SystemTime, UNIX_EPOCH};
@@ -526,7 +526,11 @@ impl Link {
 
     /// Reads what has come.
     fn receive(&mut self, till: &mut DriverTill<'_>) -> Result<(), Lost> {
-        while self.cable.wait(false, Duration::ZERO).reading && self.read_some(till)? {}
+        for _ in 0..MOST_READS {
+            if !(self.cable.wait(false, Duration::ZERO).reading && self.read_some(till)?) {
+                break;
+            }
+        }
         Ok(())
     }
 

@@ -146,6 +146,9 @@ fn is_line_link(path: &Path) -> bool {
     !is_line_name(path) && std::fs::canonicalize(path).is_ok_and(|path| is_line_name(&path))
 }
 
+/// How often is read at once what has come, so that it ends though the device sends on and on.
+pub(crate) const MOST_READS: usize = 16;
+
 /// How long a lost port may take to open while other devices wait.
 pub(crate) const QUICKLY: Duration = Duration::from_millis(250);
 

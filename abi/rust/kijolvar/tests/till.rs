@@ -6,11 +6,14 @@ use kijolvar::{check, files, migrate, StatusUpdate, Till, Totals, Value, Work, B
 use kijolvar::{Actor, Asked, CashDrawer, Cause, Error, Event, HardTotals, Order, PosPrinter, PrinterReply, Property};
 use kijolvar::{DisplaySettings, Driver, DriverTill, EscPosPrinter, EscPosSettings, Scan, SerialDisplay};
 use kijolvar::{Scanner, WedgeScanner, WireSettings};
-use std::io::ErrorKind;
+use std::io::{ErrorKind, Write};
+use std::net::TcpListener;
 use std::panic::{catch_unwind, AssertUnwindSafe};
 use std::path::PathBuf;
 use std::sync::atomic::{AtomicU32, Ordering};
+use std::sync::mpsc::channel;
 use std::sync::Arc;
+use std::thread::spawn;
 use std::time::{Duration, Instant};
 
 fn till() -> Till {
@@ -610,6 +613,26 @@ fn a_timeout_may_be_any() {
     let display = till.line_display("p1").unwrap().enabled().unwrap();
     display.display_text("4.50", DisplayAttribute::Normal).unwrap();
     assert!(till.run_devices(timeout).unwrap());
+}
+
+#[test]
+fn a_device_that_sends_on_and_on_holds_nothing_up() {
+    let listener = TcpListener::bind("127.0.0.1:0").unwrap();
+    let port = format!("tcp:{}", listener.local_addr().unwrap());
+    spawn(move || {
+        for mut stream in listener.incoming().flatten() {
+            spawn(move || while stream.write_all(&[b'x'; 65_536]).is_ok() {});
+        }
+    });
+    let (done, waiting) = channel();
+    spawn(move || {
+        let till = till();
+        let settings = EscPosSettings { timeout: Duration::from_millis(100), ..EscPosSettings::default() };
+        till.drive("r1", EscPosPrinter::open(&port[..], settings)).unwrap();
+        till.drive("s1", WedgeScanner::open(&port[..])).unwrap();
+        let _ = done.send(till.run_devices(Duration::from_millis(100)).is_ok());
+    });
+    assert_eq!(waiting.recv_timeout(Duration::from_secs(10)), Ok(true));
 }
 
 /// A drawer that counts how often its driver looks at it.
