@@ -184,7 +184,7 @@ fn first_number() -> u16 {
 impl Link {
     pub(crate) fn new(port: Port, timeout: Duration, pause: Duration, is_asked: bool) -> Link {
         Link {
-            cable: Cable::new(port),
+            cable: Cable::patient(port),
             timeout,
             pause,
             is_asked,

@@ -203,6 +203,10 @@ const TIOCOUTQ: c_ulong = 0x5411;
 const EVIOCGRAB: c_ulong = 0x4004_4590;
 const SOL_SOCKET: c_int = 1;
 const SO_KEEPALIVE: c_int = 9;
+const IPPROTO_TCP: c_int = 6;
+const TCP_KEEPIDLE: c_int = 4;
+const TCP_KEEPINTVL: c_int = 5;
+const TCP_USER_TIMEOUT: c_int = 18;
 const ENODEV: c_int = 19;
 const EINVAL: c_int = 22;
 const ENOTTY: c_int = 25;
@@ -334,6 +338,8 @@ enum Stream {
 #[derive(Debug)]
 pub(crate) struct Cable {
     pub(crate) port: Port,
+    /// Whether what was sent may wait for long, as at a printer whose cover is open.
+    is_patient: bool,
     stream: Option<Stream>,
     /// Whether reading no bytes means that it is lost, and whether none came the last time.
     ends_empty: bool,
@@ -351,7 +357,14 @@ pub(crate) struct Lost;
 impl Cable {
     pub(crate) fn new(port: Port) -> Cable {
         let addresses = Addresses::default();
-        Cable { port, stream: None, ends_empty: true, was_empty: false, fault: None, addresses }
+        Cable { port, is_patient: false, stream: None, ends_empty: true, was_empty: false, fault: None, addresses }
+    }
+
+    /// A port at which what was sent may wait for long.
+    pub(crate) fn patient(port: Port) -> Cable {
+        let mut cable = Cable::new(port);
+        cable.is_patient = true;
+        cable
     }
 
     pub(crate) fn is_open(&self) -> bool {
@@ -380,7 +393,8 @@ impl Cable {
         let opened = match &self.port {
             Port::Tcp(host, port) => {
                 let look_up = || (&host[..], *port).to_socket_addrs().map(Vec::from_iter);
-                self.addresses.connect(look_up, time).map(|stream| (Stream::Tcp(stream), true))
+                let stream = self.addresses.connect(look_up, time);
+                stream.and_then(|stream| Ok((Stream::Tcp(set_up_tcp(stream, self.is_patient)?), true)))
             }
             Port::Keys(path) => open_keys(path).map(|file| (Stream::File(file), true)),
             Port::File(path) => open_file(path, None),
@@ -571,23 +585,33 @@ fn connect_to_any(addresses: &[SocketAddr], end: Instant) -> io::Result<TcpStrea
     for (place, address) in addresses.iter().enumerate() {
         let left = end.saturating_duration_since(Instant::now()) / (addresses.len() - place) as u32;
         match TcpStream::connect_timeout(address, left.max(Duration::from_millis(1))) {
-            Ok(stream) => return set_up_tcp(stream),
+            Ok(stream) => return Ok(stream),
             Err(found) => fault = found,
         }
     }
     Err(fault)
 }
 
-/// Sets up a connection, so that the system finds out that it is lost, and no call waits.
-fn set_up_tcp(stream: TcpStream) -> io::Result<TcpStream> {
-    let one: c_int = 1;
-    // SAFETY: the socket is open, and the number is lent for the call.
-    let kept = unsafe {
-        let value = &one as *const c_int as *const c_void;
-        setsockopt(stream.as_raw_fd(), SOL_SOCKET, SO_KEEPALIVE, value, size_of::<c_int>() as u32)
-    };
-    if kept != 0 {
-        return Err(io::Error::last_os_error());
+/// How often the other end of a connection is asked whether it is there while nothing is sent, in seconds, and how long
+/// it may take to acknowledge what was sent, in milliseconds.
+const ASKED_EVERY: c_int = 10;
+const ACKNOWLEDGED_WITHIN: c_int = 60_000;
+
+/// Sets up a connection, so that no call waits, and the system finds out that the other end lost its power: by default
+/// after hours, and after minutes if something was sent to it.
+fn set_up_tcp(stream: TcpStream, is_patient: bool) -> io::Result<TcpStream> {
+    let options = [
+        (SOL_SOCKET, SO_KEEPALIVE, 1),
+        (IPPROTO_TCP, TCP_KEEPIDLE, ASKED_EVERY),
+        (IPPROTO_TCP, TCP_KEEPINTVL, ASKED_EVERY),
+        (IPPROTO_TCP, TCP_USER_TIMEOUT, if is_patient { 0 } else { ACKNOWLEDGED_WITHIN }),
+    ];
+    for (level, name, value) in options {
+        let value = &value as *const c_int as *const c_void;
+        // SAFETY: the socket is open, and the number is lent for the call.
+        if unsafe { setsockopt(stream.as_raw_fd(), level, name, value, size_of::<c_int>() as u32) } != 0 {
+            return Err(io::Error::last_os_error());
+        }
     }
     stream.set_nodelay(true)?;
     stream.set_nonblocking(true)?;
@@ -693,6 +717,25 @@ mod tests {
         let found = connect_to_any(&addresses, end_after(SOON * 2)).unwrap();
         assert_eq!(found.peer_addr().unwrap(), addresses[1]);
         assert!(began.elapsed() < SOON * 2);
+    }
+
+    #[test]
+    fn the_system_finds_out_that_a_device_lost_its_power() {
+        extern "C" {
+            fn getsockopt(file: c_int, level: c_int, name: c_int, value: *mut c_int, size: *mut u32) -> c_int;
+        }
+        let listener = TcpListener::bind("127.0.0.1:0").unwrap();
+        let port = Port::Tcp("127.0.0.1".to_string(), listener.local_addr().unwrap().port());
+        for (mut cable, wanted) in [(Cable::new(port.clone()), 60_000), (Cable::patient(port), 0)] {
+            assert!(cable.open(SOON));
+            let option = |name| {
+                let (mut value, mut size) = (-1, size_of::<c_int>() as u32);
+                // SAFETY: the socket is open, and the numbers are lent for the call.
+                unsafe { getsockopt(cable.file().unwrap(), IPPROTO_TCP, name, &mut value, &mut size) };
+                value
+            };
+            assert_eq!([TCP_KEEPIDLE, TCP_KEEPINTVL, TCP_USER_TIMEOUT].map(option), [10, 10, wanted]);
+        }
     }
 
     #[test]
