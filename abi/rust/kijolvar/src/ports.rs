@@ -167,25 +167,21 @@ struct Waiting {
     found: c_short,
 }
 
-/// The settings of a terminal line, as Linux has them on x86-64.
+/// The settings of a terminal line, as Linux has them. Those of the C library differ between its versions: from glibc
+/// 2.42 on, a speed is another number there.
 #[repr(C)]
+#[derive(Default)]
 struct Line {
     input: u32,
     output: u32,
     control: u32,
     local: u32,
     discipline: u8,
-    characters: [u8; 32],
-    input_speed: u32,
-    output_speed: u32,
+    characters: [u8; 19],
 }
 
 extern "C" {
     fn poll(files: *mut Waiting, count: c_ulong, milliseconds: c_int) -> c_int;
-    fn tcgetattr(file: c_int, line: *mut Line) -> c_int;
-    fn tcsetattr(file: c_int, when: c_int, line: *const Line) -> c_int;
-    fn tcflush(file: c_int, which: c_int) -> c_int;
-    fn cfsetspeed(line: *mut Line, speed: u32) -> c_int;
     fn ioctl(file: c_int, request: c_ulong, ...) -> c_int;
     fn setsockopt(file: c_int, level: c_int, name: c_int, value: *const c_void, size: u32) -> c_int;
 }
@@ -196,7 +192,9 @@ const POLLOUT: c_short = 4;
 const POLLERR_HUP_NVAL: c_short = 0x38;
 const O_NONBLOCK: c_int = 0o4000;
 const O_NOCTTY: c_int = 0o400;
-const TCSANOW: c_int = 0;
+const TCGETS: c_ulong = 0x5401;
+const TCSETS: c_ulong = 0x5402;
+const TCFLSH: c_ulong = 0x540b;
 const TCOFLUSH: c_int = 1;
 const TCIOFLUSH: c_int = 2;
 const TIOCOUTQ: c_ulong = 0x5411;
@@ -215,6 +213,7 @@ pub(crate) const ETIMEDOUT: c_int = 110;
 const EHOSTUNREACH: c_int = 113;
 const IXON: u32 = 0o2000;
 const IXOFF: u32 = 0o10000;
+const CBAUD: u32 = 0o10_017;
 const CSIZE: u32 = 0o60;
 const CS7: u32 = 0o40;
 const CS8: u32 = 0o60;
@@ -239,18 +238,9 @@ fn speed_of(speed: u32) -> Option<u32> {
 
 /// Returns the settings of a terminal line.
 fn settings_of(file: RawFd) -> io::Result<Line> {
-    let mut line = Line {
-        input: 0,
-        output: 0,
-        control: 0,
-        local: 0,
-        discipline: 0,
-        characters: [0; 32],
-        input_speed: 0,
-        output_speed: 0,
-    };
+    let mut line = Line::default();
     // SAFETY: the file is open, and the line is lent for the call.
-    if unsafe { tcgetattr(file, &mut line) } != 0 {
+    if unsafe { ioctl(file, TCGETS, &mut line as *mut Line) } != 0 {
         return Err(io::Error::last_os_error());
     }
     Ok(line)
@@ -263,7 +253,9 @@ fn set_up(file: RawFd, settings: Option<&SerialSettings>) -> io::Result<()> {
     line.control = line.control & !(CSIZE | PARENB) | CS8 | CREAD | CLOCAL;
     (line.characters[VMIN], line.characters[VTIME]) = (1, 0);
     if let Some(settings) = settings {
-        line.control &= !(CSIZE | PARENB | PARODD | CSTOPB | CRTSCTS);
+        // Without bits of its own, in the upper half, the input's speed is the output's.
+        line.control &= !(CBAUD | CBAUD << 16 | CSIZE | PARENB | PARODD | CSTOPB | CRTSCTS);
+        line.control |= speed_of(settings.speed).ok_or(ErrorKind::InvalidInput)?;
         line.control |= if settings.bits == 8 { CS8 } else { CS7 };
         line.control |= match settings.parity {
             Parity::None => 0,
@@ -273,14 +265,11 @@ fn set_up(file: RawFd, settings: Option<&SerialSettings>) -> io::Result<()> {
         line.control |= if settings.stops == 2 { CSTOPB } else { 0 };
         line.control |= if settings.flow == Flow::RtsCts { CRTSCTS } else { 0 };
         line.input |= if settings.flow == Flow::XonXoff { IXON | IXOFF } else { 0 };
-        let speed = speed_of(settings.speed).ok_or(ErrorKind::InvalidInput)?;
-        // SAFETY: the line is lent for the call.
-        unsafe { cfsetspeed(&mut line, speed) };
     }
     // SAFETY: the file is open, and the line is lent for the call.
-    let is_set = unsafe { tcsetattr(file, TCSANOW, &line) } == 0;
+    let is_set = unsafe { ioctl(file, TCSETS, &line as *const Line) } == 0;
     // SAFETY: the file is open.
-    if !is_set || settings.is_some() && unsafe { tcflush(file, TCIOFLUSH) } != 0 {
+    if !is_set || settings.is_some() && unsafe { ioctl(file, TCFLSH, TCIOFLUSH) } != 0 {
         return Err(io::Error::last_os_error());
     }
     Ok(())
@@ -294,8 +283,8 @@ fn drop_unsent(file: RawFd) {
     line.input &= !IXON;
     // SAFETY: the file is open, and the line is lent for the call.
     unsafe {
-        tcflush(file, TCOFLUSH);
-        tcsetattr(file, TCSANOW, &line);
+        ioctl(file, TCFLSH, TCOFLUSH);
+        ioctl(file, TCSETS, &line as *const Line);
     }
 }
 
@@ -646,6 +635,18 @@ mod tests {
         let mut cable = Cable::new(Port::Serial(path.into(), SerialSettings::default()));
         assert!(cable.open(SOON));
         cable
+    }
+
+    #[test]
+    fn a_line_has_its_speed() {
+        for (speed, number) in [(1200, 0o11), (9600, 0o15), (38_400, 0o17), (230_400, 0o10_003)] {
+            let (_device, path) = terminal();
+            let settings = SerialSettings { speed, stops: 2, ..SerialSettings::default() };
+            let mut cable = Cable::new(Port::Serial(path, settings));
+            assert!(cable.open(SOON));
+            let control = settings_of(cable.file().unwrap()).unwrap().control;
+            assert_eq!((control & CBAUD, control & CSTOPB), (number, CSTOPB));
+        }
     }
 
     #[test]
