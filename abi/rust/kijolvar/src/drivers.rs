@@ -613,8 +613,8 @@ impl Driver for SerialDisplay {
 /// An AIM identifier in front of a code, such as `]E0`, says which type it has; ScanDataLabel is the code without it.
 ///
 /// Linux keeps about ten characters of a keyboard, and drops them if more come before the till reads. Such a scan has
-/// failed, as has a code of more than 4,096 bytes, or with a key that has no character: the scanner's control gets an
-/// ErrorEvent.
+/// failed, as has a code of more than 4,096 bytes, or with a key that has no character, but NumLock: the scanner's
+/// control gets an ErrorEvent.
 #[derive(Debug)]
 pub struct WedgeScanner {
     port: Reopened,
@@ -706,7 +706,7 @@ impl WedgeScanner {
                 29 | 97 => self.is_control = value != 0,
                 // The event of Enter going down may be among those that were dropped.
                 28 | 96 if value == DOWN || value == 0 && self.has_gap => self.end_code(),
-                28 | 96 => {}
+                28 | 96 | NUM_LOCK => {}
                 // A key that is held repeats by another value, and types its character once all the same.
                 _ if value == DOWN => match self.character_of(key) {
                     Some(byte) => self.add(byte),
@@ -737,6 +737,9 @@ impl WedgeScanner {
 
 /// The value of the event of a key that goes down.
 const DOWN: i32 = 1;
+
+/// A key that types nothing. Some scanners press it in front of keys of the keypad.
+const NUM_LOCK: usize = 69;
 
 /// What separates the fields of a code (GS). Scanners type it as the control key and ].
 const SEPARATOR: u8 = 0x1d;
@@ -822,5 +825,27 @@ impl Driver for WedgeScanner {
 
     fn port_error(&self) -> Option<i32> {
         self.port.cable.fault
+    }
+}
+
+#[cfg(test)]
+mod tests {
+    use super::*;
+
+    /// The events of keys, each of which is pressed and let go.
+    fn events(keys: &[u16]) -> Vec<u8> {
+        let event = |key: u16, value: i32| {
+            [&[0; 16][..], &1u16.to_ne_bytes(), &key.to_ne_bytes(), &value.to_ne_bytes()].concat()
+        };
+        keys.iter().flat_map(|key| [event(*key, 1), event(*key, 0)].concat()).collect()
+    }
+
+    #[test]
+    fn num_lock_types_nothing() {
+        let mut scanner = WedgeScanner::open(Port::Keys("/dev/none".into()));
+        scanner.take_events(&events(&[69, 79, 80, 69, 28]));
+        assert_eq!(scanner.scans(), [Scan { kind: 0, data: b"12".to_vec(), label: b"12".to_vec() }]);
+        scanner.take_events(&events(&[79, 58, 80, 28]));
+        assert!(scanner.scans().is_empty() && scanner.is_failing);
     }
 }
