@@ -924,6 +924,20 @@ def try_lost_scanner():
         told("the events", ["event DataEvent 0", "event StatusUpdateEvent 2004", "none"],
              host.lines("deliver s", "deliver s", "deliver s"))
         told("the code", "ok " + b"4006381".hex(), host.line("get s ScanData"))
+    with contextlib.ExitStack() as stack:
+        device = stack.enter_context(Scanner(cable("tcp")))
+        host = Host(stack)
+        told("another scanner", "ok", host.ask(f"scanner s1 {device.path} pause 100000"))
+        host.lines("new s Scanner", "open s s1", "claim s 0", "set s PowerNotify 1", "set s DeviceEnabled true",
+                   "set s DataEventEnabled true")
+        told("it is on, too", "event StatusUpdateEvent 2001", host.line("deliver s"))
+        device.scan(b"x" * 5000)
+        told("too long a code is sent", True, device.wait(lambda: not device._sends))
+        device.pull_plug()
+        told("it fails", "true", host.ask("run 10"))
+        told("its scanner is off next", "true", host.ask("run 10"))
+        told("its events", ["event ErrorEvent 111 0 2", "event StatusUpdateEvent 2004"],
+             host.lines("deliver s", "deliver s"))
 
 
 SPARES = """

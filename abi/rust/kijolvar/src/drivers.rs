@@ -788,7 +788,8 @@ impl Driver for WedgeScanner {
     }
 
     fn is_online(&self) -> bool {
-        self.port.cable.is_open()
+        // A scan that failed is said before its scanner is off.
+        self.port.cable.is_open() || self.has_failed || self.is_failing
     }
 
     fn poll(&mut self, _: &mut DriverTill<'_>) {
