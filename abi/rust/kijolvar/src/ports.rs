@@ -74,6 +74,7 @@ pub enum Port {
 
 impl Port {
     /// Returns the port of a name: `tcp:HOST` or `tcp:HOST:PORT` (9100 if there is none), or the path of a device file.
+    /// An address of IPv6 is in brackets: `tcp:[::1]:9100`.
     ///
     /// A path of /dev/tty.. or /dev/serial/.. is a serial line by [`SerialSettings::default`], as is a link to one. A
     /// path of /dev/input/.. is a keyboard. [`Till::drive`](crate::Till::drive) refuses a host that can't be one, such
@@ -90,7 +91,8 @@ impl Port {
             let address = address.strip_prefix("//").unwrap_or(address);
             let number = address.rsplit_once(':').and_then(|(host, port)| Some((host, port.parse().ok()?)));
             let (host, port) = number.unwrap_or((address, 9100));
-            return Port::Tcp(host.to_string(), port);
+            let inside = host.strip_prefix('[').and_then(|host| host.strip_suffix(']'));
+            return Port::Tcp(inside.unwrap_or(host).to_string(), port);
         }
         let path = Path::new(name);
         if is_line_name(path) || name.starts_with("/dev/serial/") || is_line_link(path) {
@@ -742,10 +744,12 @@ mod tests {
     #[test]
     fn a_misspelt_host_is_refused() {
         let is_sound = |name: &str| Port::of(name).is_sound();
-        for name in ["tcp:192.168.1.9", "tcp://printer:9101", "tcp:::1:9100", "tcp:fe80::1%eth0:9100"] {
+        for name in ["tcp:192.168.1.9", "tcp://printer:9101", "tcp:::1:9100", "tcp:[fe80::1%eth0]:9100"] {
             assert!(is_sound(name), "{name}");
         }
-        for name in ["tcp:", "tcp:192.168.1.9:91OO", "tcp:192.168.1.9:", "tcp:printer:99999", "tcp:[::1]:9100"] {
+        assert_eq!(Port::of("tcp:[::1]:9101"), Port::Tcp("::1".to_string(), 9101));
+        assert_eq!(Port::of("tcp://[::1]"), Port::Tcp("::1".to_string(), 9100));
+        for name in ["tcp:", "tcp:192.168.1.9:91OO", "tcp:192.168.1.9:", "tcp:printer:99999", "tcp:[::1:9100"] {
             assert!(!is_sound(name), "{name}");
         }
     }
