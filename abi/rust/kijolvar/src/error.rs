@@ -19,7 +19,7 @@ pub enum Cause {
     Code(ResultCode),
     /// The control refused the call with E_EXTENDED and this extended code.
     Extended(ExtendedCode),
-    /// There was no memory, and nothing was done.
+    /// There was no memory, or no thread to read a profile, and nothing was done.
     NoMemory,
     /// The call was carried out, but there was no memory for its answer.
     NoAnswer,
@@ -38,7 +38,7 @@ pub enum Cause {
     /// The first call that fails has the system's reason, if there is one.
     DiskFailed(Option<io::Error>),
     /// The system refused the file of the totals: `NotFound` if it is missing, `AlreadyExists` if it is there already,
-    /// `WouldBlock` if another till has it. Or it refused the thread that reads a profile.
+    /// `WouldBlock` if another till has it.
     System(io::Error),
     /// The library is of another version than this crate.
     WrongVersion,

@@ -127,7 +127,7 @@ fn read_device(line: &str) -> Option<ProfileDevice> {
 ///
 /// # Errors
 ///
-/// [`Cause::BadProfile`], [`Cause::NoMemory`]; [`Cause::System`] if there is no thread for it.
+/// [`Cause::BadProfile`], [`Cause::NoMemory`].
 ///
 /// ```
 /// use kijolvar::{devices, standard::Category, BUILT_PROFILE};

@@ -7,8 +7,13 @@ const STACK: usize = 8 << 20;
 
 /// Makes a call with enough stack for any profile.
 pub(crate) fn with_stack<R: Send>(call: impl FnOnce() -> R + Send) -> Result<R, Cause> {
+    with_stack_of(STACK, call)
+}
+
+fn with_stack_of<R: Send>(size: usize, call: impl FnOnce() -> R + Send) -> Result<R, Cause> {
     scope(|scope| {
-        let thread = Builder::new().stack_size(STACK).spawn_scoped(scope, call).map_err(Cause::System)?;
+        // The system's error for want of memory is that for a file that another till has.
+        let thread = Builder::new().stack_size(size).spawn_scoped(scope, call).map_err(|_| Cause::NoMemory)?;
         thread.join().or_else(|panic| std::panic::resume_unwind(panic))
     })
 }
@@ -26,5 +31,10 @@ mod tests {
     fn a_call_has_more_stack_than_its_thread() {
         let calls = || with_stack(|| goes_down(700)).is_ok_and(|sum| sum == 700 * 701 / 2);
         assert!(Builder::new().stack_size(128 << 10).spawn(calls).unwrap().join().unwrap());
+    }
+
+    #[test]
+    fn a_stack_may_find_no_memory() {
+        assert!(matches!(with_stack_of(1 << 46, || ()), Err(Cause::NoMemory)));
     }
 }
