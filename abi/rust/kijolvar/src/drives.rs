@@ -421,6 +421,10 @@ impl Inner {
         let name = device.to_string();
         let mut drive = Drive { name, category, is_on: true, orders: 0, refused_at: None, driver };
         drive.driver.start(&mut DriverTill { inner: self }, device).map_err(|error| error.into_cause())?;
+        // If it was hosted before, orders of then aren't its driver's.
+        while let Some(line) = self.taken_out()? {
+            self.drives.hosted.push_back(line);
+        }
         self.make_wait(device, category)?;
         self.drives.list.push(drive);
         // What isn't handed in now is the next time.

@@ -494,6 +494,19 @@ fn a_driver_that_panics_fails_one_order() {
     assert_eq!(count.load(Ordering::Relaxed), 2);
 }
 
+#[test]
+fn a_hosted_device_may_be_driven() {
+    let (till, count) = (till(), Arc::new(AtomicU32::new(1)));
+    let drawer = till.cash_drawer("d1").unwrap().enabled().unwrap();
+    till.host("d1").unwrap();
+    drawer.open_drawer().unwrap();
+    till.drive("d1", Counted(Arc::clone(&count))).unwrap();
+    drawer.open_drawer().unwrap();
+    assert_eq!(count.load(Ordering::Relaxed), 2);
+    assert_eq!(till.next_order().unwrap(), Some(Order::OpenDrawer { device: "d1".to_string() }));
+    assert_eq!(till.next_order().unwrap(), None);
+}
+
 /// A drawer whose driver panics at its second and its fourth call. With the sixth it was opened.
 struct Trips(u32);
 
