@@ -1148,6 +1148,24 @@ def try_memory_lines():
         told("want of memory for two orders: what was refused and printed", [], printed)
 
 
+def try_memory_own():
+    """Want of memory at each allocation of an order of a driver in turn: it isn't given to the host in place of one of a
+    hosted device."""
+    with contextlib.ExitStack() as stack:
+        host = Host(stack)
+        if host.ask("memory 0") != "ok" or host.ask("own d2 1000") != "ok":
+            return
+        host.lines("new d CashDrawer", "open d d2", "set d DeviceEnabled true")
+        answers, orders = [], []
+        for number in range(1, 30):
+            host.ask(f"memory {number} 1")
+            answers.append(host.ask("lines call d openDrawer"))
+            host.ask("memory 0")
+            orders.append(host.ask("order"))
+        told("want of memory for an order of a driver", True, {"ok;", "KIJ_NO_MEMORY"} <= set(answers))
+        told("want of memory: orders that aren't the host's", ["none"] * 29, orders)
+
+
 def try_memory_scans():
     """Want of memory at each allocation of a scan in turn: each code comes once, and each failed scan."""
     for opened in ("no other driver", "own d2 0"):

@@ -261,6 +261,8 @@ impl Inner {
 
     /// Takes out the oldest order of the host's devices: its line.
     fn next_order(&mut self) -> Result<Option<String>, Cause> {
+        // The order of a line that is held is its driver's.
+        self.give_up_held()?;
         match self.drives.hosted_order() {
             Some(line) => Ok(Some(line)),
             None => self.taken_out(),
@@ -674,7 +676,7 @@ impl Till {
     ///
     /// # Errors
     ///
-    /// [`Cause::DiskFailed`], [`Cause::BadAnswer`].
+    /// [`Cause::NoMemory`], [`Cause::DiskFailed`], [`Cause::BadAnswer`].
     ///
     /// ```
     /// # use kijolvar::{Order, Till, Totals, BUILT_PROFILE};
