@@ -488,14 +488,19 @@ impl Inner {
         }
     }
 
-    fn run_round(&mut self) -> Result<bool, Cause> {
+    /// Has drivers look at their devices, and takes over what was scanned.
+    fn poll(&mut self, is_meant: impl Fn(&Drive) -> bool) {
         self.with_drives(|inner, list| {
-            for drive in list {
+            for drive in list.iter_mut().filter(|drive| is_meant(drive)) {
                 drive.driver.poll(&mut DriverTill { inner });
                 let scans = drive.driver.scans().into_iter().map(|scan| (drive.name.clone(), scan));
                 inner.drives.scans.extend(scans);
             }
         });
+    }
+
+    fn run_round(&mut self) -> Result<bool, Cause> {
+        self.poll(|_| true);
         let handed_in = self.hand_in();
         // Scans are handed in even if an input is refused, but none before the device is on.
         if !self.drives.inputs.is_empty() {
@@ -540,7 +545,11 @@ impl Inner {
             match Work::read(&self.ask(&line)?) {
                 // Nothing waits for one that is detached.
                 Ok(Work::Idle) | Err(Cause::BadDevice) => return Ok(is_any),
-                Ok(Work::Done { .. }) => is_any = true,
+                Ok(Work::Done { .. }) => {
+                    is_any = true;
+                    // The system keeps few keys of a scanner.
+                    self.poll(|drive| drive.category == Category::Scanner);
+                }
                 Ok(Work::Failed { .. }) => {
                     self.drives.list[place].refused_at = Some(Instant::now());
                     return Ok(true);

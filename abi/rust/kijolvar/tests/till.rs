@@ -11,7 +11,7 @@ use std::net::TcpListener;
 use std::panic::{catch_unwind, AssertUnwindSafe};
 use std::path::PathBuf;
 use std::sync::atomic::{AtomicU32, Ordering};
-use std::sync::mpsc::channel;
+use std::sync::mpsc::{channel, Sender};
 use std::sync::Arc;
 use std::thread::spawn;
 use std::time::{Duration, Instant};
@@ -648,12 +648,12 @@ fn a_device_that_sends_on_and_on_holds_nothing_up() {
     assert_eq!(waiting.recv_timeout(Duration::from_secs(10)), Ok(true));
 }
 
-/// A drawer that counts how often its driver looks at it.
+/// A scanner whose driver counts how often it looks at it.
 struct Polled(Arc<AtomicU32>);
 
 impl Driver for Polled {
     fn category(&self) -> Category {
-        Category::CashDrawer
+        Category::Scanner
     }
 
     fn poll(&mut self, _: &mut DriverTill<'_>) {
@@ -664,11 +664,38 @@ impl Driver for Polled {
 #[test]
 fn a_port_that_gives_nothing_is_not_read_all_the_time() {
     let (till, count) = (till(), Arc::new(AtomicU32::new(0)));
-    till.drive("d1", Polled(Arc::clone(&count))).unwrap();
+    till.drive("s1", Polled(Arc::clone(&count))).unwrap();
     till.drive("p1", SerialDisplay::open("/dev/null", DisplaySettings::default())).unwrap();
     assert!(!till.run_devices(Duration::from_millis(300)).unwrap());
     let count = count.load(Ordering::Relaxed);
     assert!(count <= 5, "{count}");
+}
+
+/// A printer that notes at each order how often a scanner was looked at.
+struct Noted(Arc<AtomicU32>, Sender<u32>);
+
+impl Driver for Noted {
+    fn category(&self) -> Category {
+        Category::PosPrinter
+    }
+
+    fn carry_out(&mut self, _: &mut DriverTill<'_>, _: &Order) -> bool {
+        self.1.send(self.0.load(Ordering::Relaxed)).is_ok()
+    }
+}
+
+#[test]
+fn a_scanner_is_read_while_output_is_printed() {
+    let (till, count, (note, noted)) = (till(), Arc::new(AtomicU32::new(0)), channel());
+    till.drive("s1", Polled(Arc::clone(&count))).unwrap();
+    till.drive("r1", Noted(count, note)).unwrap();
+    let printer = till.pos_printer("r1").unwrap().enabled().unwrap();
+    printer.set_async_mode(true).unwrap();
+    for _ in 0..3 {
+        printer.print_normal(PrinterStation::Receipt, "a\n").unwrap();
+    }
+    assert!(till.run_devices(Duration::ZERO).unwrap());
+    assert_eq!(noted.try_iter().collect::<Vec<_>>(), [1, 2, 3]);
 }
 
 #[test]
