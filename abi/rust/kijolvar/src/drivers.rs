@@ -2,7 +2,7 @@
 use crate::devices::Order;
 use crate::error::{Cause, Error};
 use crate::links::{is_over, Link, Told};
-use crate::ports::{end_after, Cable, Port, MOST_READS, QUICKLY};
+use crate::ports::{end_after, Cable, Port, ETIMEDOUT, MOST_READS, QUICKLY};
 use crate::standard::Category;
 use crate::till::Inner;
 use crate::wire::{Asked, PrinterReply, WireSettings};
@@ -582,8 +582,9 @@ impl Driver for SerialDisplay {
         let Ok(bytes) = till.order_bytes(&self.settings, self.is_new, OrderEnd::Nothing) else { return false };
         let is_done = self.port.cable.is_open() && self.shows(&bytes, end);
         self.is_new = !is_done;
-        if !is_done {
+        if !is_done && self.port.cable.is_open() {
             // The display has a part of it.
+            self.port.cable.fault = Some(ETIMEDOUT);
             self.port.cable.close();
         }
         is_done

@@ -467,6 +467,19 @@ fn what_no_device_can_have_is_refused() {
     assert_eq!((state.is_online, state.port_error), (false, Some(2)));
 }
 
+#[test]
+fn a_display_that_takes_too_long_is_lost() {
+    let (till, timeout) = (till(), Duration::ZERO);
+    let settings = DisplaySettings { timeout, ..DisplaySettings::default() };
+    till.drive("p1", SerialDisplay::open("/dev/null", settings)).unwrap();
+    let display = till.line_display("p1").unwrap().enabled().unwrap();
+    assert!(till.driver_state("p1").unwrap().is_online);
+    let offline = display.display_text("4.50", DisplayAttribute::Normal).unwrap_err();
+    assert_eq!(offline.code(), Some(ResultCode::Offline));
+    let state = till.driver_state("p1").unwrap();
+    assert_eq!((state.is_online, state.port_error), (false, Some(110)));
+}
+
 /// A drawer that counts how often it is opened, and whose driver fails the first time.
 struct Counted(Arc<AtomicU32>);
 
