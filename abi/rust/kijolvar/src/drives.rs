@@ -73,6 +73,8 @@ pub(crate) struct Drives {
     inputs: VecDeque<String>,
     /// What was scanned, with its device, and isn't handed in yet.
     scans: VecDeque<(String, Scan)>,
+    /// What went wrong with inputs behind something that was done.
+    fault: Option<Cause>,
     has_served: bool,
     is_handing_in: bool,
 }
@@ -304,8 +306,7 @@ impl Inner {
     pub(crate) fn served(&mut self, code: u32, needed: usize) -> Result<Vec<u8>, Cause> {
         let found = self.finish(code, needed, true)?;
         if std::mem::take(&mut self.drives.has_served) {
-            // What isn't handed in now is the next time.
-            let _ = self.hand_in();
+            self.hand_in_behind();
         }
         Ok(found)
     }
@@ -348,6 +349,15 @@ impl Inner {
         });
         let found = self.hand_in_inputs();
         Ok(left? | found?)
+    }
+
+    /// Hands in behind something that is done, whatever comes of this. What finds no memory is handed in the next time,
+    /// and `run_devices` says what else went wrong.
+    fn hand_in_behind(&mut self) {
+        match self.hand_in() {
+            Ok(_) | Err(Cause::NoMemory) => {}
+            Err(cause) => self.drives.fault = Some(cause),
+        }
     }
 
     /// Tells the till the inputs that wait. If one is refused, the others are told.
@@ -427,8 +437,7 @@ impl Inner {
         }
         self.make_wait(device, category)?;
         self.drives.list.push(drive);
-        // What isn't handed in now is the next time.
-        let _ = self.hand_in();
+        self.hand_in_behind();
         Ok(())
     }
 
@@ -456,8 +465,7 @@ impl Inner {
         let drive = &mut self.drives.list[place];
         (drive.is_on, drive.orders, drive.refused_at) = (true, 0, None);
         drive.driver.attached();
-        // What isn't handed in now is the next time.
-        let _ = self.hand_in();
+        self.hand_in_behind();
     }
 
     pub(crate) fn driver_state(&self, device: &str) -> Result<DriverState, Cause> {
@@ -501,7 +509,8 @@ impl Inner {
 
     fn run_round(&mut self) -> Result<bool, Cause> {
         self.poll(|_| true);
-        let handed_in = self.hand_in();
+        let found = self.hand_in();
+        let handed_in = self.drives.fault.take().map_or(found, Err);
         // Scans are handed in even if an input is refused, but none before the device is on.
         if !self.drives.inputs.is_empty() {
             return handed_in;

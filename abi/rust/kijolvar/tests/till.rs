@@ -407,6 +407,33 @@ fn scans_outlast_what_fails_beside_them() {
     assert_eq!(scanner.scan_data().unwrap(), b"4006381");
 }
 
+/// A drawer of which something is said once, behind an order, that can't happen at a drawer.
+struct WrongOnce(bool);
+
+impl Driver for WrongOnce {
+    fn category(&self) -> Category {
+        Category::CashDrawer
+    }
+
+    fn carry_out(&mut self, _: &mut DriverTill<'_>, _: &Order) -> bool {
+        self.0 = true;
+        true
+    }
+
+    fn happened(&mut self, _: &mut DriverTill<'_>) -> Vec<String> {
+        Vec::from_iter(std::mem::take(&mut self.0).then(|| "cover open".to_string()))
+    }
+}
+
+#[test]
+fn what_is_refused_behind_an_order_is_said() {
+    let till = till();
+    till.drive("d1", WrongOnce(false)).unwrap();
+    till.cash_drawer("d1").unwrap().enabled().unwrap().open_drawer().unwrap();
+    assert!(matches!(till.run_devices(Duration::ZERO).unwrap_err().cause(), Cause::BadInput));
+    assert!(!till.run_devices(Duration::ZERO).unwrap());
+}
+
 #[test]
 fn a_scan_that_is_refused_leaves_the_next() {
     let till = till();
