@@ -907,6 +907,35 @@ def try_blinks():
             told(f"both are printed over {kind}", [b"One", b"Two"], [item[1] for item in shop.paper()])
 
 
+def try_on_with_open_cover():
+    """A printer that is switched on with its cover open says nothing by itself until that is closed: it is asked."""
+    if WORDS.name != "Rust":
+        return
+    for kind in ("usb", "tcp", "serial", "usb stays", "asked"):
+        with contextlib.ExitStack() as stack:
+            shop = Shop(stack, kind, "drawer d1")
+
+            def shows(line, answer):
+                return until(lambda: shop.host.ask("run 10") and shop.host.line(line) == answer)
+            told(f"the printer is well over {kind}", True, shop.settle())
+            shop.device.pull_plug()
+            shop.host.ask("run 10")
+            shop.device.cover(True)
+            shop.device.load(10)
+            shop.device.drawer(True)
+            shop.device.plug_in()
+            told(f"the cover is open over {kind}", True, shows("get r CoverOpen", "ok true"))
+            told(f"an order then over {kind}", "err 114 201", shop.print(TEXT))
+            told(f"its paper is near the end over {kind}", True, shows("get r RecNearEnd", "ok true"))
+            told(f"its drawer is open over {kind}", "ok open", shop.host.line("show d1"))
+            shop.device.load(1000)
+            told(f"a new roll over {kind}", True, shows("get r RecNearEnd", "ok false"))
+            shop.device.cover(False)
+            told(f"it is closed over {kind}", True, shop.settle())
+            told(f"the order again over {kind}", True, until(lambda: shop.print(TEXT) == "ok"))
+            told(f"its paper over {kind}", PRINTED, shop.paper())
+
+
 def try_lost_scanner():
     """A code that comes just before its port is lost. The scanner is off only after it."""
     with contextlib.ExitStack() as stack:

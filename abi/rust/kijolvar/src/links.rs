@@ -157,8 +157,8 @@ pub(crate) struct Link {
     heard_at: Option<Instant>,
     tried_at: Option<Instant>,
     refreshed_at: Option<Instant>,
-    /// Of one that is asked: the last question, how many aren't answered, and when it was put or a late answer came.
-    /// Answers don't say what was asked, and a line may hold questions back, which are put again meanwhile.
+    /// The last question, how many aren't answered, and when it was put or a late answer came. Answers don't say what
+    /// was asked, and a line may hold questions back, which are put again meanwhile.
     question: usize,
     unanswered: u32,
     questioned_at: Option<Instant>,
@@ -261,6 +261,15 @@ impl Link {
         self.control.extend_from_slice(&[0x10, 0x04, QUESTIONS[question] as u8]);
     }
 
+    /// Puts the first question.
+    fn put_first_question(&mut self) {
+        if std::mem::take(&mut self.is_late) {
+            // The answers that haven't come are lost.
+            self.unanswered = 0;
+        }
+        self.put_question(0);
+    }
+
     /// Asks a printer that says nothing by itself how it is.
     fn ask_on(&mut self) {
         let time = match self.unanswered {
@@ -269,11 +278,7 @@ impl Link {
             _ => self.timeout,
         };
         if self.is_asked && self.is_idle() && is_over(self.questioned_at, time) {
-            if std::mem::take(&mut self.is_late) {
-                // The answers that haven't come are lost.
-                self.unanswered = 0;
-            }
-            self.put_question(0);
+            self.put_first_question();
         }
     }
 
@@ -283,7 +288,7 @@ impl Link {
         if self.is_asked {
             self.ask_on();
         } else {
-            self.put_question(0);
+            self.put_first_question();
         }
     }
 
@@ -425,7 +430,7 @@ impl Link {
         }
     }
 
-    /// A reply of a printer that says by itself how it is. Its automatic status alone tells of cover and paper at once.
+    /// A reply of a printer that says by itself how it is. Its automatic status alone tells of pin and cover at once.
     fn take_reply(&mut self, line: &str, told: Told) {
         self.answered(line);
         if let Some(number) = line.strip_prefix("job ") {
@@ -433,11 +438,14 @@ impl Link {
             if let Some(place) = self.due.iter().position(|parcel| Some(parcel.number) == number) {
                 self.acknowledge(place);
             }
-        } else if line.starts_with("status") && line.contains(" cover ") && line.contains(" paper ") {
+        } else if line.contains(" pin ") && line.contains(" cover ") {
             self.signs.hear(line);
             self.told = vec![told];
             self.is_refreshing = false;
             self.statuses += 1;
+            self.heard.clear();
+        } else {
+            self.take_part(line, told);
         }
     }
 
@@ -446,8 +454,14 @@ impl Link {
         self.answered(line);
         if told.asked == Asked::PaperInOrder {
             self.acknowledge(0);
-            return;
+        } else {
+            self.take_part(line, told);
         }
+    }
+
+    /// The answer to a question of DLE EOT. The three together say what an automatic status would. A printer that says
+    /// by itself how it is gets the other two while it is offline: if it was switched on so, it says nothing.
+    fn take_part(&mut self, line: &str, told: Told) {
         self.unanswered -= 1;
         self.is_late = self.unanswered > 0;
         if self.is_late {
@@ -458,14 +472,20 @@ impl Link {
         if self.question == 0 {
             self.heard.clear();
         }
+        if self.heard.len() != self.question {
+            // An automatic status has come meanwhile.
+            return;
+        }
         self.heard.push(told);
         self.hearing.hear(line);
+        if !self.is_asked && !self.hearing.is_offline {
+            return;
+        }
         if self.question + 1 < QUESTIONS.len() {
             self.put_question(self.question + 1);
             return;
         }
         self.rounds += 1;
-        // Together they say what an automatic status would.
         if self.told.is_empty() || self.hearing != self.signs {
             (self.signs, self.told) = (self.hearing, self.heard.clone());
             self.statuses += 1;
@@ -492,7 +512,7 @@ impl Link {
 
     /// Reads the first reply in what has come, and forgets the bytes that it used. Returns whether any were used.
     fn take_first(&mut self, till: &mut DriverTill<'_>) -> bool {
-        let asked = if self.asked_at.is_some() { Asked::Printer } else { Asked::Nothing };
+        let asked = if self.unanswered > 0 { QUESTIONS[self.question] } else { Asked::Nothing };
         let Some(reply) = self.reply(till, asked, &self.got) else { return false };
         if reply.used == 0 || reply.used > self.got.len() {
             return false;
@@ -611,13 +631,11 @@ impl Link {
         (self.is_there, self.was_silent, self.is_refreshing) = (false, false, false);
         self.asked_at = None;
         self.told.clear();
-        self.signs = Signs::default();
+        (self.signs, self.hearing) = (Signs::default(), Signs::default());
+        (self.unanswered, self.is_late, self.questioned_at) = (0, false, None);
         if self.is_asked {
             // Acknowledgements without a number can't be told from those of another connection.
             self.lose_due();
-            self.hearing = Signs::default();
-            (self.unanswered, self.is_late) = (0, false);
-            self.questioned_at = None;
         }
     }
 
