@@ -1031,6 +1031,15 @@ def try_counted_down():
             told(f"{count} lines", "ok", host.line("call r printNormal 2 " + "410a" * count))
         told("all are printed", 285, len(device.receipt()))
         told("the count", "120", host.line("show r1").split()[2])
+    with contextlib.ExitStack() as stack:
+        device = stack.enter_context(Printer(cable(), near=300))
+        host = Host(stack, PROFILE.replace("near = 20", "near = 300"))
+        told("a printer that is near its end soon", "ok",
+             host.ask(f"printer r1 {device.path} timeout {AMPLE} pause 10 lines 500"))
+        host.lines("new r POSPrinter", "open r r1", "claim r 0", "set r DeviceEnabled true")
+        answers = [host.line("call r printNormal 2 " + "410a" * 30) for _ in range(20)]
+        told("it prints", ["ok"] * 20, answers)
+        told("it isn't near its end", "none", host.line("deliver r"))
 
 
 def try_refusals():

@@ -14,7 +14,7 @@ use std::time::{Duration, Instant};
 const SETTLE: Duration = Duration::from_secs(1);
 /// The most lines that a printer's device counts.
 const MOST_LINES: u32 = 100_000;
-/// From how many lines on they are counted again before their end.
+/// From how many lines before the near end on they are counted again before that.
 const LONG: u64 = 100;
 /// The longest code of a scanner, and the highest type (ScanDataType) that a till takes.
 const LONGEST_CODE: usize = 4096;
@@ -202,8 +202,8 @@ pub struct EscPosSettings {
     pub is_open_high: bool,
     /// How many lines the till counts with when the sensors see enough paper: more than where its device is near the
     /// end, at most 100,000. The till refuses what is longer than what is left of them (EPTR_REC_EMPTY). So if the
-    /// sensors still see enough once three quarters are counted, or at the near end if there are fewer than 100 lines,
-    /// the count begins again.
+    /// sensors still see enough at the near end, the count begins again; with 100 lines or more before that, once three
+    /// quarters of those are counted.
     pub lines: u32,
     /// Whether the printer says nothing by itself, and doesn't know GS ( H. Then it is asked for its status (DLE
     /// EOT), and whether an order is printed (GS r).
@@ -298,7 +298,9 @@ pub struct EscPosPrinter {
     link: SharedLink,
     device: String,
     settings: WireSettings,
-    /// From which line of the link on the till counts them, once the printer has said how it is.
+    /// At how many lines the device is near its end, and from which line of the link on the till counts them, once the
+    /// printer has said how it is.
+    near: u32,
     counted_from: Option<u64>,
 }
 
@@ -307,7 +309,7 @@ impl EscPosPrinter {
     pub fn open(port: impl Into<Port>, settings: EscPosSettings) -> EscPosPrinter {
         let link = Link::new(port.into(), settings.timeout, settings.pause, settings.is_asked);
         let link = Arc::new(Mutex::new(link));
-        EscPosPrinter { link, device: String::new(), settings: settings.wire(), counted_from: None }
+        EscPosPrinter { link, device: String::new(), settings: settings.wire(), near: 0, counted_from: None }
     }
 
     /// Returns a driver for the drawer on the printer's connector, whether or not the till drives the printer too.
@@ -318,9 +320,20 @@ impl EscPosPrinter {
 
     /// Whether the till has to be told how many lines there are, where the sensors see enough paper.
     fn is_count_due(&self, lines: u64) -> bool {
-        let all = u64::from(self.settings.lines);
+        let all = u64::from(self.settings.lines - self.near);
         self.counted_from.is_none_or(|from| all >= LONG && lines - from >= all - all / 4)
     }
+}
+
+/// At how many lines a printer is near its end: the library takes no roll that is as short as that.
+fn near_of(till: &mut DriverTill<'_>, device: &str, settings: &WireSettings) -> u32 {
+    let (mut refused, mut taken) = (0, settings.lines);
+    while taken - refused > 1 {
+        let lines = refused + (taken - refused) / 2;
+        let is_taken = till.reply(device, &WireSettings { lines, ..*settings }, Asked::Nothing, &[]).is_ok();
+        (refused, taken) = if is_taken { (refused, lines) } else { (lines, taken) };
+    }
+    refused
 }
 
 /// Begins a printer's line for one of its devices.
@@ -358,7 +371,11 @@ impl Driver for EscPosPrinter {
             words.push(format!("paper {}", self.settings.lines));
             is_told = true;
         }
-        if is_told || self.counted_from.is_none() && !link.told.is_empty() {
+        let is_first = self.counted_from.is_none() && !link.told.is_empty();
+        if is_first {
+            self.near = near_of(till, &self.device, &self.settings);
+        }
+        if is_told || is_first {
             self.counted_from = Some(link.lines);
         }
         words
