@@ -858,6 +858,15 @@ def try_silence():
             told(f"the order again over {kind}", "ok", shop.print(b"Once\n"))
             told(f"it is printed once over {kind}", [("left", b"Once")], shop.paper())
     with contextlib.ExitStack() as stack:
+        shop = Shop(stack, "serial")
+        shop.device.pull_plug()
+        told("an order of a serial printer that is off", "err 111", shop.print(b"Once\n"))
+        shop.device.plug_in()
+        time.sleep(2 * TIMEOUT / 1000)
+        told("it is on when somebody looks", "false", shop.host.ask("run 300"))
+        told("the order again, over a line", "ok", shop.print(b"Once\n"))
+        told("it is printed once, over a line", [("left", b"Once")], shop.paper())
+    with contextlib.ExitStack() as stack:
         shop = Shop(stack)
         told("waiting output", ["ok", "ok"], shop.host.lines("set r AsyncMode true", "call r printNormal 2 410a"))
         shop.device.hang()

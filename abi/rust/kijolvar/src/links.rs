@@ -824,11 +824,8 @@ impl Link {
         self.take_back();
         if !self.is_stopped() {
             self.was_silent = true;
-            self.ask();
-            // Nobody may look for a long time, and a question that didn't go out isn't unanswered.
-            if self.send_control().is_err() {
-                self.lose();
-            }
+            // The next look asks. What is asked now may be lost, and that look may come long after the printer is back.
+            self.heard_at = None;
         }
         false
     }
