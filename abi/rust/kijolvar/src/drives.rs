@@ -29,8 +29,8 @@ pub struct DriverState {
 struct Drive {
     name: String,
     category: Category,
-    /// Whether the till takes the device as switched on.
-    is_on: bool,
+    /// Whether the till takes the device as switched on, if that is known.
+    is_on: Option<bool>,
     /// How many orders it has done since its paper was taken away.
     orders: u32,
     /// When output that waits was refused.
@@ -45,16 +45,15 @@ impl Drive {
         let line = |words: &str| format!("input {} {words}", self.name);
         let has_scans = inner.drives.scans.iter().any(|(device, _)| *device == self.name);
         if !self.driver.is_online() && !has_scans {
-            let was_on = std::mem::replace(&mut self.is_on, false);
-            return if was_on { vec![line("power off")] } else { Vec::new() };
+            let was_off = self.is_on.replace(false) == Some(false);
+            return if was_off { Vec::new() } else { vec![line("power off")] };
         }
         let mut lines: Vec<String> =
             self.driver.happened(&mut DriverTill { inner }).iter().map(|words| line(words)).collect();
         let on = line("power on");
-        if !self.is_on && !lines.contains(&on) {
+        if self.is_on.replace(true) != Some(true) && !lines.contains(&on) {
             lines.insert(0, on);
         }
-        self.is_on = true;
         lines
     }
 }
@@ -429,7 +428,7 @@ impl Inner {
             return Err(Cause::KindDiffers);
         }
         let name = device.to_string();
-        let mut drive = Drive { name, category, is_on: true, orders: 0, refused_at: None, driver };
+        let mut drive = Drive { name, category, is_on: None, orders: 0, refused_at: None, driver };
         drive.driver.start(&mut DriverTill { inner: self }, device).map_err(|error| error.into_cause())?;
         // If it was hosted before, orders of then aren't its driver's.
         while let Some(line) = self.taken_out()? {
@@ -463,7 +462,7 @@ impl Inner {
             return;
         }
         let drive = &mut self.drives.list[place];
-        (drive.is_on, drive.orders, drive.refused_at) = (true, 0, None);
+        (drive.is_on, drive.orders, drive.refused_at) = (None, 0, None);
         drive.driver.attached();
         self.hand_in_behind();
     }

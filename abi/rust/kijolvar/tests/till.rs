@@ -535,6 +535,14 @@ fn a_driver_that_panics_fails_one_order() {
 }
 
 #[test]
+fn a_device_that_was_off_is_on_with_its_driver() {
+    let till = till();
+    till.input_power("d1", false).unwrap();
+    till.drive("d1", Counted(Arc::new(AtomicU32::new(1)))).unwrap();
+    till.cash_drawer("d1").unwrap().enabled().unwrap().open_drawer().unwrap();
+}
+
+#[test]
 fn a_hosted_device_may_be_driven() {
     let (till, count) = (till(), Arc::new(AtomicU32::new(1)));
     let drawer = till.cash_drawer("d1").unwrap().enabled().unwrap();
