@@ -418,8 +418,8 @@ impl Till {
     ///
     /// # Errors
     ///
-    /// [`Cause::NoAnswer`] if memory ran out within the answers: lines up to one were carried out.
-    /// [`Cause::DiskFailed`].
+    /// [`Cause::NoMemory`], only if a device has a driver: no line was carried out. [`Cause::NoAnswer`] if memory ran
+    /// out within the answers: lines up to one were carried out. [`Cause::DiskFailed`].
     ///
     /// ```
     /// # use kijolvar::{Till, Totals, BUILT_PROFILE};
