@@ -508,6 +508,18 @@ impl Inner {
 
     fn run_round(&mut self) -> Result<bool, Cause> {
         self.poll(|_| true);
+        let mut is_any = self.hand_in_all()?;
+        for place in 0..self.drives.list.len() {
+            let drive = &self.drives.list[place];
+            if drive.category == Category::PosPrinter && is_over(drive.refused_at, REFUSED) {
+                is_any |= self.work_off(place)?;
+            }
+        }
+        Ok(is_any)
+    }
+
+    /// Tells the till what has happened at the devices and what was scanned, and returns whether anything was.
+    fn hand_in_all(&mut self) -> Result<bool, Cause> {
         let found = self.hand_in();
         let handed_in = self.drives.fault.take().map_or(found, Err);
         // Scans are handed in even if an input is refused, but none before the device is on.
@@ -515,16 +527,10 @@ impl Inner {
             return handed_in;
         }
         let is_any_scan = self.hand_in_scans()?;
-        let mut is_any = handed_in? || is_any_scan;
+        let is_any = handed_in? || is_any_scan;
         if is_any_scan {
             // A scanner that was lost behind its scans is off now.
             self.hand_in()?;
-        }
-        for place in 0..self.drives.list.len() {
-            let drive = &self.drives.list[place];
-            if drive.category == Category::PosPrinter && is_over(drive.refused_at, REFUSED) {
-                is_any |= self.work_off(place)?;
-            }
         }
         Ok(is_any)
     }
@@ -557,6 +563,9 @@ impl Inner {
                     is_any = true;
                     // The system keeps few keys of a scanner.
                     self.poll(|drive| drive.category == Category::Scanner);
+                    if !self.drives.scans.is_empty() {
+                        self.hand_in_all()?;
+                    }
                 }
                 Ok(Work::Failed { .. }) => {
                     self.drives.list[place].refused_at = Some(Instant::now());

@@ -696,8 +696,8 @@ fn a_device_that_sends_on_and_on_holds_nothing_up() {
     assert_eq!(waiting.recv_timeout(Duration::from_secs(10)), Ok(true));
 }
 
-/// A scanner whose driver counts how often it looks at it.
-struct Polled(Arc<AtomicU32>);
+/// A scanner whose driver counts how often it looks at it, and finds its codes the third time.
+struct Polled(Arc<AtomicU32>, Codes);
 
 impl Driver for Polled {
     fn category(&self) -> Category {
@@ -707,12 +707,20 @@ impl Driver for Polled {
     fn poll(&mut self, _: &mut DriverTill<'_>) {
         self.0.fetch_add(1, Ordering::Relaxed);
     }
+
+    fn scans(&mut self) -> Vec<Scan> {
+        if self.0.load(Ordering::Relaxed) == 3 {
+            self.1.scans()
+        } else {
+            Vec::new()
+        }
+    }
 }
 
 #[test]
 fn a_port_that_gives_nothing_is_not_read_all_the_time() {
     let (till, count) = (till(), Arc::new(AtomicU32::new(0)));
-    till.drive("s1", Polled(Arc::clone(&count))).unwrap();
+    till.drive("s1", Polled(Arc::clone(&count), Codes::of(&[]))).unwrap();
     till.drive("p1", SerialDisplay::open("/dev/null", DisplaySettings::default())).unwrap();
     assert!(!till.run_devices(Duration::from_millis(300)).unwrap());
     let count = count.load(Ordering::Relaxed);
@@ -735,8 +743,10 @@ impl Driver for Noted {
 #[test]
 fn a_scanner_is_read_while_output_is_printed() {
     let (till, count, (note, noted)) = (till(), Arc::new(AtomicU32::new(0)), channel());
-    till.drive("s1", Polled(Arc::clone(&count))).unwrap();
+    till.drive("s1", Polled(Arc::clone(&count), Codes::of(&["4006381"]))).unwrap();
     till.drive("r1", Noted(count, note)).unwrap();
+    let scanner = till.scanner("s1").unwrap().enabled().unwrap();
+    scanner.set_data_event_enabled(true).unwrap();
     let printer = till.pos_printer("r1").unwrap().enabled().unwrap();
     printer.set_async_mode(true).unwrap();
     for _ in 0..3 {
@@ -744,6 +754,7 @@ fn a_scanner_is_read_while_output_is_printed() {
     }
     assert!(till.run_devices(Duration::ZERO).unwrap());
     assert_eq!(noted.try_iter().collect::<Vec<_>>(), [1, 2, 3]);
+    assert_eq!(scanner.events().map(Result::unwrap).collect::<Vec<_>>(), [Event::Data]);
 }
 
 #[test]
