@@ -778,6 +778,22 @@ def try_held_back():
         shop.same_paper("held back: the paper")
 
 
+def try_answer_from_before():
+    """A late answer that comes while the line takes nothing isn't that of what is still to go out."""
+    with contextlib.ExitStack() as stack:
+        shop = Shop(stack, "asked")
+        answers = [b"\0"]
+
+        def takes_nothing(_):
+            shop.device.garbage(answers.pop() if answers else b"")
+            return 0
+        with mock.patch.object(shop.driver.link.port, "write_some", takes_nothing):
+            told("an order that doesn't go out", (111, 0), raised(shop.control.print, TEXT))
+        told("it goes out then", True, until(lambda: shop.till.run_devices() is not None and raised(
+            shop.control.print, TEXT) is None))
+        shop.same_paper("an answer from before: the paper")
+
+
 def try_absent():
     """A printer that isn't there yet."""
     with contextlib.ExitStack() as stack:

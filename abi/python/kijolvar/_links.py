@@ -340,8 +340,9 @@ class PrinterLink:
         self._is_there, self._was_silent = True, False
 
     def _acknowledged(self, number: int) -> None:
-        """The parcel with this number is printed, and those before it are printed or lost."""
-        is_due = any(parcel.number == number for parcel in self._due)
+        """The parcel with this number is printed, and those before it are printed or lost. Nothing of what is still to
+        go out can be printed: an answer that comes for it is from before."""
+        is_due = any(parcel.number == number and parcel not in self._outbox for parcel in self._due)
         while is_due:
             parcel = self._due[0]
             job, is_due = parcel.job, parcel.number != number
