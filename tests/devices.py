@@ -392,6 +392,22 @@ def try_ports_that_stay():
                 told(f"{name}: nothing else", 0, shop.driver.late_orders)
 
 
+def try_blinks():
+    """A port that stays open while the printer has no power for a moment, and loses a line of several: no answer to a later
+    line counts for it."""
+    for kind, question in (("tcp stays", 11), ("asked stays", 3)):
+        with contextlib.ExitStack() as stack:
+            shop = Shop(stack, kind)
+            # Once it is answered, nothing else is on its way.
+            told(f"an order before a blink over {kind}", None, raised(shop.control.print, b"Before\n"))
+            # The first line has 14 bytes, and the second one 21.
+            shop.device.after(14 + question, lambda: shop.device.blink(21 + question))
+            told(f"a blink over {kind}: it is printed", True, until(
+                lambda: shop.till.run_devices(0.01) is not None and raised(shop.control.print, TEXT) is None))
+            told(f"a blink over {kind}: each line", [b"Before", b"First line", b"Second line", b"Third line"],
+                 sorted(set(characters_of(shop.device))))
+
+
 def try_asynchronous():
     """Trouble during output that waits: an ErrorEvent, and a retry prints once."""
     for trouble, (deed, undo, wanted) in TROUBLES.items():

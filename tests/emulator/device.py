@@ -76,6 +76,14 @@ class Device:
             self.cable.pull_out()
         self._wake()
 
+    def blink(self, count):
+        """Takes its power for a moment: so many bytes of what it had got and not worked off are lost."""
+        with self.lock:
+            self._flush()
+            del self._got[:count]
+            self._sends.clear()
+            self.forget()
+
     def hang(self, is_hung=True):
         """Makes the device silent: it does nothing, answers nothing, and keeps what it got. Or lets it go on."""
         with self.lock:

@@ -206,10 +206,10 @@ class PrinterLink:
             if self._failed is not None and self._failed.told_at not in (None, wire.reports):
                 self._failed = None
             job = self._taken_up(data[:-self._end_size], is_once, end)
-            if not (job.is_done or self.is_stopped or self._is_due(job)) and time.monotonic() < end:
+            while not (job.is_done or job.is_torn or self.is_stopped or self._is_due(job)) and time.monotonic() < end:
                 self._post(job)
                 self._writes()
-                self._pump(lambda: job.is_done or job.is_torn or self.is_stopped, end)
+                self._pump(lambda: job.done == job.sent or job.is_torn or self.is_stopped, end)
         except PortError:
             self._lose()
             return False
@@ -498,8 +498,9 @@ class PrinterLink:
 
 class AskedLink(PrinterLink):
     """The line to a printer that says nothing by itself, and doesn't know the end of a job: it is asked. GS r is
-    answered once everything before it is printed. Its replies have no number, so they are counted. So are those to DLE
-    EOT, which don't say what was asked: a line may hold questions back, which were asked again meanwhile."""
+    answered once everything before it is printed. Its replies have no number, so one piece at a time is out. Those to
+    DLE EOT don't say what was asked, and are counted: a line may hold questions back, which were asked again
+    meanwhile."""
 
     _job = JOB_PAPER
     _start, _refresh = _ZEROS + _INITIALIZE + _STATUS_OFF, b""
@@ -592,6 +593,12 @@ class AskedLink(PrinterLink):
     def _is_due(self, job: Job) -> bool:
         """Whether any acknowledgement may still come. It wouldn't say which job it is for."""
         return bool(self._due)
+
+    def _post(self, job: Job) -> None:
+        """Sends the next piece alone. If several were out and one of them was lost, the answer to a later one would count
+        for it."""
+        job.sent += 1
+        self._send(job.pieces[job.sent - 1], job, job.sent)
 
     def _gives_up(self, end: float) -> None:
         """Waits for acknowledgements that are late. They are lost if none comes for the whole time, although the printer

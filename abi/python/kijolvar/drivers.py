@@ -121,7 +121,7 @@ class EscPosPrinter(Driver):
             enough when it has counted down to the near end, it begins again. With 100 lines or more it begins a quarter
             earlier, so that no long request is refused.
         is_asked: Whether the printer says nothing by itself, and doesn't know GS ( H, as simpler ones. Then it is asked
-            for its status (DLE EOT), and whether an order is printed (GS r).
+            for its status (DLE EOT), and after each line whether that is printed (GS r).
         timeout: How long an order may take, in seconds.
         pause: How long to wait before a lost port is tried again, in seconds.
 
