@@ -618,6 +618,15 @@ def try_closed_meanwhile():
         signal.setitimer(signal.ITIMER_REAL, 0.1)
         told("closed by a handler", "TillClosedError", name_of(shop.control.print, TEXT))
         told("it is closed", True, shop.till.is_closed)
+        time.sleep(2 * PAUSE)
+        told("its loop leaves the port closed", ("TillClosedError", False),
+             (name_of(shop.till.run_devices), shop.driver.link.port.is_open))
+    with contextlib.ExitStack() as stack:
+        shop = Shop(stack)
+        signal.signal(signal.SIGALRM, lambda *_: shop.till.close())
+        signal.setitimer(signal.ITIMER_REAL, 0.1)
+        told("closed by a handler in its loop", ("TillClosedError", False),
+             (name_of(shop.till.run_devices, PATIENCE), shop.driver.link.port.is_open))
     for is_failing in (False, True):
         with opened() as till:
             till.drive("d1", Closer(till, is_failing))

@@ -173,7 +173,8 @@ def try_threads():
                  "events": lambda: list(till.events()), "listeners": till.deliver,
                  "a control": lambda: till.drawer("d1"), "hosting": lambda: till.host("d1"),
                  "orders": lambda: list(till.orders()), "an order's bytes": lambda: till.order_bytes(HARDWARE),
-                 "a reply": lambda: till.replies("r1", HARDWARE, b""), "closing": till.close}
+                 "a reply": lambda: till.replies("r1", HARDWARE, b""), "closing": till.close,
+                 "a driver": lambda: till.drive("d1", kijolvar.Driver()), "the devices' loop": till.run_devices}
         for name, call in calls.items():
             fault = in_thread(call)
             told(f"{name} in a second thread", "ThreadError", type(fault).__name__)
@@ -272,6 +273,7 @@ def try_closed():
               "orders": lambda: list(till.orders()), "a transaction": lambda: totals.transaction().__enter__(),
               "an order's bytes": lambda: till.order_bytes(HARDWARE),
               "a reply": lambda: till.replies("r1", HARDWARE, b""),
+              "a driver": lambda: till.drive("d1", kijolvar.Driver()), "the devices' loop": till.run_devices,
               "a file by name": lambda: totals["A"], "files": lambda: list(totals),
               "use": lambda: controls[1].in_use().__enter__()}
     for name, use in others.items():

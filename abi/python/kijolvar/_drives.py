@@ -197,11 +197,13 @@ class Drives:
     def run(self, seconds: float) -> bool:
         """Does what the devices need, and waits for something to do as long as it may. Returns whether anything was
         done."""
-        if self._fault is not None:
-            fault, self._fault = self._fault, None
-            raise fault
         end = time.monotonic() + seconds
         while True:
+            # A signal's handler may have closed the till meanwhile. Its ports stay closed.
+            self._session.check()
+            if self._fault is not None:
+                fault, self._fault = self._fault, None
+                raise fault
             if self._round():
                 return True
             left = end - time.monotonic()

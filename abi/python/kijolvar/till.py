@@ -280,6 +280,7 @@ class Till:
 
         If it raises something, the device has no driver, and neither has the drawer that is on a printer.
         """
+        self._session.check()
         known = {one.name: one for one in self._devices()}
         drivers = {device: driver, **driver.others()}
         for name in drivers:
