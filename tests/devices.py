@@ -767,6 +767,37 @@ def try_quick_switch():
                 shop.same_paper(f"{name}: the paper")
 
 
+def try_cut_off():
+    """A network printer that doesn't answer is connected to again, as one that was cut off would need; but not while an
+    order is due, which it may print still."""
+    for kind in ("tcp", "asked tcp"):
+        with contextlib.ExitStack() as stack:
+            shop = Shop(stack, kind)
+            port = shop.driver.link.port
+            told(f"{kind}: its connection may wait for long", 0, option_of(port, socket.TCP_USER_TIMEOUT))
+            shop.device.hang()
+            told(f"{kind}: it doesn't answer", True,
+                 until(lambda: shop.till.run_devices(0.01) is not None and not port.is_open))
+            told(f"{kind}: it counts as off", (108, 0), raised(shop.control.print, TEXT))
+            shop.device.hang(False)
+            told(f"{kind}: it is back", True, shop.settle())
+            told(f"{kind}: it prints", None, raised(shop.control.print, TEXT))
+            shop.device.hang()
+            told(f"{kind}: it doesn't answer an order", (111, 0), raised(shop.control.print, TEXT))
+            told(f"{kind}: it stays connected", False, until(
+                lambda: shop.till.run_devices(0.01) is not None and not port.is_open, 3 * TIMEOUT))
+            shop.device.hang(False)
+            told(f"{kind}: it answers again", True, shop.settle())
+            told(f"{kind}: it prints again", None, raised(shop.control.print, TEXT))
+            shop.same_paper(f"{kind}: the paper")
+
+
+def option_of(port, option):
+    """An option of a TCP port's connection."""
+    with socket.socket(fileno=os.dup(port.fileno())) as made:
+        return made.getsockopt(socket.IPPROTO_TCP, option)
+
+
 class HeldPrinter(Printer):
     """A printer behind a line that holds back what is sent for a time."""
 
@@ -1240,12 +1271,11 @@ def try_ports_again():
         port = kijolvar.TcpPort("localhost", server.getsockname()[1])
         for _ in range(3):
             port.open()
-            with socket.socket(fileno=os.dup(port.fileno())) as made:
-                within = made.getsockopt(socket.IPPROTO_TCP, socket.TCP_USER_TIMEOUT)
+            times = [option_of(port, option) for option in (socket.TCP_USER_TIMEOUT, socket.TCP_KEEPIDLE)]
             port.close()
         names = [call.args[0] for call in asked.call_args_list]
         told("a name is looked up once", 1, names.count("localhost"))
-        told("a connection to nobody ends", 60_000, within)
+        told("a connection to nobody ends", [60_000, 10], times)
         told("one of two addresses doesn't answer", [None, None], second_answers(server.getsockname()[1]))
     told("nothing answers", "PortError", name_of(port.open))
     port._looked_up_at -= 61

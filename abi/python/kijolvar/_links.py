@@ -2,6 +2,7 @@
 from __future__ import annotations
 
 import contextlib
+import errno
 import random
 import re
 import time
@@ -13,7 +14,7 @@ from typing import TYPE_CHECKING
 from ._control import device_word
 from ._faults import NoDeviceError
 from ._wire import JOB_PAPER, Asked, WireSettings
-from .ports import Port, PortError
+from .ports import Port, PortError, TcpPort
 
 if TYPE_CHECKING:
     from .till import Till
@@ -150,6 +151,7 @@ class PrinterLink:
 
     def __init__(self, port: Port, timeout: float, pause: float) -> None:
         self.port, self.timeout, self._pause = port, timeout, pause
+        port.is_patient = True
         self.wires: list[Wire] = []
         self.is_begun = self.is_stopped = False
         self.told: list[Told] = []
@@ -432,8 +434,10 @@ class PrinterLink:
             self._lose()
 
     def _look_after(self, now: float) -> None:
-        """Asks a printer that has said nothing for a time, and one that says that it can't print, for more."""
-        self._notes_silence()
+        """Asks a printer that has said nothing for a time, and one that says that it can't print, for more. One on a network
+        that doesn't answer is lost, unless something is due: the system might find that much later."""
+        if self._notes_silence() and isinstance(self.port, TcpPort) and not self._due:
+            raise PortError(errno.ETIMEDOUT, f"{self.port.name} doesn't answer")
         is_asking = self._asked_at is not None and now - self._asked_at <= self.timeout
         is_heard = self._is_there and now - self._heard_at <= self.timeout
         if self._outbox:
@@ -445,11 +449,14 @@ class PrinterLink:
         elif self.is_stopped and now - self._refreshed_at > self._pause:
             self._refreshes(now)
 
-    def _notes_silence(self) -> None:
-        """A printer that hasn't answered for the timeout counts as off, also while orders are tried again and again."""
-        if self._asked_at is not None and time.monotonic() - self._asked_at > self.timeout:
+    def _notes_silence(self) -> bool:
+        """A printer that hasn't answered for the timeout counts as off, also while orders are tried again and again.
+        Returns whether it hasn't."""
+        is_silent = self._asked_at is not None and time.monotonic() - self._asked_at > self.timeout
+        if is_silent:
             self._is_there = False
             self._is_told({}, [])
+        return is_silent
 
     def _ask(self) -> None:
         """Asks whether the printer is there. A question that isn't answered yet counts from when it was asked first."""

@@ -28,9 +28,9 @@ _MOST_PARTS = 16
 # For how long the addresses of a name are kept though nothing answers there, and for how long a name isn't looked up
 # again whose look-up took longer than this and found nothing, in seconds.
 _LOOKED_UP_FOR, _QUICKLY = 60.0, 0.25
-# How long the other end may take to acknowledge what was sent, in milliseconds. Else a printer that was off for long is
-# noticed only minutes after it is back. A shorter time would cut off one that takes nothing while its cover is open.
-_ACKNOWLEDGED_WITHIN = 60_000
+# How long the other end of a TCP port may take to acknowledge what was sent, in milliseconds; and how often it is asked
+# whether it is there, while nothing is sent, in seconds. Else one that was cut off is noticed after minutes or hours.
+_ACKNOWLEDGED_WITHIN, _ASKED_EVERY = 60_000, 10
 _TCP = re.compile(r"tcp:(?://)?(?:\[(?P<address>.+)\]|(?P<name>[^:\[\]]*))(?::(?P<port>[0-9]+))?")
 _READABLE = select.POLLIN | select.POLLHUP | select.POLLERR | select.POLLNVAL
 
@@ -44,7 +44,11 @@ class Port:
 
     Attributes:
         name: The port's name.
+        is_patient: Whether what was sent may wait for long, as at a printer whose cover is open. If not, a TCP port whose
+            other end acknowledges nothing for a minute is lost.
     """
+
+    is_patient = False
 
     def __init__(self, name: str) -> None:
         self.name = name
@@ -357,7 +361,10 @@ class TcpPort(Port):
                 with socket.create_connection(address, timeout=left) as made:
                     made.setsockopt(socket.IPPROTO_TCP, socket.TCP_NODELAY, 1)
                     made.setsockopt(socket.SOL_SOCKET, socket.SO_KEEPALIVE, 1)
-                    made.setsockopt(socket.IPPROTO_TCP, socket.TCP_USER_TIMEOUT, _ACKNOWLEDGED_WITHIN)
+                    made.setsockopt(socket.IPPROTO_TCP, socket.TCP_KEEPIDLE, _ASKED_EVERY)
+                    made.setsockopt(socket.IPPROTO_TCP, socket.TCP_KEEPINTVL, _ASKED_EVERY)
+                    if not self.is_patient:
+                        made.setsockopt(socket.IPPROTO_TCP, socket.TCP_USER_TIMEOUT, _ACKNOWLEDGED_WITHIN)
                     made.setblocking(False)
                     return made.detach()
             except OSError as found:
