@@ -408,6 +408,13 @@ def try_blinks():
                 lambda: shop.till.run_devices(0.01) is not None and raised(shop.control.print, TEXT) is None))
             told(f"a blink over {kind}: each line", [b"Before", b"First line", b"Second line", b"Third line"],
                  sorted(set(characters_of(shop.device))))
+    with contextlib.ExitStack() as stack:
+        shop = Shop(stack, "usb stays")
+        shop.device.after(3, lambda: shop.device.blink(1000))
+        told("a blink that loses an order", (111, 0), raised(shop.control.print, TEXT))
+        time.sleep(1.5 * TIMEOUT)
+        shop.till.run_devices()
+        told("the printer is there, though nobody has looked for long", True, shop.driver.is_online)
 
 
 def try_asynchronous():

@@ -228,7 +228,8 @@ class PrinterLink:
         if not self.is_stopped:
             self._was_silent = True
             self._ask()
-            self._notes_silence()
+            # Nobody may look for a long time, and a question that didn't go out isn't unanswered.
+            self.poll()
         return False
 
     def _taken_up(self, data: bytes, is_once: bool, end: float) -> Job:
