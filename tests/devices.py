@@ -554,6 +554,26 @@ def try_interrupts():
         told("both rows", True, screen.wait(lambda: screen.shows() == wanted, PATIENCE) or screen.shows())
 
 
+def try_interrupted_reports():
+    """An interrupt before the report of an order: what happened at the device is told later."""
+    with contextlib.ExitStack() as stack:
+        shop = Shop(stack)
+        session, reports = shop.till._session, shop.till._session._order_done
+
+        def interrupted(*_):
+            session._order_done = reports
+            raise InterruptedError("a signal's handler")
+        session._order_done = interrupted
+        shop.device.after(20, shop.device.pull_plug)
+        told("an interrupt as an order has failed", "InterruptedError", name_of(shop.control.print, TEXT))
+        shop.till.run_devices()
+        told("its printer is off", (108, 0), raised(shop.control.print, TEXT))
+        shop.device.plug_in()
+        told("it is on again", True, shop.settle())
+        told("it prints", None, raised(shop.control.print, TEXT))
+        shop.same_paper("an interrupt as an order has failed: the paper")
+
+
 # The steps of an order in which an interrupt costs nothing: a retry prints once. In others an acknowledgement is lost.
 STEPS = {("_links.py", "carry_out"), ("_links.py", "_post"), ("_links.py", "_send"), ("_links.py", "_writes"),
          ("_links.py", "_acknowledged"), ("_links.py", "is_done"), ("_drives.py", "serve")}

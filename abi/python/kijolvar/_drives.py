@@ -57,6 +57,10 @@ class Drive:
         self.left += b"".join([b"input %b %b\n" % (self.word, words.encode()) for words in happened])
         return self.left
 
+    def taken(self, answers: list[bytes]) -> None:
+        """The till has answered the lines of inputs. Those that found no memory are told again."""
+        self.left = b"".join(line for line, answer in zip(self.left.splitlines(True), answers) if answer == b"memory\n")
+
     def has_scans(self) -> bool:
         """Whether there are codes that the till hasn't taken yet."""
         self.scans += self.driver.scans()
@@ -128,8 +132,8 @@ class Drives:
         if driver.is_online and driver.carry_out(order):
             drive.orders += 1
             return True, b""
-        lines, drive.left = drive.inputs(), b""
-        return False, lines
+        self._session.taken = drive.taken
+        return False, drive.inputs()
 
     def served(self) -> None:
         """Is called once orders were carried out. It is most often all that there is to do."""
@@ -165,15 +169,15 @@ class Drives:
             lines = drive.inputs()
         if not lines:
             return False
-        answers = self._session.carry_out(lines).decode().splitlines()
-        # What found no memory is told again, and so is all if the call raised something.
-        drive.left = b"".join(line for line, answer in zip(lines.splitlines(True), answers) if answer == "memory")
+        # If the call raises something, all is told again.
+        answers = self._session.carry_out(lines).splitlines(True)
+        drive.taken(answers)
         for answer in answers:
-            if answer == "bad input":
+            if answer == b"bad input\n":
                 raise InputError("that can't happen at the device")
             # Nothing happens at one that is detached.
-            if answer not in ("ok", "bad device", "memory"):
-                raise LineError(answer)
+            if answer not in (b"ok\n", b"bad device\n", b"memory\n"):
+                raise LineError(answer.decode().strip())
         if drive.left:
             raise library_fault(KIJOLVAR_NO_MEMORY)
         return True

@@ -42,7 +42,8 @@ def _write_whole(file: int, data: bytes, at: int) -> None:
 class Session:
     """A till over a profile's text and an open file of totals, or totals in memory if there is none.
 
-    Only the thread that made it may use it, in its own process: one that is forked has the till as a closed one. A file that isn't formatted opens too: enabling its totals is E_NOHARDWARE.
+    Only the thread that made it may use it, in its own process: one that is forked has the till as a closed one. A file
+    that isn't formatted opens too: enabling its totals is E_NOHARDWARE.
     `begin` is the export that makes the till over a file: another one formats the file first, or moves it to layout 2.
     """
 
@@ -77,6 +78,8 @@ class Session:
         self._hosted: deque[bytes] = deque()
         #: Carries out an order of a driven device: whether it is done, and what happened at the device if it isn't.
         self.serve: Callable[[bytes], tuple[bool, bytes]] | None = None
+        #: Is called with the till's answers to what happened at the device.
+        self.taken: Callable[[list[bytes]], object] | None = None
         #: Is called after lines whose orders were carried out so.
         self.served: Callable[[], object] | None = None
         check(library)
@@ -267,9 +270,11 @@ class Session:
                 break
             if is_taken:
                 text: bytes = room[:self._needed.value]
-                if is_told and report is not None and report[1]:
+                if is_told and report is not None and report[1] and self.taken is not None:
                     # The answers of the inputs are first.
-                    text = b"".join(text.splitlines(True)[report[1].count(b"\n"):])
+                    answers, count = text.splitlines(True), report[1].count(b"\n")
+                    self.taken(answers[:count])
+                    text = b"".join(answers[count:])
                 parts.append(text)
                 report = None if is_told else report
             if code == KIJOLVAR_OK:
