@@ -572,6 +572,25 @@ def try_interrupted_reports():
         told("it is on again", True, shop.settle())
         told("it prints", None, raised(shop.control.print, TEXT))
         shop.same_paper("an interrupt as an order has failed: the paper")
+        shop.till.drive("d1", EscPosDrawer(shop.driver))
+        screen = stack.enter_context(Display(cable(), 2, 20))
+        shop.till.drive("p1", SerialDisplay(screen.path, pause=PAUSE))
+        display = stack.enter_context(shop.till.display("p1").in_use())
+        serves = session.serve
+
+        def serves_once(line):
+            session.serve = serves
+            serves(line)
+            raise InterruptedError("a signal's handler")
+        for order, words in ((shop.control.print, (TEXT,)), (display.display_text_at, (1, 0, b"Milk"))):
+            session.serve = serves_once
+            told("an interrupt as an order is done", "InterruptedError", name_of(order, *words))
+        told("other orders", [None] * 2, [raised(shop.till.drawer("d1").open_drawer),
+                                          raised(display.display_text, b"Bread")])
+        wanted = b"Bread" + b" " * 35
+        told("the display shows what the till shows", True, screen.wait(lambda: screen.shows() == wanted, PATIENCE))
+        told("the first one again", None, raised(shop.control.print, TEXT))
+        shop.same_paper("an interrupt as an order is done: the paper")
 
 
 # The steps of an order in which an interrupt costs nothing: a retry prints once. In others an acknowledgement is lost.

@@ -52,9 +52,9 @@ class Wire:
         self._session, self._device, self._settings = till._session, device_word(device), settings.raw
 
     @property
-    def reports(self) -> tuple[object, int]:
-        """The till, and how many orders it was told as done. It changes before an order that is done is reported."""
-        return self._session, self._session.reports
+    def reports(self) -> int:
+        """How many of its orders the till was told as done. It changes before an order that is done is reported."""
+        return self._session.reports[self._device]
 
     def order(self, job: int) -> bytes:
         """The bytes of the order that is out. Behind them stands what asks for an acknowledgement."""
@@ -89,7 +89,7 @@ class Job:
         sent: How many pieces were sent.
         done: How many pieces are printed, as far as is known.
         is_torn: Pieces were lost, and later ones may have been printed.
-        told_at: The till's reports (`Wire.reports`) when it was told as done. Until they change, it isn't reported.
+        told_at: The wire and its reports when it was told as done. Until they change, it isn't reported.
         is_once: Whether it is for the paper, where the same order must not be twice.
     """
 
@@ -100,12 +100,17 @@ class Job:
         self.pieces = [data] if is_line else pieces_of(data) or [b""]
         self.sent = self.done = 0
         self.is_torn = False
-        self.told_at: tuple[object, int] | None = None
+        self.told_at: tuple[Wire, int] | None = None
 
     @property
     def is_done(self) -> bool:
         """Whether all of it is printed."""
         return self.done == len(self.pieces)
+
+    @property
+    def is_reported(self) -> bool:
+        """Whether the till was told that it is done."""
+        return self.told_at is not None and self.told_at[0].reports != self.told_at[1]
 
     def is_late(self, now: Job | None) -> bool:
         """Whether it puts something on the paper that isn't asked for any more."""
@@ -205,7 +210,7 @@ class PrinterLink:
         self._question = data[-self._end_size:]
         try:
             self._receive()
-            if self._failed is not None and self._failed.told_at not in (None, wire.reports):
+            if self._failed is not None and self._failed.is_reported:
                 self._failed = None
             job = self._taken_up(data[:-self._end_size], is_once, end)
             while not (job.is_done or job.is_torn or self.is_stopped or self._is_due(job)) and time.monotonic() < end:
@@ -222,7 +227,7 @@ class PrinterLink:
             raise
         if job.is_done:
             self.lines += job.data.count(b"\n")
-            job.told_at = wire.reports
+            job.told_at = wire, wire.reports
             return True
         self._drop()
         if not self.is_stopped:

@@ -6,7 +6,7 @@ import errno
 import os
 import threading
 import weakref
-from collections import deque
+from collections import Counter, deque
 from collections.abc import Callable, Iterator
 from typing import Any, BinaryIO, NoReturn
 
@@ -71,8 +71,10 @@ class Session:
         # Whether the library holds lines for which memory ran out, and what was printed of them and isn't reported yet.
         self._is_holding = False
         self._unreported: tuple[int, bytes] | None = None
-        #: How many orders were reported as done, or a report was begun.
-        self.reports = 0
+        #: How many orders of each device were reported as done, or a report was begun.
+        self.reports: Counter[bytes] = Counter()
+        # The device whose order was carried out last.
+        self._served_device = b""
         # The devices that are driven, and the orders of hosted devices that came before one of these.
         self._driven: set[bytes] = set()
         self._hosted: deque[bytes] = deque()
@@ -286,7 +288,7 @@ class Session:
             outcome, inputs = report
             is_told, is_any_done = True, is_any_done or outcome == _DONE
             room_at = self._room_at if room is self._room else ctypes.addressof(room)
-            self.reports += outcome == _DONE
+            self.reports[self._served_device] += outcome == _DONE
             code = self._order_done(self._raw, self._raw_at, outcome, inputs, len(inputs), room_at, len(room),
                                     self._has_at)
         raise library_fault(code)
@@ -317,6 +319,7 @@ class Session:
             order = self._driven_order()
         if order is None or self.serve is None:
             raise library_fault(KIJOLVAR_NO_ORDER)
+        self._served_device = order[:order.find(b" ")]
         try:
             self._has_served = self._is_serving = True
             is_done, inputs = self.serve(order)

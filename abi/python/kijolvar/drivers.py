@@ -21,6 +21,7 @@ from collections import deque
 from dataclasses import dataclass
 from typing import TYPE_CHECKING, Literal, Union
 
+from ._control import device_word
 from ._devices import Order
 from ._library import Path
 from ._links import AskedLink, PrinterLink, Wire
@@ -350,7 +351,10 @@ class SerialDisplay(Driver):
         self.port, self._timeout, self._pause = port_of(port), timeout, pause
         self._settings = WireSettings(protocol=_PROTOCOLS.index(protocol))
         self._till: Till | None = None
+        self._word = b""
         self._tried_at, self._is_new = -1e9, True
+        # How many orders had been reported when the last one was done. If there are no more, the till doesn't show that.
+        self._done_at = -1
 
     def __repr__(self) -> str:
         return f"<kijolvar.SerialDisplay {self.port.name!r}, {'online' if self.is_online else 'offline'}>"
@@ -364,7 +368,7 @@ class SerialDisplay(Driver):
         return self.port.is_open
 
     def begin(self, till: Till, device: ProfileDevice) -> None:
-        self._till = till
+        self._till, self._word, self._done_at = till, device_word(device.name), -1
         self._connect(self._timeout)
 
     def carry_out(self, order: Order) -> bool:
@@ -372,13 +376,14 @@ class SerialDisplay(Driver):
         self._listen()
         if not self.port.is_open:
             return False
-        data, is_done = self._till.order_bytes(self._settings, self._is_new), False
+        reports, is_done = self._till._session.reports[self._word], False
+        data = self._till.order_bytes(self._settings, self._is_new or self._done_at == reports)
         try:
             with contextlib.suppress(PortError):
                 is_done = self.port.write(data, self._timeout)
         finally:
             if is_done:
-                self._is_new = False
+                self._is_new, self._done_at = False, reports
             else:
                 # The display may have a part of it.
                 self.port.close()
