@@ -1341,6 +1341,19 @@ def try_ports_again():
                  (name_of(port.open), asked.call_count))
 
 
+def try_interrupted_openings():
+    """An interrupt as a port is opened leaves no file open."""
+    for name, call, kind in (("a keyboard", "fcntl.ioctl", kijolvar.drivers._KeyPort),
+                             ("a line", "termios.tcsetattr", kijolvar.FilePort)):
+        with Scanner(cable()) as device, mock.patch(call, side_effect=KeyboardInterrupt):
+            port, files, found = kind(device.path), len(os.listdir("/proc/self/fd")), "no interrupt"
+            try:
+                port.open()
+            except KeyboardInterrupt:
+                found = "interrupted"
+            told(f"an interrupt as {name} is opened", ("interrupted", files), (found, len(os.listdir("/proc/self/fd"))))
+
+
 def second_answers(port):
     """What opening a port raises whose name has two addresses, if the first one lets everybody wait."""
     connects = socket.create_connection

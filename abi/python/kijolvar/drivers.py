@@ -524,16 +524,15 @@ class _Keys:
 class _KeyPort(FilePort):
     """A device of Linux input events, which other programs don't see meanwhile."""
 
-    def _opened(self, seconds: float) -> int:
-        file = os.open(self.name, os.O_RDONLY | os.O_NONBLOCK | os.O_NOCTTY | os.O_CLOEXEC)
+    _way = os.O_RDONLY
+
+    def _prepare(self, file: int) -> None:
         if stat.S_ISCHR(os.fstat(file).st_mode):
             try:
                 fcntl.ioctl(file, _GRAB, 1)
             except OSError as fault:
                 if fault.errno not in (errno.ENOTTY, errno.EINVAL):
-                    os.close(file)
                     raise
-        return file
 
 
 class WedgeScanner(Driver):

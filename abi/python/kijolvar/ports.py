@@ -223,6 +223,8 @@ class Port:
 class FilePort(Port):
     """A device file that takes bytes as they are, such as /dev/usb/lp0."""
 
+    _way = os.O_RDWR
+
     def __init__(self, path: Path) -> None:
         super().__init__(os.fspath(path))
         # Whether `port_of` made it of a path that may be a link to a serial line later, and the line that it then is.
@@ -232,18 +234,22 @@ class FilePort(Port):
     def _opened(self, seconds: float) -> int:
         if self._may_be_line:
             self._line = SerialPort(self.name) if _is_line(self.name) else None
-        file = os.open(self.name, os.O_RDWR | os.O_NONBLOCK | os.O_NOCTTY | os.O_CLOEXEC)
+        file = os.open(self.name, self._way | os.O_NONBLOCK | os.O_NOCTTY | os.O_CLOEXEC)
         try:
-            if stat.S_ISREG(os.fstat(file).st_mode):
-                raise PortError(errno.ENODEV, f"{self.name} is a file and no device")
-            # A printer on USB may send packets with nothing in them.
-            self._ends_empty = os.isatty(file)
-            if self._ends_empty:
-                self._set_up(file)
+            self._prepare(file)
         except BaseException:
             os.close(file)
             raise
         return file
+
+    def _prepare(self, file: int) -> None:
+        """Makes a file that was opened ready."""
+        if stat.S_ISREG(os.fstat(file).st_mode):
+            raise PortError(errno.ENODEV, f"{self.name} is a file and no device")
+        # A printer on USB may send packets with nothing in them.
+        self._ends_empty = os.isatty(file)
+        if self._ends_empty:
+            self._set_up(file)
 
     def _set_up(self, file: int) -> None:
         """Sets up a terminal line, so that bytes pass as they are."""
