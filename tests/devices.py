@@ -1354,6 +1354,32 @@ def try_interrupted_openings():
             told(f"an interrupt as {name} is opened", ("interrupted", files), (found, len(os.listdir("/proc/self/fd"))))
 
 
+def try_forked():
+    """A process that is forked leaves the devices of its till alone, and keeps no port open: closing one ends its connection.
+    """
+    (waits, ends), read = os.pipe(), []
+    with opened() as till, socket.create_server(("127.0.0.1", 0)) as server:
+        driver = Meddler(till, ["open"])
+        till.drive("d1", driver)
+        port = kijolvar.TcpPort("127.0.0.1", server.getsockname()[1])
+        port.open()
+        peer, _ = server.accept()
+        child = os.fork()
+        if child == 0:
+            os.close(ends)
+            os.read(waits, 1)
+            os._exit(name_of(till.close) is not None or driver.is_closed or port.is_open)
+        told("the port stays open", True, port.write(b"1", 1.0) and peer.recv(2) == b"1")
+        port.close()
+        peer.settimeout(1.0)
+        told("it is closed for the other end", (None, [b""]), (name_of(lambda: read.append(peer.recv(1))), read))
+        peer.close()
+        for end in (ends, waits):
+            os.close(end)
+        told("it is closed in a process that was forked, and the driver isn't", 0, os.waitpid(child, 0)[1])
+        driver.close = lambda: None
+
+
 def second_answers(port):
     """What opening a port raises whose name has two addresses, if the first one lets everybody wait."""
     connects = socket.create_connection

@@ -112,6 +112,11 @@ class Session:
         """Whether this is the thread that may use the till."""
         return _identity() == self._thread
 
+    @property
+    def is_forked(self) -> bool:
+        """Whether the till is that of a process from which this one was forked."""
+        return self._thread == NO_THREAD
+
     def forked(self) -> None:
         """This process was forked from the till's: nothing of the till can be used or has to be ended in it."""
         self._thread, self._raw.at = NO_THREAD, None

@@ -100,7 +100,7 @@ class Driver:
         The orders are the driver's again."""
 
     def close(self) -> None:
-        """Ends, and closes the port."""
+        """Ends, and closes the port. In a process that was forked it isn't called: the device is that of the other one."""
 
 
 class EscPosPrinter(Driver):

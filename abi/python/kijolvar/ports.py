@@ -15,6 +15,7 @@ import socket
 import stat
 import termios
 import time
+import weakref
 from collections.abc import Iterator
 from typing import Any, Literal, Union
 
@@ -59,6 +60,7 @@ class Port:
         self._waits = select.poll(), select.poll()
         # Whether reading no bytes means that the port is lost.
         self._ends_empty = True
+        _ports.add(self)
 
     def __repr__(self) -> str:
         return f"<kijolvar.{type(self).__name__} {self.name!r}, {'open' if self.is_open else 'closed'}>"
@@ -106,8 +108,8 @@ class Port:
         self._process, self._file = os.getpid(), file
 
     def close(self) -> None:
-        """Closes the port, if it is open. What isn't sent yet is dropped, but not in a process that was forked: there the
-        port is still that of the process that has opened it."""
+        """Closes the port, if it is open. What isn't sent yet is dropped. A process that is forked has the port as a closed
+        one, and drops nothing: it is still that of the process that has opened it."""
         if self._file is not None:
             file, self._file = self._file, None
             try:
@@ -218,6 +220,18 @@ class Port:
         except OSError as fault:
             self._loses(fault)
         return True
+
+
+# The ports of this process. One that is forked closes them, so that closing them here ends their connections.
+_ports: weakref.WeakSet[Port] = weakref.WeakSet()
+
+
+def _close_forked() -> None:
+    for port in list(_ports):
+        Port.close(port)
+
+
+os.register_at_fork(after_in_child=_close_forked)
 
 
 class FilePort(Port):

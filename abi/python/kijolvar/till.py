@@ -92,7 +92,8 @@ class Till:
         with contextlib.ExitStack() as ends:
             if self._owns_file and self._file is not None:
                 ends.callback(self._file.close)
-            ends.callback(self._drives.close)
+            if not self._session.is_forked:
+                ends.callback(self._drives.close)
             self._session.close()
 
     # Controls.
