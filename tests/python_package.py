@@ -223,6 +223,18 @@ def try_fork():
     for end in (ends, waits, said, says):
         os.close(end)
     told("it is closed there", 0, os.waitpid(child, 0)[1])
+    waits, ends = os.pipe()
+    with kijolvar.open_totals(path):
+        child = os.fork()
+        if child == 0:
+            os.close(ends)
+            os.read(waits, 1)
+            os._exit(0)
+    told("a file that a forked process may use stays locked", "BlockingIOError", name_of(opened, totals=path))
+    os.close(ends)
+    os.waitpid(child, 0)
+    told("as long as it has it", None, raised(lambda: opened(totals=path).close()))
+    os.close(waits)
 
 
 ARGUMENTS = {"number": 0, "bytes": b"", "truth": False, "device": "d1"}

@@ -4,7 +4,6 @@ from __future__ import annotations
 import contextlib
 import ctypes
 import fcntl
-import io
 import os
 from collections.abc import Iterator
 from typing import BinaryIO
@@ -24,28 +23,13 @@ def _folder(path: str) -> Iterator[int]:
         os.close(folder)
 
 
-class _LockedFile(io.FileIO):
-    """A file with a lock, which ends as the process that made it closes the file. The lock is that of the open file: one
-    that a forked process still had would stay locked."""
-
-    def __init__(self, file: str | int) -> None:
-        self._process = 0
-        super().__init__(file, "r+b")
-        try:
-            fcntl.flock(self, fcntl.LOCK_EX | fcntl.LOCK_NB)
-        except OSError:
-            super().close()
-            raise
-        self._process = os.getpid()
-
-    def close(self) -> None:
-        if self._process == os.getpid() and not self.closed:
-            fcntl.flock(self, fcntl.LOCK_UN)
-        super().close()
+def _lock(totals: BinaryIO) -> None:
+    fcntl.flock(totals, fcntl.LOCK_EX | fcntl.LOCK_NB)
 
 
 def open_totals(path: Path) -> BinaryIO:
-    """Opens a file of totals, and locks it against every other till.
+    """Opens a file of totals, and locks it against every other till. The lock ends when the file is closed, in processes too
+    that were forked meanwhile.
 
     It syncs the folder too, since a creation that was killed may have named the file and not synced its name.
 
@@ -55,7 +39,8 @@ def open_totals(path: Path) -> BinaryIO:
     """
     name = os.fspath(path)
     with contextlib.ExitStack() as undo, _folder(name) as folder:
-        totals = undo.enter_context(_LockedFile(name))
+        totals = undo.enter_context(open(name, "r+b", buffering=0))
+        _lock(totals)
         os.fsync(folder)
         undo.pop_all()
         return totals
@@ -74,7 +59,8 @@ def create_totals(library: ctypes.CDLL, path: Path, profile: bytes = b"") -> Bin
     name = os.fspath(path)
     with contextlib.ExitStack() as undo, _folder(name) as folder:
         unnamed = os.open(".", os.O_RDWR | os.O_TMPFILE, 0o600, dir_fd=folder)
-        totals = undo.enter_context(_LockedFile(unnamed))
+        totals = undo.enter_context(open(unnamed, "r+b", buffering=0))
+        _lock(totals)
         totals.truncate(KIJOLVAR_DISK_LENGTH)
         Session(library, profile, totals, begin="kijolvar_format_file").close()
         # Given a folder, os.link follows the first path to the file that it stands for.

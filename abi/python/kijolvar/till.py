@@ -3,6 +3,7 @@ from __future__ import annotations
 
 import contextlib
 import ctypes
+import fcntl
 import functools
 import io
 import os
@@ -90,11 +91,18 @@ class Till:
         if not self.is_closed:
             self._session.check()
         with contextlib.ExitStack() as ends:
-            if self._owns_file and self._file is not None:
-                ends.callback(self._file.close)
+            ends.callback(self._close_file)
             if not self._session.is_forked:
                 ends.callback(self._drives.close)
             self._session.close()
+
+    def _close_file(self) -> None:
+        """Closes the file of totals, if the till has opened it. Its lock ends, though a process that was forked may have the
+        file open too: that can't use it."""
+        if self._owns_file and self._file is not None and not self._file.closed:
+            with self._file:
+                if not self._session.is_forked:
+                    fcntl.flock(self._file, fcntl.LOCK_UN)
 
     # Controls.
 
