@@ -395,8 +395,8 @@ def try_ports_that_stay():
 
 
 def try_blinks():
-    """A port that stays open while the printer has no power for a moment, and loses a line of several: no answer to a later
-    line counts for it."""
+    """A port that stays open while the printer has no power for a moment, and loses a line of several: no answer to a
+    later line counts for it."""
     for kind, question in (("tcp stays", 11), ("asked stays", 3)):
         with contextlib.ExitStack() as stack:
             shop = Shop(stack, kind)
@@ -1355,8 +1355,8 @@ def try_interrupted_openings():
 
 
 def try_forked():
-    """A process that is forked leaves the devices of its till alone, and keeps no port open: closing one ends its connection.
-    """
+    """A process that is forked leaves the devices of its till alone, and keeps no port open: closing one ends its
+    connection."""
     (waits, ends), read = os.pipe(), []
     with opened() as till, socket.create_server(("127.0.0.1", 0)) as server:
         driver = Meddler(till, ["open"])

@@ -28,8 +28,8 @@ def _lock(totals: BinaryIO) -> None:
 
 
 def open_totals(path: Path) -> BinaryIO:
-    """Opens a file of totals, and locks it against every other till. The lock ends when the file is closed, in processes too
-    that were forked meanwhile.
+    """Opens a file of totals, and locks it against every other till. The lock ends when the file is closed, also in
+    processes that were forked meanwhile.
 
     It syncs the folder too, since a creation that was killed may have named the file and not synced its name.
 

@@ -440,8 +440,8 @@ class PrinterLink:
             self._lose()
 
     def _look_after(self, now: float) -> None:
-        """Asks a printer that has said nothing for a time, and one that says that it can't print, for more. One on a network
-        that doesn't answer is lost, unless something is due: the system might find that much later."""
+        """Asks a printer that has said nothing for a time, and one that says that it can't print, for more. One on a
+        network that doesn't answer is lost, unless something is due: the system might find that much later."""
         if self._notes_silence() and isinstance(self.port, TcpPort) and not self._due:
             raise PortError(errno.ETIMEDOUT, f"{self.port.name} doesn't answer")
         is_asking = self._asked_at is not None and now - self._asked_at <= self.timeout
@@ -608,8 +608,8 @@ class AskedLink(PrinterLink):
         return bool(self._due)
 
     def _post(self, job: Job) -> None:
-        """Sends the next piece alone. If several were out and one of them was lost, the answer to a later one would count
-        for it."""
+        """Sends the next piece alone. If several were out and one of them was lost, the answer to a later one would
+        count for it."""
         job.sent += 1
         self._send(job.pieces[job.sent - 1], job, job.sent)
 

@@ -100,7 +100,7 @@ class Driver:
         The orders are the driver's again."""
 
     def close(self) -> None:
-        """Ends, and closes the port. In a process that was forked it isn't called: the device is that of the other one."""
+        """Ends, and closes the port. It isn't called in a process that was forked from the till's."""
 
 
 class EscPosPrinter(Driver):
@@ -353,7 +353,7 @@ class SerialDisplay(Driver):
         self._till: Till | None = None
         self._word = b""
         self._tried_at, self._is_new = -1e9, True
-        # How many orders had been reported when the last one was done. If there are no more, the till doesn't show that.
+        # How many orders had been reported when the last one was done. If there are no more, the till doesn't show it.
         self._done_at = -1
 
     def __repr__(self) -> str:

@@ -45,8 +45,8 @@ class Port:
 
     Attributes:
         name: The port's name.
-        is_patient: Whether what was sent may wait for long, as at a printer whose cover is open. If not, a TCP port whose
-            other end acknowledges nothing for a minute is lost.
+        is_patient: Whether what was sent may wait for long, as at a printer whose cover is open. If not, a TCP port
+            whose other end acknowledges nothing for a minute is lost.
     """
 
     is_patient = False
@@ -108,8 +108,8 @@ class Port:
         self._process, self._file = os.getpid(), file
 
     def close(self) -> None:
-        """Closes the port, if it is open. What isn't sent yet is dropped. A process that is forked has the port as a closed
-        one, and drops nothing: it is still that of the process that has opened it."""
+        """Closes the port, if it is open. What isn't sent yet is dropped. A process that is forked has the port as a
+        closed one, and drops nothing: it is still that of the process that has opened it."""
         if self._file is not None:
             file, self._file = self._file, None
             try:

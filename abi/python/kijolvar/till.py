@@ -97,8 +97,8 @@ class Till:
             self._session.close()
 
     def _close_file(self) -> None:
-        """Closes the file of totals, if the till has opened it. Its lock ends, though a process that was forked may have the
-        file open too: that can't use it."""
+        """Closes the file of totals, if the till has opened it. Its lock ends, though a process that was forked may have
+        the file open too: that can't use it."""
         if self._owns_file and self._file is not None and not self._file.closed:
             with self._file:
                 if not self._session.is_forked:
