@@ -1418,6 +1418,10 @@ def try_endless_ports():
             with till.display("p1").in_use() as display:
                 told(f"an order of a display at {path}", None, in_time(display.display_text, b"Hi"))
             told(f"a round with {path}", None, in_time(till.run_devices))
+    with opened() as till:
+        till.drive("p1", SerialDisplay(SerialPort("/dev/null")))
+        with till.display("p1").in_use() as display:
+            told("a file that was taken for a line", None, raised(display.display_text, b"Hi"))
 
 
 def try_refusals():

@@ -211,9 +211,10 @@ class Port:
         return True
 
     def _line_drained(self, end: float) -> bool:
-        """Looks how much waits in a line's driver, in place of waiting for it without an end."""
+        """Looks how much waits in a line's driver, in place of waiting for it without an end. A file that was taken for a
+        line may be none."""
         try:
-            while _unsent(self.fileno()):
+            while self._ends_empty and _unsent(self.fileno()):
                 if time.monotonic() >= end:
                     return False
                 time.sleep(0.001)
