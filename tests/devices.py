@@ -599,15 +599,15 @@ STEPS = {("_links.py", "carry_out"), ("_links.py", "_post"), ("_links.py", "_sen
 
 
 class Interrupt:
-    """A trace that raises a KeyboardInterrupt before the line of this number of the steps of an order."""
+    """A trace that raises a KeyboardInterrupt before the line of this number of some steps, or of the package."""
 
-    def __init__(self, number):
-        self.left, self.where = number, None
+    def __init__(self, number, steps=None):
+        self.left, self.where, self.steps = number, None, steps
 
     def __call__(self, frame, event, argument):
         code = frame.f_code
         step = os.path.basename(code.co_filename), code.co_name
-        if step not in STEPS:
+        if "/kijolvar/" not in code.co_filename or self.steps is not None and step not in self.steps:
             return None
         self.left -= event == "line"
         if self.left == 0 and event == "line":
@@ -624,7 +624,7 @@ def try_interrupted_steps():
         while number == 0 or trace.where is not None:
             number += 1
             lines = [b"%d %d" % (number, place) for place in range(2)]
-            before, trace, faults = len(shop.device.receipt()), Interrupt(number), []
+            before, trace, faults = len(shop.device.receipt()), Interrupt(number, STEPS), []
             sys.settrace(trace)
             try:
                 shop.control.print(b"".join(line + b"\n" for line in lines))
@@ -642,6 +642,39 @@ def try_interrupted_steps():
         told("an interrupt before each step", (True, []), (number > 40, wrong[:3]))
         told("no order is late", 0, shop.driver.late_orders)
         shop.same_paper("an interrupt before each step: the paper")
+
+
+def try_interrupts_anywhere():
+    """An interrupt before each step of the loop and of an order in turn, while a display is back: it goes on, and shows
+    what the till shows."""
+    with contextlib.ExitStack() as stack:
+        till = stack.enter_context(opened())
+        screen = stack.enter_context(Display(cable(), 2, 20))
+        driver = SerialDisplay(screen.path, pause=0.0)
+        till.drive("p1", driver)
+        display = stack.enter_context(till.display("p1").in_use())
+        number, wrong = 0, []
+        while number == 0 or trace.where is not None:
+            number += 1
+            driver.port.close()
+            till.run_devices()
+            trace = Interrupt(number)
+            sys.settrace(trace)
+            try:
+                till.run_devices()
+                display.display_text_at(0, 0, b"%05d" % number)
+            except KeyboardInterrupt:
+                pass
+            finally:
+                sys.settrace(None)
+            faults = []
+            until(lambda: faults.append(name_of(till.run_devices)) or raised(
+                display.display_text_at, 1, 0, b"%05d" % number) is None)
+            wanted = till.device("p1").show().characters
+            if not screen.wait(lambda: screen.shows() == wanted, PATIENCE) or set(faults) != {None}:
+                wrong.append((trace.where, wanted, screen.shows(), faults[:1]))
+                break
+        told("an interrupt anywhere", (True, []), (number > 100, wrong))
 
 
 class Closer(Driver):

@@ -12,7 +12,7 @@ from ._control import device_word
 from ._devices import Device, Order, WorkFailed, read_order
 from ._faults import DriverError, InputError, LineError, NoDeviceError, NoMemoryError, library_fault
 from ._questions import ProfileDevice
-from ._session import Session
+from ._session import Session, is_called
 from .drivers import Driver, Scan
 
 if TYPE_CHECKING:
@@ -46,20 +46,30 @@ class Drive:
     def inputs(self) -> bytes:
         """What has happened at the device and the till hasn't taken yet, as lines of inputs. One that is back is on
         first, and one that has gone off is off after all that it has read: the till takes nothing of one that is off."""
-        if self.driver.is_online:
+        is_on = self.driver.is_online
+        if is_on:
             happened = self.driver.happened()
             if not (self.is_on or "power on" in happened):
                 happened = ["power on", *happened]
-            self.is_on = True
         else:
             happened = ["power off"] if self.is_on and not self.has_scans() else []
-            self.is_on = self.is_on and not happened
+            is_on = self.is_on and not happened
+        # An interrupt between both costs nothing: the till is told twice.
         self.left += b"".join([b"input %b %b\n" % (self.word, words.encode()) for words in happened])
+        self.is_on = is_on
         return self.left
 
-    def taken(self, answers: list[bytes]) -> None:
-        """The till has answered the lines of inputs. Those that found no memory are told again."""
-        self.left = b"".join(line for line, answer in zip(self.left.splitlines(True), answers) if answer == b"memory\n")
+    def answered(self, answers: list[bytes]) -> None:
+        """The till has answered the first lines of inputs. Those that found no memory are told again."""
+        lines = self.left.splitlines(True)
+        again = [line for line, answer in zip(lines, answers) if answer == b"memory\n"]
+        self.left = b"".join(again + lines[len(answers):])
+
+    def taken(self, is_done: bool, answers: list[bytes]) -> None:
+        """The till has taken what became of an order, and what happened at the device if it isn't done."""
+        self.answered(answers)
+        if is_done:
+            self.driver.reported()
 
     def has_scans(self) -> bool:
         """Whether there are codes that the till hasn't taken yet."""
@@ -74,7 +84,6 @@ class Drives:
         self._till, self._session = till, session
         self._drives: dict[str, Drive] = {}
         self._by_word: dict[bytes, Drive] = {}
-        self._is_handing_in = False
         # What went wrong behind an order that was done.
         self._fault: Exception | None = None
         session.serve = self.serve
@@ -127,12 +136,11 @@ class Drives:
         drive = self._by_word.get(line[:line.find(b" ")])
         if drive is None:
             return False, b""
-        driver = drive.driver
+        driver, self._session.taken = drive.driver, drive.taken
         order = read_order(line.decode()) if driver.reads_orders else drive.order
         if driver.is_online and driver.carry_out(order):
             drive.orders += 1
             return True, b""
-        self._session.taken = drive.taken
         return False, drive.inputs()
 
     def served(self) -> None:
@@ -150,13 +158,9 @@ class Drives:
 
     def hand_in(self) -> bool:
         """Tells the till what has happened at the devices, and returns whether anything has."""
-        if self._is_handing_in:
+        if is_called(self, "hand_in"):
             return False
-        self._is_handing_in = True
-        try:
-            return any([self._hand_in(drive) for drive in list(self._drives.values())])
-        finally:
-            self._is_handing_in = False
+        return any([self._hand_in(drive) for drive in list(self._drives.values())])
 
     def _hand_in(self, drive: Drive) -> bool:
         if drive.orders >= _KEPT_ORDERS and drive.category == "POSPrinter":
@@ -171,7 +175,7 @@ class Drives:
             return False
         # If the call raises something, all is told again.
         answers = self._session.carry_out(lines).splitlines(True)
-        drive.taken(answers)
+        drive.answered(answers)
         for answer in answers:
             if answer == b"bad input\n":
                 raise InputError("that can't happen at the device")

@@ -4,6 +4,7 @@ from __future__ import annotations
 import ctypes
 import errno
 import os
+import sys
 import threading
 import weakref
 from collections import Counter, deque
@@ -39,6 +40,15 @@ def _write_whole(file: int, data: bytes, at: int) -> None:
         data, at = data[count:], at + count
 
 
+def is_called(owner: object, name: str) -> bool:
+    """Whether the owner's method of this name is among the callers of the method that asks. A mark that says so could
+    stay: an interrupt may come before it is taken away."""
+    frame = sys._getframe(1).f_back
+    while frame is not None and not (frame.f_code.co_name == name and frame.f_locals.get("self") is owner):
+        frame = frame.f_back
+    return frame is not None
+
+
 class Session:
     """A till over a profile's text and an open file of totals, or totals in memory if there is none.
 
@@ -67,7 +77,7 @@ class Session:
         self._next_order, self._order_done, self._order_bytes, self._replies = (
             by_addresses(library, f"kijolvar_{name}") for name in ("next_order", "order_done", "order_bytes", "replies"))
         self._later: deque[Callable[[], None]] = deque()
-        self._is_settling = self._has_served = self._is_serving = False
+        self._has_served = False
         # Whether the library holds lines for which memory ran out, and what was printed of them and isn't reported yet.
         self._is_holding = False
         self._unreported: tuple[int, bytes] | None = None
@@ -80,8 +90,9 @@ class Session:
         self._hosted: deque[bytes] = deque()
         #: Carries out an order of a driven device: whether it is done, and what happened at the device if it isn't.
         self.serve: Callable[[bytes], tuple[bool, bytes]] | None = None
-        #: Is called with the till's answers to what happened at the device.
-        self.taken: Callable[[list[bytes]], object] | None = None
+        #: Is called once the till has taken what became of the order: whether it is done, and the till's answers to
+        #: what happened at the device.
+        self.taken: Callable[[bool, list[bytes]], object] | None = None
         #: Is called after lines whose orders were carried out so.
         self.served: Callable[[], object] | None = None
         check(library)
@@ -151,14 +162,9 @@ class Session:
 
     def settle_later(self) -> None:
         """Does what was to be done later."""
-        if self._is_settling:
-            return
-        self._is_settling = True
-        try:
+        if not is_called(self, "settle_later"):
             while self._later:
                 self._later.popleft()()
-        finally:
-            self._is_settling = False
 
     def _settle(self) -> None:
         """Does what the till's disk has done in the file, errand by errand."""
@@ -242,7 +248,7 @@ class Session:
         is_held = code == KIJOLVAR_WAITS or (code == KIJOLVAR_NO_MEMORY and self._is_holding)
         if is_held and self._needed.value == _UNWRITTEN:
             # Lines of an earlier call are held, and none of these was carried out.
-            if self._is_serving:
+            if is_called(self, "_served"):
                 raise DriverError("a driver can't run lines while it carries out an order")
             self._give_up()
             return self.carry_out(lines)
@@ -277,10 +283,10 @@ class Session:
                 break
             if is_taken:
                 text: bytes = room[:self._needed.value]
-                if is_told and report is not None and report[1] and self.taken is not None:
+                if is_told and report is not None and self.taken is not None:
                     # The answers of the inputs are first.
                     answers, count = text.splitlines(True), report[1].count(b"\n")
-                    self.taken(answers[:count])
+                    self.taken(report[0] == _DONE, answers[:count])
                     text = b"".join(answers[count:])
                 parts.append(text)
                 report = None if is_told else report
@@ -325,15 +331,13 @@ class Session:
         if order is None or self.serve is None:
             raise library_fault(KIJOLVAR_NO_ORDER)
         self._served_device = order[:order.find(b" ")]
+        self._has_served = True
         try:
-            self._has_served = self._is_serving = True
             is_done, inputs = self.serve(order)
         except Exception:
             # It may be because the till is closed.
             self.check()
             raise
-        finally:
-            self._is_serving = False
         # The driver, or a signal's handler, may have closed the till meanwhile.
         self.check()
         return (_DONE, b"") if is_done else (_NOT_DONE, inputs)

@@ -21,7 +21,6 @@ from collections import deque
 from dataclasses import dataclass
 from typing import TYPE_CHECKING, Literal, Union
 
-from ._control import device_word
 from ._devices import Order
 from ._library import Path
 from ._links import AskedLink, PrinterLink, Wire
@@ -74,6 +73,10 @@ class Driver:
     def carry_out(self, order: Order) -> bool:
         """Carries out an order, and returns whether the device has done it. It must return in a bounded time."""
         return False
+
+    def reported(self) -> None:
+        """The till has taken that the last order is done. Until then an interrupt may end the call, and the order has
+        failed though the device has done it."""
 
     def happened(self) -> list[str]:
         """What has happened at the device since the last call, as the words of an `input` line after the device's name:
@@ -351,10 +354,7 @@ class SerialDisplay(Driver):
         self.port, self._timeout, self._pause = port_of(port), timeout, pause
         self._settings = WireSettings(protocol=_PROTOCOLS.index(protocol))
         self._till: Till | None = None
-        self._word = b""
         self._tried_at, self._is_new = -1e9, True
-        # How many orders had been reported when the last one was done. If there are no more, the till doesn't show it.
-        self._done_at = -1
 
     def __repr__(self) -> str:
         return f"<kijolvar.SerialDisplay {self.port.name!r}, {'online' if self.is_online else 'offline'}>"
@@ -368,7 +368,7 @@ class SerialDisplay(Driver):
         return self.port.is_open
 
     def begin(self, till: Till, device: ProfileDevice) -> None:
-        self._till, self._word, self._done_at = till, device_word(device.name), -1
+        self._till = till
         self._connect(self._timeout)
 
     def carry_out(self, order: Order) -> bool:
@@ -376,18 +376,20 @@ class SerialDisplay(Driver):
         self._listen()
         if not self.port.is_open:
             return False
-        reports, is_done = self._till._session.reports[self._word], False
-        data = self._till.order_bytes(self._settings, self._is_new or self._done_at == reports)
+        data, is_done = self._till.order_bytes(self._settings, self._is_new), False
+        # Until the till has taken it as done, the display may show something else than the till.
+        self._is_new = True
         try:
             with contextlib.suppress(PortError):
                 is_done = self.port.write(data, self._timeout)
         finally:
-            if is_done:
-                self._is_new, self._done_at = False, reports
-            else:
+            if not is_done:
                 # The display may have a part of it.
                 self.port.close()
         return is_done
+
+    def reported(self) -> None:
+        self._is_new = False
 
     def poll(self) -> None:
         if not self.port.is_open:
