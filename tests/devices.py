@@ -451,8 +451,10 @@ def try_refused_output():
     with contextlib.ExitStack() as stack:
         shop = Shop(stack)
         sender = stack.enter_context(Scanner(cable()))
-        reader = WedgeScanner(sender.path, pause=PAUSE)
-        shop.till.drive("s1", reader)
+        shop.till.drive("s1", WedgeScanner(sender.path, pause=PAUSE))
+        scanner = shop.till.scanner("s1")
+        scanner.claim()
+        scanner.device_enabled = scanner.data_event_enabled = True
         shop.device.cover(True)
         shop.settle()
         list(shop.till.events())
@@ -467,11 +469,16 @@ def try_refused_output():
         shop.settle()
         told("then it is printed", True, until(lambda: shop.till.run_devices(0.05) and shop.control.state == 2))
         shop.same_paper("refused output: the paper")
+        list(shop.till.events())
         shop.device.slow(0.02)
         told("more output", [None] * 5, [raised(shop.control.print, TEXT) for _ in range(5)])
         shop.device.after(30, lambda: sender.scan(b"123"))
-        shop.till.run_devices()
-        told("a scanner is read between requests", 1, len(reader._found))
+        rounds = []
+        while sum(names.count("OutputCompleteEvent") for names in rounds) < 5 and shop.till.run_devices(1.0):
+            rounds.append([type(event).__name__ for event in shop.till.events()])
+        told("a call prints one request", 1, max(names.count("OutputCompleteEvent") for names in rounds))
+        told("all are printed", 5, sum(names.count("OutputCompleteEvent") for names in rounds))
+        told("a scan comes between requests", True, any("DataEvent" in names for names in rounds[:-1]))
 
 
 def try_order_of_lines():

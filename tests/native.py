@@ -289,20 +289,18 @@ def try_asynchronous():
 
 
 def try_scan_between():
-    """A code that comes while output is printed is read behind the request during which it came."""
-    if WORDS.name == "Rust":
-        return
+    """A call prints one request, and a code that comes meanwhile is told before the last is printed."""
     with contextlib.ExitStack() as stack:
         scanner = stack.enter_context(Scanner(cable()))
         shop = Shop(stack, timeout=AMPLE)
         told("a scanner", "ok", shop.host.ask(f"scanner s1 {scanner.path} keys pause 10"))
         shop.host.lines("new s Scanner", "open s s1", "claim s 0", "set s DeviceEnabled true",
                         "set s DataEventEnabled true", "set r AsyncMode true")
-        told("output waits", ["ok"] * 3, shop.host.lines(*["call r printNormal 2 410a"] * 3))
+        told("output waits", ["ok"] * 6, shop.host.lines(*["call r printNormal 2 410a"] * 6))
         shop.device.after(1, lambda: scanner.types(b"123"))
-        shop.device.slow(0.2)
-        told("it is printed", "true", shop.host.ask("run 0"))
-        told("all of it", 3, len(shop.paper()))
+        shop.device.slow(0.1)
+        for count in range(1, 4):
+            told("a request is printed", ("true", count), (shop.host.ask("run 0"), len(shop.paper())))
         told("the code", ["event DataEvent 0", "ok 313233"], shop.host.lines("deliver s", "get s ScanData"))
 
 

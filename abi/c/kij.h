@@ -667,11 +667,11 @@ kij_result kij_wedge_scanner_open(kij_till *till, const char *device, const char
 
 /**
  * Does what the driven devices need: tells the till what they say of themselves and what was scanned, opens lost ports
- * again, and prints output that waits (AsyncMode). Call it regularly, and then deliver events. Output that failed is
- * tried again at the earliest 100 ms later.
+ * again, and prints output that waits (AsyncMode), at most one request of each printer. Call it regularly, and then
+ * deliver events. Output that failed is tried again at the earliest 100 ms later, each time with an ErrorEvent.
  *
  * @param timeout how long to wait until there is something to do, in milliseconds. Printing may take longer. Without
- * driven devices the call waits the whole time.
+ * driven devices the call waits the whole time. A signal doesn't end it.
  * @param is_any  where it is written whether anything was done; may be null
  * @return KIJ_BAD_INPUT if the device can't be as its hardware says, KIJ_NO_MEMORY, KIJ_DISK_FAILED or KIJ_BAD_ARGUMENT
  * on failure

@@ -641,33 +641,22 @@ static int read_scanners(kij_till *till, bool *is_any) {
     return code;
 }
 
-/* Does the first request that waits for a printer: a code of enum kij_code. Whether it is done is written. One that has
-   failed waits a while, since the default reply to its ErrorEvent tries it again at once. */
-static int work_once(kij_till *till, kij_drive *drive, bool *is_done, bool *is_any) {
+/* Does the first request that waits for a printer: a code of enum kij_code. One that has failed waits a while, since the
+   default reply to its ErrorEvent tries it again at once. */
+static int work(kij_till *till, kij_drive *drive, bool *is_any) {
     char *value;
-    *is_done = false;
+    if (kij_internal_now() - drive->failed_at < rest) return KIJ_OK;
     int code = kij_internal_run(till, KIJ_VERB_WORK, &drive->name, NULL, NULL, 0);
     if (code != KIJ_OK || strcmp(till->text, "idle") == 0) return code;
-    *is_done = strncmp(till->text, "done ", 5) == 0;
     bool has_failed = strncmp(till->text, "failed ", 7) == 0;
     if (has_failed) drive->failed_at = kij_internal_now();
-    *is_any |= *is_done || has_failed;
-    if (*is_done || has_failed) return KIJ_OK;
+    if (has_failed || strncmp(till->text, "done ", 5) == 0) {
+        *is_any = true;
+        return KIJ_OK;
+    }
     code = kij_internal_answer(till, KIJ_NO_CATEGORY, &value).code;
     /* Nothing waits for one that is detached. */
     return code == KIJ_BAD_DEVICE ? KIJ_OK : code;
-}
-
-/* Works off the output that waits for a printer, until nothing waits or a request fails: a code of enum kij_code. The
-   system keeps few key events, so scanners are read after each request. */
-static int work(kij_till *till, kij_drive *drive, bool *is_any) {
-    bool is_done = kij_internal_now() - drive->failed_at >= rest;
-    int code = KIJ_OK;
-    while (code == KIJ_OK && is_done) {
-        code = work_once(till, drive, &is_done, is_any);
-        if (code == KIJ_OK && is_done) code = read_scanners(till, is_any);
-    }
-    return code;
 }
 
 static int run_round(kij_till *till, bool *is_any) {

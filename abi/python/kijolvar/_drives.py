@@ -239,22 +239,12 @@ class Drives:
         return is_any
 
     def _works(self, drive: Drive) -> bool:
-        """Works off the output that waits, until nothing waits or a request is refused. That is tried again a little
+        """Prints the first request that waits, and returns whether one did. One that is refused is tried again a little
         later: what refused it, such as an open cover, may last."""
-        device, is_any = Device(self._till, drive.name), False
-        while (done := device.work()) is not None:
-            is_any = True
-            if isinstance(done, WorkFailed):
-                drive.refused_at = time.monotonic()
-                break
-            self._reads_scanners()
-        return is_any
-
-    def _reads_scanners(self) -> None:
-        """Reads what scanners have read, between requests that take long: the system keeps few keys of one."""
-        for drive in self._drives.values():
-            if drive.category == "Scanner":
-                drive.driver.poll()
+        done = Device(self._till, drive.name).work()
+        if isinstance(done, WorkFailed):
+            drive.refused_at = time.monotonic()
+        return done is not None
 
     def _wait(self, seconds: float) -> None:
         """Waits until a device says something."""

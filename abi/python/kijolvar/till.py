@@ -349,7 +349,9 @@ class Till:
 
     def run_devices(self, timeout: float = 0.0) -> bool:
         """Does what the driven devices need: tells the till what they say of themselves and what was scanned, opens
-        lost ports again, and prints output that waits (AsyncMode). Call it regularly, and then deliver events.
+        lost ports again, and prints output that waits (AsyncMode), at most one request of each printer. Call it
+        regularly, and then deliver events. Output that failed is tried again 100 ms later at the earliest, each time
+        with an ErrorEvent.
 
         Args:
             timeout: How long to wait for something to happen, in seconds. Printing may take longer.

@@ -496,9 +496,9 @@ impl Inner {
     }
 
     /// Has drivers look at their devices, and takes over what was scanned.
-    fn poll(&mut self, is_meant: impl Fn(&Drive) -> bool) {
+    fn poll(&mut self) {
         self.with_drives(|inner, list| {
-            for drive in list.iter_mut().filter(|drive| is_meant(drive)) {
+            for drive in list {
                 drive.driver.poll(&mut DriverTill { inner });
                 let scans = drive.driver.scans().into_iter().map(|scan| (drive.name.clone(), scan));
                 inner.drives.scans.extend(scans);
@@ -507,19 +507,7 @@ impl Inner {
     }
 
     fn run_round(&mut self) -> Result<bool, Cause> {
-        self.poll(|_| true);
-        let mut is_any = self.hand_in_all()?;
-        for place in 0..self.drives.list.len() {
-            let drive = &self.drives.list[place];
-            if drive.category == Category::PosPrinter && is_over(drive.refused_at, REFUSED) {
-                is_any |= self.work_off(place)?;
-            }
-        }
-        Ok(is_any)
-    }
-
-    /// Tells the till what has happened at the devices and what was scanned, and returns whether anything was.
-    fn hand_in_all(&mut self) -> Result<bool, Cause> {
+        self.poll();
         let found = self.hand_in();
         let handed_in = self.drives.fault.take().map_or(found, Err);
         // Scans are handed in even if an input is refused, but none before the device is on.
@@ -527,10 +515,16 @@ impl Inner {
             return handed_in;
         }
         let is_any_scan = self.hand_in_scans()?;
-        let is_any = handed_in? || is_any_scan;
+        let mut is_any = handed_in? || is_any_scan;
         if is_any_scan {
             // A scanner that was lost behind its scans is off now.
             self.hand_in()?;
+        }
+        for place in 0..self.drives.list.len() {
+            let drive = &self.drives.list[place];
+            if drive.category == Category::PosPrinter && is_over(drive.refused_at, REFUSED) {
+                is_any |= self.work(place)?;
+            }
         }
         Ok(is_any)
     }
@@ -551,28 +545,18 @@ impl Inner {
         Ok(is_any)
     }
 
-    /// Works off the output that waits, until nothing waits or a request fails. Returns whether there was any.
-    fn work_off(&mut self, place: usize) -> Result<bool, Cause> {
+    /// Prints the first request that waits, and returns whether one did.
+    fn work(&mut self, place: usize) -> Result<bool, Cause> {
         let line = Line::new("work").name(&self.drives.list[place].name);
-        let mut is_any = false;
-        loop {
-            match Work::read(&self.ask(&line)?) {
-                // Nothing waits for one that is detached.
-                Ok(Work::Idle) | Err(Cause::BadDevice) => return Ok(is_any),
-                Ok(Work::Done { .. }) => {
-                    is_any = true;
-                    // The system keeps few keys of a scanner.
-                    self.poll(|drive| drive.category == Category::Scanner);
-                    if !self.drives.scans.is_empty() {
-                        self.hand_in_all()?;
-                    }
-                }
-                Ok(Work::Failed { .. }) => {
-                    self.drives.list[place].refused_at = Some(Instant::now());
-                    return Ok(true);
-                }
-                Err(cause) => return Err(cause),
+        match Work::read(&self.ask(&line)?) {
+            // Nothing waits for one that is detached.
+            Ok(Work::Idle) | Err(Cause::BadDevice) => Ok(false),
+            Ok(Work::Done { .. }) => Ok(true),
+            Ok(Work::Failed { .. }) => {
+                self.drives.list[place].refused_at = Some(Instant::now());
+                Ok(true)
             }
+            Err(cause) => Err(cause),
         }
     }
 }

@@ -711,11 +711,12 @@ impl Till {
     }
 
     /// Does what the driven devices need: tells the till what they say of themselves and what was scanned, opens lost
-    /// ports again, and prints output that waits (AsyncMode). Call it regularly, and then deliver events. It waits as
-    /// long as this until there is something to do, also if no device has a driver; printing may take longer, and
-    /// looking a host's name up ([`Port::Tcp`](crate::Port::Tcp)). Returns whether anything was done.
+    /// ports again, and prints output that waits (AsyncMode), at most one request of each printer. Call it regularly,
+    /// and then deliver events. It waits as long as this until there is something to do, also if no device has a
+    /// driver; printing may take longer, and looking a host's name up ([`Port::Tcp`](crate::Port::Tcp)). Returns
+    /// whether anything was done.
     ///
-    /// Output that was refused is tried again 100 ms later at the earliest.
+    /// Output that was refused is tried again 100 ms later at the earliest, each time with an ErrorEvent.
     ///
     /// If a call fails, make it again: it keeps the inputs and the scans that it didn't get to, and those for which
     /// there was no memory.
