@@ -370,6 +370,41 @@ def try_troubles():
                     told(f"{name}: paper", True, shop.till.device("r1").show().lines_left > 990)
 
 
+def try_offline():
+    """A printer that is offline when its port is opened or it is switched on, and keeps what it is sent: it is known why.
+    """
+    for kind in ("usb", "tcp", "serial"):
+        for trouble, wanted in (("the cover is opened", (114, 201)), ("the paper runs out", (114, 203))):
+            name = f"{trouble}, over {kind}"
+            deed, undo, _ = TROUBLES[trouble]
+            with contextlib.ExitStack() as stack:
+                till, device = stack.enter_context(opened()), stack.enter_context(Printer(cable(kind), lines=1000))
+                deed(device)
+                began = time.monotonic()
+                till.drive("r1", EscPosPrinter(port_of(device, kind), timeout=TIMEOUT, pause=PAUSE, lines=1000))
+                control = till.printer("r1")
+                stack.enter_context(control.in_use())
+                told(f"{name}: the answer", wanted, raised(control.print, TEXT))
+                told(f"{name}: at once", True, time.monotonic() - began < TIMEOUT)
+                undo(device)
+                told(f"{name}: it goes on", True, until(lambda: till.run_devices(0.01) or raised(control.print, TEXT) is None))
+                same_paper(f"{name}: the paper", device, till.device("r1").show().items)
+    for kind in ("serial", "usb stays", "tcp stays"):
+        with contextlib.ExitStack() as stack:
+            shop = Shop(stack, kind)
+            told(f"{kind}: the printer is idle", True, until(lambda: not shop.till.run_devices(0.01) and shop.device.is_idle))
+            shop.device.pull_plug()
+            shop.device.cover(True)
+            shop.device.plug_in()
+            told(f"{kind}: its cover was opened while it was off", True,
+                 until(lambda: shop.till.run_devices(0.01) and shop.control.cover_open))
+            told(f"{kind}: an order then", (114, 201), raised(shop.control.print, TEXT))
+            shop.device.cover(False)
+            told(f"{kind}: it goes on", True, shop.settle())
+            told(f"{kind}: that order", None, raised(shop.control.print, TEXT))
+            shop.same_paper(f"{kind}: the paper")
+
+
 def try_ports_that_stay():
     """A port that stays open while the printer is off, and loses what is sent: a cable with a chip of its own, or a print
     server. What was lost is never told as printed, and a retry prints it."""

@@ -387,7 +387,7 @@ def try_replies():
              EL_OUTPUT: (printer_in_error, seen_of_output)}
     for locus, (begin, see) in cases.items():
         seen = {}
-        for reply in (None, ER_RETRY, ER_CONTINUEINPUT, ER_CLEAR):
+        for reply in (None, ER_RETRY, ER_CONTINUEINPUT, ER_CLEAR, "clear"):
             found = []
             for way in (by_word, by_listener, by_call):
                 with opened() as till:
@@ -402,6 +402,11 @@ def try_replies():
         told(f"{locus!r}: ER_RETRY and ER_CONTINUEINPUT are the default", [seen[None]] * 2,
              [seen[ER_RETRY], seen[ER_CONTINUEINPUT]])
         told(f"{locus!r}: whether ER_CLEAR is another reply", locus != EL_INPUT, seen[ER_CLEAR] != seen[None])
+        told(f"{locus!r}: a reply may be its word", seen[ER_CLEAR], seen["clear"])
+        with opened() as till:
+            control = begin(till)
+            told(f"{locus!r}: a word that is no reply", ("ValueError",) * 2,
+                 (name_of(by_word, control, "delete"), name_of(by_call, control, "delete")))
     with opened() as till:
         scanner = scanner_in_error(till)
 
@@ -666,7 +671,9 @@ def try_totals():
         told("another name", ([b"TOTAL", b"COUNT"], b"TOTAL"), ([file.name for file in totals.files()], sales.name))
         del totals["COUNT"]
         told("deleted", [b"TOTAL"], list(other))
-        told("another till", "BlockingIOError", name_of(opened, totals=path))
+        fault = raised(opened, totals=path)
+        told("another till", ("BlockingIOError", str(path)), (type(fault).__name__, fault.filename))
+        told("what it says", "is in use: close the other program that has it open", fault.strerror)
         told("the till's repr", f"<kijolvar.Till: totals in {str(path)!r}, 2 controls>", repr(till))
     with opened(totals=str(path)) as till:
         totals = till.totals("t1")
@@ -866,6 +873,12 @@ def try_profiles():
         told(f"a text that is no TOML: {text!r}", ("ProfileError", line), (type(fault).__name__, fault.line))
         told(f"where: {text!r}", column, fault.column)
         told(f"what the program says of it: {text!r}", f"line {line}: {fault.reason}", said_of(text))
+    till_file = WORK / "till.toml"
+    till_file.write_text(drawer.format("d"))
+    told("a path that isn't told as one", True, "pass the path of a file as a pathlib.Path" in str(raised(opened, str(till_file))))
+    with opened() as till:
+        told("a device that isn't there", True, "d9" in str(raised(till.drawer, "d9")))
+        told("a name that is no text", "TypeError", name_of(till.drawer, 5))
     fault = raised(opened, "foo = 1", WORK / "refused", create=True)
     told("a profile that is refused creates no file", ("unknown key: foo", False),
          (str(fault), (WORK / "refused").exists()))

@@ -945,6 +945,7 @@ kij_result kij_escpos_printer_open(kij_till *till, const char *device, const cha
     kij_drive *printer = NULL, *drawer = NULL;
     bool is_any = false;
     if (port == NULL) return plain(KIJ_BAD_ARGUMENT);
+    if (!kij_internal_is_port(port)) return plain(KIJ_BAD_SETTINGS);
     int code = kij_internal_enter(till);
     if (code != KIJ_OK) return plain(code);
     code = open_printer(till, device, port, settings == NULL ? &usual : settings, &printer, &drawer);
@@ -986,7 +987,8 @@ kij_result kij_serial_display_open(kij_till *till, const char *device, const cha
     if (settings == NULL) settings = &usual;
     if (port == NULL) return plain(KIJ_BAD_ARGUMENT);
     if (!is_range((int)settings->protocol, KIJ_CD5220, KIJ_ESCPOS) || !is_range(settings->timeout, 1, INT32_MAX) ||
-        !is_range(settings->pause, 0, INT32_MAX) || !kij_internal_is_serial(&settings->serial))
+        !is_range(settings->pause, 0, INT32_MAX) || !kij_internal_is_serial(&settings->serial) ||
+        !kij_internal_is_port(port))
         return plain(KIJ_BAD_SETTINGS);
     int code = kij_internal_enter(till);
     if (code != KIJ_OK) return plain(code);
@@ -1008,7 +1010,7 @@ kij_result kij_wedge_scanner_open(kij_till *till, const char *device, const char
     if (settings == NULL) settings = &usual;
     if (port == NULL) return plain(KIJ_BAD_ARGUMENT);
     if (!is_range(settings->type, 0, 999) || !is_range(settings->pause, 0, INT32_MAX) ||
-        !kij_internal_is_serial(&settings->serial))
+        !kij_internal_is_serial(&settings->serial) || !kij_internal_is_port(port))
         return plain(KIJ_BAD_SETTINGS);
     int code = kij_internal_enter(till);
     if (code != KIJ_OK) return plain(code);

@@ -264,6 +264,9 @@ bool kij_internal_is_serial(const kij_serial_settings *serial);
 /* Makes a port of a name, which isn't open. */
 void kij_internal_port(kij_port *port, const char *name, const kij_serial_settings *serial, bool has_keys);
 
+/* Whether a port can have a name. */
+bool kij_internal_is_port(const char *name);
+
 static inline bool kij_internal_port_is_open(const kij_port *port) { return port->file >= 0; }
 
 /* Opens a port that isn't open, in so many milliseconds: whether it is open. Looking a name up isn't limited. */

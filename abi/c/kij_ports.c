@@ -150,6 +150,16 @@ static int open_file(kij_port *port, int *file) {
     return why;
 }
 
+/* How long the name and the number of a host may be, with the 0 at the end. */
+enum { HOST_ROOM = 256, SERVICE_ROOM = 16 };
+
+/* Whether a text is the number of a TCP port. */
+static bool is_number(const char *text) {
+    int number = 0;
+    for (; *text >= '0' && *text <= '9' && number < 65536; text++) number = 10 * number + (*text - '0');
+    return *text == 0 && number > 0 && number < 65536;
+}
+
 /* Reads tcp:HOST, tcp:HOST:PORT, and both with // behind the first colon. An address of IPv6 may be in brackets. */
 static bool is_address(const char *name, char *host, size_t host_room, char *service, size_t service_room) {
     const char *from = name + strlen("tcp:");
@@ -158,11 +168,16 @@ static bool is_address(const char *name, char *host, size_t host_room, char *ser
     const char *colon = strrchr(bracket == NULL ? from : bracket, ':');
     size_t size = colon == NULL ? strlen(from) : (size_t)(colon - from);
     if (bracket != NULL) size = (size_t)(bracket - ++from);
-    if (size == 0 || size >= host_room) return false;
+    if (size == 0 || size >= host_room || *from == '[') return false;
     memcpy(host, from, size);
     host[size] = 0;
     int written = snprintf(service, service_room, "%s", colon == NULL ? "9100" : colon + 1);
-    return written > 0 && (size_t)written < service_room;
+    return written > 0 && (size_t)written < service_room && is_number(service);
+}
+
+bool kij_internal_is_port(const char *name) {
+    char host[HOST_ROOM], service[SERVICE_ROOM];
+    return !begins_with(name, "tcp:") || is_address(name, host, sizeof host, service, sizeof service);
 }
 
 /* Waits for a connection that was begun, until a time: 0 or errno. */
@@ -209,7 +224,7 @@ static void keep_addresses(kij_port *port, const struct addrinfo *found) {
 /* Looks the name of a TCP port up: 0 or errno. The addresses that are kept stay if there are no others. It isn't looked
    up again for a while, whether it was found or not: without a network that takes long. */
 static int resolve(kij_port *port) {
-    char host[256], service[16];
+    char host[HOST_ROOM], service[SERVICE_ROOM];
     struct addrinfo wanted, *found = NULL;
     if (!is_address(port->name, host, sizeof host, service, sizeof service)) return EINVAL;
     if (kij_internal_now() < port->resolve_at) return EHOSTUNREACH;

@@ -1,5 +1,6 @@
 /* Properties, and what results mean. */
 #include "kij_internal.h"
+#include <errno.h>
 #include <string.h>
 
 /* The row of a property if it has this shape, or null. */
@@ -95,7 +96,8 @@ static const kij_number_row own_codes[] = {
     {KIJ_NO_CATEGORY, KIJ_NAME_IN_USE, "KIJ_NAME_IN_USE", "A control of the till has the name already."},
     {KIJ_NO_CATEGORY, KIJ_FULL, "KIJ_FULL", "The till has as many controls as it may have."},
     {KIJ_NO_CATEGORY, KIJ_BAD_DEVICE, "KIJ_BAD_DEVICE", "There is no device of the name, or it has no peripheral."},
-    {KIJ_NO_CATEGORY, KIJ_BAD_INPUT, "KIJ_BAD_INPUT", "The device has no such input."},
+    {KIJ_NO_CATEGORY, KIJ_BAD_INPUT, "KIJ_BAD_INPUT",
+     "The device has no such input, or its number is out of range."},
     {KIJ_NO_CATEGORY, KIJ_BAD_SPARE, "KIJ_BAD_SPARE", "There is no spare of the number, or it serves a device."},
     {KIJ_NO_CATEGORY, KIJ_UNKNOWN, "KIJ_UNKNOWN", "There is no device of the name that may have a peripheral."},
     {KIJ_NO_CATEGORY, KIJ_IN_USE, "KIJ_IN_USE", "The device has its peripheral, or a control has it open."},
@@ -103,7 +105,8 @@ static const kij_number_row own_codes[] = {
      "The spare, or the driver, is of another kind than the device."},
     {KIJ_NO_CATEGORY, KIJ_VACANT, "KIJ_VACANT", "The device has no peripheral to detach."},
     {KIJ_NO_CATEGORY, KIJ_DRIVEN, "KIJ_DRIVEN", "The device has a driver already."},
-    {KIJ_NO_CATEGORY, KIJ_BAD_SETTINGS, "KIJ_BAD_SETTINGS", "A setting of the hardware is out of its range."},
+    {KIJ_NO_CATEGORY, KIJ_BAD_SETTINGS, "KIJ_BAD_SETTINGS",
+     "A setting of the hardware is out of its range, or no port can have the name."},
 };
 
 /* The row of a number in a table, of a category if it isn't KIJ_NO_CATEGORY there; or null. */
@@ -125,7 +128,19 @@ static const kij_number_row *extended_row(kij_result result) {
     return found(kij_internal_extended, kij_internal_extended_count, result.extended, result.category);
 }
 
+/* What the system most often says of the file of the totals; or null. */
+static const char *said_by_system(int why) {
+    switch (why) {
+    case EWOULDBLOCK: return "The file of the totals is in use: close the other program that has it open.";
+    case ENOENT: return "The file of the totals, or its folder, isn't there.";
+    case EEXIST: return "The file of the totals is there already.";
+    default: return NULL;
+    }
+}
+
 const char *kij_strerror(kij_result result) {
+    const char *said = result.code == KIJ_SYSTEM ? said_by_system(result.extended) : NULL;
+    if (said != NULL) return said;
     const kij_number_row *row = extended_row(result);
     if (row == NULL) row = code_row(result.code);
     return row == NULL ? "The code is unknown." : row->text;

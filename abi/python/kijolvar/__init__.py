@@ -7,6 +7,8 @@
         with till.printer("r1").in_use() as printer:
             printer.print("Bread 4.50\\n")
         totals = till.totals("t1")
+        if "SALES" not in totals:
+            totals.create("SALES", 4)
         with totals.transaction():
             totals["SALES"].write(0, b"\\x00\\x00\\x01\\xc2")
 

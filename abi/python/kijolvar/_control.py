@@ -44,6 +44,8 @@ def truth(value: bool) -> str:
 
 def device_word(name: str) -> bytes:
     """The name of a device, as a line has it: 1 to 16 ASCII letters, digits and hyphens."""
+    if not isinstance(name, str):
+        raise TypeError(f"the name of a device is a str, not {type(name).__name__}")
     word = name.encode("ascii", "replace")
     if not (1 <= len(word) <= 16 and word.replace(b"-", b"0").isalnum()):
         raise ValueError(f"not a name of a device: {name!r}")
@@ -133,8 +135,14 @@ class Control:
         return answer[3:-1]
 
     def _open(self, device: str) -> None:
-        self._do(b"open %b %b" % (self._name, device_word(device)), "open")
+        line, before = b"open %b %b" % (self._name, device_word(device)), self._device
+        # What a refusal names.
         self._device = device
+        try:
+            self._do(line, "open")
+        except BaseException:
+            self._device = before
+            raise
 
     def _close(self) -> None:
         self._do(b"close %b" % self._name, "close")
@@ -164,7 +172,7 @@ class Control:
                 afterwards, by `ErrorEvent.reply`.
         """
         line = b"deliver %b" % self._name
-        answer = self._carry_out(line if reply is None else b"%b %b" % (line, reply.value.encode()))
+        answer = self._carry_out(line if reply is None else b"%b %b" % (line, ErrorReply(reply).value.encode()))
         if answer == b"none\n":
             return None
         if answer[:6] != b"event ":

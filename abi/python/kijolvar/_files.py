@@ -23,8 +23,11 @@ def _folder(path: str) -> Iterator[int]:
         os.close(folder)
 
 
-def _lock(totals: BinaryIO) -> None:
-    fcntl.flock(totals, fcntl.LOCK_EX | fcntl.LOCK_NB)
+def _lock(totals: BinaryIO, path: str, how: int = fcntl.LOCK_EX) -> None:
+    try:
+        fcntl.flock(totals, how | fcntl.LOCK_NB)
+    except BlockingIOError as fault:
+        raise BlockingIOError(fault.errno, "is in use: close the other program that has it open", path) from None
 
 
 def open_totals(path: Path) -> BinaryIO:
@@ -40,7 +43,7 @@ def open_totals(path: Path) -> BinaryIO:
     name = os.fspath(path)
     with contextlib.ExitStack() as undo, _folder(name) as folder:
         totals = undo.enter_context(open(name, "r+b", buffering=0))
-        _lock(totals)
+        _lock(totals, name)
         os.fsync(folder)
         undo.pop_all()
         return totals
@@ -60,7 +63,7 @@ def create_totals(library: ctypes.CDLL, path: Path, profile: bytes = b"") -> Bin
     with contextlib.ExitStack() as undo, _folder(name) as folder:
         unnamed = os.open(".", os.O_RDWR | os.O_TMPFILE, 0o600, dir_fd=folder)
         totals = undo.enter_context(open(unnamed, "r+b", buffering=0))
-        _lock(totals)
+        _lock(totals, name)
         totals.truncate(KIJOLVAR_DISK_LENGTH)
         Session(library, profile, totals, begin="kijolvar_format_file").close()
         # Given a folder, os.link follows the first path to the file that it stands for.
@@ -84,5 +87,5 @@ def read_totals(path: Path) -> bytes:
         BlockingIOError: A till or another program has the file open.
     """
     with open(path, "rb") as totals:
-        fcntl.flock(totals, fcntl.LOCK_SH | fcntl.LOCK_NB)
+        _lock(totals, os.fspath(path), fcntl.LOCK_SH)
         return totals.read(KIJOLVAR_DISK_LENGTH)

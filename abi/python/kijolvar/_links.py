@@ -31,7 +31,7 @@ _JOB_SIZE, _NUMBER_SIZE, _QUESTION_SIZE = 11, 4, 3
 # In how many bytes a reply is looked for at once; it has at most seven.
 _READ_AT_ONCE = 64
 # What the library has to know was asked.
-_PRINTER, _PAPER_IN_ORDER = int(Asked.PRINTER), int(Asked.PAPER_IN_ORDER)
+_PRINTER, _CAUSE, _PAPER_IN_ORDER = int(Asked.PRINTER), int(Asked.OFFLINE_CAUSE), int(Asked.PAPER_IN_ORDER)
 # How long a lost port may take to open while other devices wait, and how often a printer is asked, in seconds.
 _QUICKLY, _OFTEN = 0.25, 0.1
 # How long late answers may be apart, in seconds.
@@ -176,6 +176,7 @@ class PrinterLink:
         self._is_unsure = False
         self._tried_at = self._refreshed_at = self._heard_at = -1e9
         self._asked_at: float | None = None
+        self._asked_what = _PRINTER
 
     @property
     def is_online(self) -> bool:
@@ -316,7 +317,7 @@ class PrinterLink:
         self._got += data
         while self._got:
             found = bytes(self._got[:_READ_AT_ONCE])
-            asked = 0 if self._asked_at is None else _PRINTER
+            asked = 0 if self._asked_at is None else self._asked_what
             used, text = self._reply(found, asked)
             if not used:
                 return
@@ -337,8 +338,15 @@ class PrinterLink:
             self._acknowledged(int(text[4:]))
             return
         signs = signs_of(text)
+        if asked == _CAUSE and "cover" in signs:
+            signs["offline"] = "yes"
         if "cover" in signs:
             self._is_told(signs, [Told(data, asked)])
+        self._asked_what = _PRINTER
+        if asked == _PRINTER and signs.get("offline") == "yes" and not self.is_stopped:
+            # It can't print, and may keep the question for its status until it can: ask why.
+            self._asked_what = _CAUSE
+            self._ask()
         # One that is online again has sent the status that it was asked for, or has lost the question.
         self._is_refreshing = self._is_refreshing and "cover" not in signs and signs.get("offline") != "no"
 
@@ -468,7 +476,7 @@ class PrinterLink:
         """Asks whether the printer is there. A question that isn't answered yet counts from when it was asked first."""
         if self._asked_at is None:
             self._asked_at = time.monotonic()
-        self._puts(_STATUS_NOW + b"\1")
+        self._puts(_STATUS_NOW + bytes([self._asked_what]))
 
     def _refreshes(self, now: float) -> None:
         """Asks for the whole status, which the printer then tells at each change, also if it was off and on again. While
@@ -500,7 +508,7 @@ class PrinterLink:
         self._got.clear()
         self._is_there = self._was_silent = self._is_refreshing = False
         self._is_told({}, [])
-        self._asked_at = None
+        self._asked_at, self._asked_what = None, _PRINTER
 
     def close(self) -> None:
         """Closes the port."""

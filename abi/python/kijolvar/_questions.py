@@ -49,6 +49,8 @@ def explain(library: ctypes.CDLL, text: str) -> LibraryFault:
         return ProfileError(reason)
     if code == KIJOLVAR_BAD_TEXT:
         before = profile[:at.value].decode(errors="replace")
+        if "\n" not in text and os.path.exists(text):
+            reason += ": a str is the text of a profile; pass the path of a file as a pathlib.Path"
         return ProfileError(reason, before.count("\n") + 1, len(before) - before.rfind("\n"))
     return library_fault(code)
 

@@ -19,7 +19,7 @@ def reply_to(control: Control, locus: ErrorLocus, reply: ErrorReply) -> None:
     EL_INPUT_DATA, likewise. At EL_INPUT every reply clears. So only ER_CLEAR is left to do: it deletes what clearInput
     or clearOutput deletes. A control that was closed or released meanwhile has nothing left to delete.
     """
-    if reply is ER_CLEAR and locus in _CLEARS:
+    if ErrorReply(reply) is ER_CLEAR and locus in _CLEARS:
         try:
             control._do(control._call + _CLEARS[locus], "reply")
         except (ClaimedError, ClosedError, NotClaimedError):

@@ -136,6 +136,9 @@ impl fmt::Display for Cause {
         let text = match self {
             Cause::Code(code) => return write!(out, "{code}"),
             Cause::Extended(code) => return write!(out, "E_EXTENDED, {code}"),
+            Cause::System(cause) if cause.kind() == io::ErrorKind::WouldBlock => {
+                "the file of the totals is in use: close the other program that has it open"
+            }
             Cause::System(cause) => return write!(out, "{cause}"),
             Cause::BadAnswer(text) => return write!(out, "the library answered something unknown: {text}"),
             Cause::BadProfile(mistake) => return write!(out, "the profile is refused: {mistake}"),
@@ -155,7 +158,7 @@ impl fmt::Display for Cause {
             Cause::Full => "the till has as many controls as it may have",
             Cause::OtherTill => "the control is of another till",
             Cause::BadDevice => "there is no device of the name, or it has no peripheral",
-            Cause::BadInput => "the device has no such input",
+            Cause::BadInput => "the device has no such input, or its number is out of range",
             Cause::WrongKind => "the device is of another kind",
             Cause::BadSpare => "there is no spare of the number, or it serves a device",
             Cause::NoDevice => "there is no device of the name that has orders, or replies",

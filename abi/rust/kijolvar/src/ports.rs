@@ -104,16 +104,16 @@ impl Port {
         }
     }
 
-    /// Whether the settings of a serial line can be set, and a host may be looked up. Only an IPv6 address has colons,
+    /// Whether the settings of a serial line can be set, and a host may be looked up, at a number that isn't 0. Only an IPv6 address has colons,
     /// and it may have a zone behind it.
     pub(crate) fn is_sound(&self) -> bool {
         match self {
             Port::Serial(_, settings) => {
                 speed_of(settings.speed).is_some() && matches!(settings.bits, 7 | 8) && matches!(settings.stops, 1 | 2)
             }
-            Port::Tcp(host, _) => {
+            Port::Tcp(host, port) => {
                 let address = host.split_once('%').map_or(&host[..], |(address, _)| address);
-                !host.is_empty() && (!host.contains(':') || address.parse::<Ipv6Addr>().is_ok())
+                *port != 0 && !host.is_empty() && (!host.contains(':') || address.parse::<Ipv6Addr>().is_ok())
             }
             _ => true,
         }
@@ -749,7 +749,7 @@ mod tests {
         }
         assert_eq!(Port::of("tcp:[::1]:9101"), Port::Tcp("::1".to_string(), 9101));
         assert_eq!(Port::of("tcp://[::1]"), Port::Tcp("::1".to_string(), 9100));
-        for name in ["tcp:", "tcp:192.168.1.9:91OO", "tcp:192.168.1.9:", "tcp:printer:99999", "tcp:[::1:9100"] {
+        for name in ["tcp:", "tcp:192.168.1.9:91OO", "tcp:192.168.1.9:", "tcp:printer:99999", "tcp:[::1:9100", "tcp:h:0"] {
             assert!(!is_sound(name), "{name}");
         }
     }
