@@ -346,8 +346,6 @@ def try_absent():
 def try_offline():
     """A printer that is offline when its port is opened or it is switched on, and keeps what it is sent: it is known
     why."""
-    if WORDS.name == "Rust":
-        return
     for kind in ("usb", "tcp", "serial"):
         with contextlib.ExitStack() as stack:
             device = stack.enter_context(Printer(cable(kind)))
@@ -1063,6 +1061,9 @@ def try_refusals():
         told("a short roll", "KIJ_BAD_SETTINGS", host.ask(f"printer r1 {port} lines 20"))
         told("too long a roll", "KIJ_BAD_SETTINGS", host.ask(f"printer r1 {port} lines 100001"))
         told("no speed of a line", "KIJ_BAD_SETTINGS", host.ask(f"printer r1 {port} serial 9601"))
+        for name in ("tcp:", "tcp:h:", "tcp:h:91OO", "tcp:h:0", "tcp:h:99999", "tcp:[::1"):
+            told(f"no port: {name}", ["KIJ_BAD_SETTINGS"] * 3,
+                 [host.ask(f"printer r1 {name}"), host.ask(f"display p1 {name}"), host.ask(f"scanner s1 {name}")])
         told("none is driven", "KIJ_NO_DEVICE", host.ask("state r1"))
         told("a port that isn't there", "ok", host.ask(f"printer r1 {port} timeout 100 drawer d1"))
         told("a second driver", "KIJ_DRIVEN", host.ask(f"printer r1 {port}"))

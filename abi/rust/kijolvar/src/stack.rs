@@ -1,6 +1,6 @@
 //! Calls that read a profile, which take more stack than a thread may have.
 use crate::error::Cause;
-use std::thread::{scope, Builder};
+use std::thread::Builder;
 
 /// Twice the stack that abi/README.md asks for.
 const STACK: usize = 8 << 20;
@@ -11,11 +11,11 @@ pub(crate) fn with_stack<R: Send>(call: impl FnOnce() -> R + Send) -> Result<R, 
 }
 
 fn with_stack_of<R: Send>(size: usize, call: impl FnOnce() -> R + Send) -> Result<R, Cause> {
-    scope(|scope| {
-        // The system's error for want of memory is that for a file that another till has.
-        let thread = Builder::new().stack_size(size).spawn_scoped(scope, call).map_err(|_| Cause::NoMemory)?;
-        thread.join().or_else(|panic| std::panic::resume_unwind(panic))
-    })
+    // SAFETY: the thread is joined before this returns, so it can use what the call borrows.
+    let thread = unsafe { Builder::new().stack_size(size).spawn_unchecked(call) };
+    // The system's error for want of memory is that for a file that another till has.
+    let thread = thread.map_err(|_| Cause::NoMemory)?;
+    thread.join().or_else(|panic| std::panic::resume_unwind(panic))
 }
 
 #[cfg(test)]
