@@ -622,8 +622,6 @@ class HeldPrinter(Printer):
 
 def try_held_back():
     """Late answers of a printer that is asked, to questions that a line has held back: none is taken for another."""
-    if WORDS.name == "Rust":
-        return
     with contextlib.ExitStack() as stack:
         shop = Shop(stack, "asked", made=HeldPrinter)
 
@@ -768,48 +766,6 @@ def try_counted():
         told("it is printed once", [*PRINTED, ("left", b"Next")], shop.paper())
 
 
-class HoldingPrinter(Printer):
-    """A printer behind a line that holds back what is sent for a time."""
-
-    held = None
-
-    def arrives(self, data):
-        if self.held is None:
-            return super().arrives(data)
-        self.held += data
-        return b""
-
-    def hold(self, is_held):
-        with self.lock:
-            held, self.held = self.held, bytearray() if is_held else None
-            self._got += self.arrives(held or b"")
-        self._wake()
-
-
-def try_late_answers():
-    """Late answers to questions that a line has held back, and that were put again: none is taken for another's."""
-    if WORDS.name != "Rust":
-        return
-    with contextlib.ExitStack() as stack:
-        shop = Shop(stack, "asked", made=HoldingPrinter)
-        # The bit of the drawer's pin is that of an open cover in another answer.
-        shop.device.drawer(True)
-        told("the printer is well", True, shop.settle())
-        while shop.host.line("deliver r") != "none":
-            pass
-        shop.device.hold(True)
-        told("questions are held back", True,
-             until(lambda: shop.host.ask("run 10") and shop.device.held.count(b"\x10\x04\1") > 2))
-        told("the printer is off", "offline 0", shop.host.ask("state r1"))
-        shop.device.hold(False)
-        end = time.monotonic() + TIMEOUT / 1000
-        until(lambda: shop.host.ask("run 10") and time.monotonic() > end)
-        told("it is back", "online 0", shop.host.ask("state r1"))
-        told("it has said nothing else", "none", shop.host.line("deliver r"))
-        told("then it prints", "ok", shop.print(TEXT))
-        told("what was held back and the paper", PRINTED, shop.paper())
-
-
 def try_link():
     """A link to a serial line, which is made after the driver is opened. The line is the host's own terminal."""
     link = WORK / "receipt"
@@ -914,8 +870,6 @@ def try_blinks():
 
 def try_on_with_open_cover():
     """A printer that is switched on with its cover open says nothing by itself until that is closed: it is asked."""
-    if WORDS.name != "Rust":
-        return
     for kind in ("usb", "tcp", "serial", "usb stays", "asked"):
         with contextlib.ExitStack() as stack:
             shop = Shop(stack, kind, "drawer d1")
@@ -1350,9 +1304,6 @@ def try_switched():
         until(lambda: shop.host.ask("run 100") and time.monotonic() > end)
         shop.device.cover(True)
         told("a cover is told of later", True, is_open("ok true"))
-    if WORDS.name == "Rust":
-        # It asks at once when an order has failed. That is lost here, and counts as unanswered at the next look.
-        return
     with contextlib.ExitStack() as stack:
         shop = Shop(stack, "serial")
         shop.device.pull_plug()
@@ -1387,10 +1338,9 @@ def try_exchange():
         told("that is enabled", ["ok"] * 3, host.lines(*begun[1:]))
         told("its order too", "ok", host.line("call r printNormal 2 420a"))
         told("that is printed too", 2, len(device.receipt()))
-        if WORDS.name != "Rust":
-            told("an order of one that is attached by the same lines", ["ok"] * 7,
-                 host.lines("close r", "detach r1", "attach r1 3", *begun[1:], "call r printNormal 2 430a"))
-            told("that is printed as well", 3, len(device.receipt()))
+        told("an order of one that is attached by the same lines", ["ok"] * 7,
+             host.lines("close r", "detach r1", "attach r1 3", *begun[1:], "call r printNormal 2 430a"))
+        told("that is printed as well", 3, len(device.receipt()))
         device.cover(True)
         told("its cover is open", True,
              until(lambda: host.ask("run 10") and host.line("get r CoverOpen") == "ok true"))
@@ -1444,8 +1394,6 @@ def try_roll():
 
 def try_near_end():
     """A roll whose near end is early: the lines are counted down to that, and begin again before it."""
-    if WORDS.name == "Rust":
-        return
     with contextlib.ExitStack() as stack:
         device = stack.enter_context(Printer(cable()))
         host = Host(stack, PROFILE.replace("near = 20", "near = 500"))
@@ -1475,8 +1423,7 @@ def try_keys():
             event = host.lines("set s DataEventEnabled true", "deliver s")[1]
             told(name, wanted, host.line("get s ScanData") if event == "event DataEvent 0" else event)
         comes("a keypad", "ok " + b"789-456+1230".hex(), *range(71, 83))
-        if WORDS.name != "Rust":
-            comes("a keypad behind Num Lock", "ok 3132", 69, 79, 80, 69)
+        comes("a keypad behind Num Lock", "ok 3132", 69, 79, 80, 69)
         comes("a separator", "ok 301d31", 11, (29, 1), 27, (29, 0), 2)
         comes("a separator by the other key", "ok 301d31", 11, (97, 1), 27, (97, 0), 2)
         comes("a key that is held", "ok 313232", 2, (3, 1), (3, 2), (3, 2), (3, 0), 3)
