@@ -759,11 +759,11 @@ def try_counted():
         thread.start()
         told("the next order isn't done", "err 111", shop.print(b"Next\n"))
         thread.join()
-        told("nor is it printed", len(PRINTED), len(shop.device.receipt()))
+        told("nor is it printed: one line had gone out before it", 1, len(shop.device.receipt()))
         shop.device.hang(False)
         told("the printer answers", True, shop.settle())
         told("the next order again", "ok", shop.print(b"Next\n"))
-        told("it is printed once", [*PRINTED, ("left", b"Next")], shop.paper())
+        told("it is printed once", [PRINTED[0], ("left", b"Next")], shop.paper())
 
 
 def try_link():

@@ -187,13 +187,15 @@ static size_t piece_end(const kij_buffer *data, size_t at) {
    the order. */
 static void fill(kij_link *link) {
     kij_job *job = link->posting;
+    /* Answers to GS r have no number: one piece is out at a time, so that none counts for another. */
+    size_t most = link->is_asked ? 1 : KIJ_DUE_OF_JOB;
     if (link->out_sent < link->out.size) return;
     link->out.size = link->out_sent = 0;
     if (link->control_size > 0 && kij_internal_buffer_add(&link->out, link->control, link->control_size)) {
         link->put_out += link->control_size;
         link->control_size = 0;
     }
-    while (job != NULL && !job->is_all_sent && link->out.size < ENOUGH && due_of(link, job) < KIJ_DUE_OF_JOB) {
+    while (job != NULL && !job->is_all_sent && link->out.size < ENOUGH && due_of(link, job) < most) {
         size_t end = piece_end(&job->data, job->sent);
         if (!send_parcel(link, job->data.bytes + job->sent, end - job->sent, job)) return;
         job->sent = end;

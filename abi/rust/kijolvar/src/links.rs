@@ -340,10 +340,12 @@ impl Link {
         self.put_out += self.control.len() as u64;
         self.out.append(&mut self.control);
         let Some(is_once) = posting else { return };
+        // Answers to GS r have no number: one piece is out at a time, so that none counts for another.
+        let most = if self.is_asked { 1 } else { DUE_OF_JOB };
         while self.out.len() < ENOUGH {
             let number = self.current(is_once).number;
             let count = self.due.iter().filter(|parcel| parcel.job == number).count();
-            if self.current(is_once).is_all_sent || count >= DUE_OF_JOB {
+            if self.current(is_once).is_all_sent || count >= most {
                 return;
             }
             let job = self.current(is_once);
