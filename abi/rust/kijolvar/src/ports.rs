@@ -749,7 +749,9 @@ mod tests {
         }
         assert_eq!(Port::of("tcp:[::1]:9101"), Port::Tcp("::1".to_string(), 9101));
         assert_eq!(Port::of("tcp://[::1]"), Port::Tcp("::1".to_string(), 9100));
-        for name in ["tcp:", "tcp:192.168.1.9:91OO", "tcp:192.168.1.9:", "tcp:printer:99999", "tcp:[::1:9100", "tcp:h:0"] {
+        for name in
+            ["tcp:", "tcp:192.168.1.9:91OO", "tcp:192.168.1.9:", "tcp:printer:99999", "tcp:[::1:9100", "tcp:h:0"]
+        {
             assert!(!is_sound(name), "{name}");
         }
     }
