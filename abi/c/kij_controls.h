@@ -510,7 +510,7 @@ kij_result kij_control_release(kij_control *control);
  * @retval KIJ_E_CLOSED The control is closed.
  * @retval KIJ_E_CLAIMED Another control has claimed the device.
  * @retval KIJ_E_DISABLED The control is disabled.
- * @retval KIJ_E_FAILURE The drawer didn't answer.
+ * @retval KIJ_E_FAILURE The drawer, or the printer that it is on, can't answer.
  * @retval KIJ_E_OFFLINE The drawer is off.
  * @retval KIJ_NO_MEMORY There was no memory.
  */
@@ -556,8 +556,8 @@ kij_result kij_scanner_clear_input_properties(kij_control *scanner);
  * @retval KIJ_E_CLAIMED Another control has claimed the device.
  * @retval KIJ_E_NOTCLAIMED No control has claimed the device.
  * @retval KIJ_E_DISABLED The control is disabled.
- * @retval KIJ_E_ILLEGAL The text has a byte other than 0x20 to 0x7E, LF and CR, or the attribute is out of its
- *         range.
+ * @retval KIJ_E_ILLEGAL The text has more than 4,096 bytes, or one other than 0x20 to 0x7E, LF and CR, or the
+ *         attribute is out of its range.
  * @retval KIJ_E_FAILURE The display didn't answer.
  * @retval KIJ_E_OFFLINE The display is off.
  * @retval KIJ_NO_MEMORY There was no memory.
@@ -635,8 +635,8 @@ kij_result kij_display_scroll_text(kij_control *display, int64_t direction, int6
  * @retval KIJ_E_CLAIMED Another control has claimed the device.
  * @retval KIJ_E_NOTCLAIMED No control has claimed the device.
  * @retval KIJ_E_DISABLED The control is disabled.
- * @retval KIJ_E_ILLEGAL The station isn't the receipt, or the data has a byte or a number that a printer doesn't
- *         take.
+ * @retval KIJ_E_ILLEGAL The station isn't the receipt, or the data has more than 4,096 bytes, or one or a number
+ *         that a printer doesn't take.
  * @retval KIJ_E_BUSY AsyncMode is false, and earlier requests still wait.
  * @retval KIJ_E_FAILURE The printer didn't answer, or no OutputID is left.
  * @retval KIJ_E_OFFLINE The printer is off.
@@ -658,8 +658,8 @@ kij_result kij_printer_print(kij_control *printer, int64_t station, const void *
  * @retval KIJ_E_CLAIMED Another control has claimed the device.
  * @retval KIJ_E_NOTCLAIMED No control has claimed the device.
  * @retval KIJ_E_DISABLED The control is disabled.
- * @retval KIJ_E_ILLEGAL The station isn't the receipt, or the data has a byte or a number that a printer doesn't
- *         take.
+ * @retval KIJ_E_ILLEGAL The station isn't the receipt, or the data has more than 4,096 bytes, or one or a number
+ *         that a printer doesn't take.
  * @retval KIJ_E_FAILURE The printer didn't answer.
  * @retval KIJ_E_OFFLINE The printer is off.
  * @retval KIJ_E_EXTENDED KIJ_EPTR_COVER_OPEN: the cover is open.

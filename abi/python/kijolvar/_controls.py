@@ -300,7 +300,7 @@ class CashDrawer(StandardControl):
             ClosedError: The control is closed.
             ClaimedError: Another control has claimed the device.
             DisabledError: The control is disabled.
-            FailureError: The drawer didn't answer.
+            FailureError: The drawer, or the printer that it is on, can't answer.
             OfflineError: The drawer is off.
 
         UnifiedPOS 1.16, chapter Cash Drawer.
@@ -637,7 +637,8 @@ class LineDisplay(StandardControl):
             ClaimedError: Another control has claimed the device.
             NotClaimedError: No control has claimed the device.
             DisabledError: The control is disabled.
-            IllegalError: The text has a byte other than 0x20 to 0x7E, LF and CR, or the attribute is out of its range.
+            IllegalError: The text has more than 4,096 bytes, or one other than 0x20 to 0x7E, LF and CR, or the
+                attribute is out of its range.
             FailureError: The display didn't answer.
             OfflineError: The display is off.
 
@@ -863,7 +864,8 @@ class POSPrinter(StandardControl):
             ClaimedError: Another control has claimed the device.
             NotClaimedError: No control has claimed the device.
             DisabledError: The control is disabled.
-            IllegalError: The station isn't the receipt, or the data has a byte or a number that a printer doesn't take.
+            IllegalError: The station isn't the receipt, or the data has more than 4,096 bytes, or one or a number that
+                a printer doesn't take.
             BusyError: AsyncMode is false, and earlier requests still wait.
             FailureError: The printer didn't answer, or no OutputID is left.
             OfflineError: The printer is off.
@@ -891,7 +893,8 @@ class POSPrinter(StandardControl):
             ClaimedError: Another control has claimed the device.
             NotClaimedError: No control has claimed the device.
             DisabledError: The control is disabled.
-            IllegalError: The station isn't the receipt, or the data has a byte or a number that a printer doesn't take.
+            IllegalError: The station isn't the receipt, or the data has more than 4,096 bytes, or one or a number that
+                a printer doesn't take.
             FailureError: The printer didn't answer.
             OfflineError: The printer is off.
             CoverOpenError: The cover is open.

@@ -51,7 +51,7 @@ REASONS: dict[str, dict[str, str]] = {
         "E_CLOSED": "The control is closed.",
         "E_CLAIMED": "Another control has claimed the device.",
         "E_DISABLED": "The control is disabled.",
-        "E_FAILURE": "The drawer didn't answer.",
+        "E_FAILURE": "The drawer, or the printer that it is on, can't answer.",
         "E_OFFLINE": "The drawer is off.",
     },
     "cap_status": {
@@ -97,7 +97,8 @@ REASONS: dict[str, dict[str, str]] = {
         "E_CLAIMED": "Another control has claimed the device.",
         "E_NOTCLAIMED": "No control has claimed the device.",
         "E_DISABLED": "The control is disabled.",
-        "E_ILLEGAL": "The text has a byte other than 0x20 to 0x7E, LF and CR, or the attribute is out of its range.",
+        "E_ILLEGAL": "The text has more than 4,096 bytes, or one other than 0x20 to 0x7E, LF and CR, or the attribute is out of its range. "
+            "Or: ",
         "E_FAILURE": "The display didn't answer.",
         "E_OFFLINE": "The display is off.",
     },
@@ -149,7 +150,8 @@ REASONS: dict[str, dict[str, str]] = {
         "E_CLAIMED": "Another control has claimed the device.",
         "E_NOTCLAIMED": "No control has claimed the device.",
         "E_DISABLED": "The control is disabled.",
-        "E_ILLEGAL": "The station isn't the receipt, or the data has a byte or a number that a printer doesn't take.",
+        "E_ILLEGAL": "The station isn't the receipt, or the data has more than 4,096 bytes, or one or a number that a printer doesn't take. "
+            "Or: ",
         "E_BUSY": "AsyncMode is false, and earlier requests still wait.",
         "E_FAILURE": "The printer didn't answer, or no OutputID is left.",
         "E_OFFLINE": "The printer is off.",
@@ -161,7 +163,8 @@ REASONS: dict[str, dict[str, str]] = {
         "E_CLAIMED": "Another control has claimed the device.",
         "E_NOTCLAIMED": "No control has claimed the device.",
         "E_DISABLED": "The control is disabled.",
-        "E_ILLEGAL": "The station isn't the receipt, or the data has a byte or a number that a printer doesn't take.",
+        "E_ILLEGAL": "The station isn't the receipt, or the data has more than 4,096 bytes, or one or a number that a printer doesn't take. "
+            "Or: ",
         "E_FAILURE": "The printer didn't answer.",
         "E_OFFLINE": "The printer is off.",
         "EPTR_COVER_OPEN": "The cover is open.",

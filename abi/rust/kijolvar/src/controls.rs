@@ -312,7 +312,7 @@ impl<'till> CashDrawer<'till> {
     /// - [`E_CLOSED`](ResultCode::Closed): the control is closed.
     /// - [`E_CLAIMED`](ResultCode::Claimed): another control has claimed the device.
     /// - [`E_DISABLED`](ResultCode::Disabled): the control is disabled.
-    /// - [`E_FAILURE`](ResultCode::Failure): the drawer didn't answer.
+    /// - [`E_FAILURE`](ResultCode::Failure): the drawer, or the printer that it is on, can't answer.
     /// - [`E_OFFLINE`](ResultCode::Offline): the drawer is off.
     /// - [`Cause::NoMemory`]: there was no memory.
     pub fn open_drawer(&self) -> Result<(), Error> {
@@ -633,8 +633,8 @@ impl<'till> LineDisplay<'till> {
     /// - [`E_CLAIMED`](ResultCode::Claimed): another control has claimed the device.
     /// - [`E_NOTCLAIMED`](ResultCode::NotClaimed): no control has claimed the device.
     /// - [`E_DISABLED`](ResultCode::Disabled): the control is disabled.
-    /// - [`E_ILLEGAL`](ResultCode::Illegal): the text has a byte other than 0x20 to 0x7E, LF and CR, or the attribute
-    ///   is out of its range.
+    /// - [`E_ILLEGAL`](ResultCode::Illegal): the text has more than 4,096 bytes, or one other than 0x20 to 0x7E, LF and
+    ///   CR, or the attribute is out of its range.
     /// - [`E_FAILURE`](ResultCode::Failure): the display didn't answer.
     /// - [`E_OFFLINE`](ResultCode::Offline): the display is off.
     /// - [`Cause::NoMemory`]: there was no memory.
@@ -876,8 +876,8 @@ impl<'till> PosPrinter<'till> {
     /// - [`E_CLAIMED`](ResultCode::Claimed): another control has claimed the device.
     /// - [`E_NOTCLAIMED`](ResultCode::NotClaimed): no control has claimed the device.
     /// - [`E_DISABLED`](ResultCode::Disabled): the control is disabled.
-    /// - [`E_ILLEGAL`](ResultCode::Illegal): the station isn't the receipt, or the data has a byte or a number that a
-    ///   printer doesn't take.
+    /// - [`E_ILLEGAL`](ResultCode::Illegal): the station isn't the receipt, or the data has more than 4,096 bytes, or
+    ///   one or a number that a printer doesn't take.
     /// - [`E_BUSY`](ResultCode::Busy): asyncMode is false, and earlier requests still wait.
     /// - [`E_FAILURE`](ResultCode::Failure): the printer didn't answer, or no OutputID is left.
     /// - [`E_OFFLINE`](ResultCode::Offline): the printer is off.
@@ -903,8 +903,8 @@ impl<'till> PosPrinter<'till> {
     /// - [`E_CLAIMED`](ResultCode::Claimed): another control has claimed the device.
     /// - [`E_NOTCLAIMED`](ResultCode::NotClaimed): no control has claimed the device.
     /// - [`E_DISABLED`](ResultCode::Disabled): the control is disabled.
-    /// - [`E_ILLEGAL`](ResultCode::Illegal): the station isn't the receipt, or the data has a byte or a number that a
-    ///   printer doesn't take.
+    /// - [`E_ILLEGAL`](ResultCode::Illegal): the station isn't the receipt, or the data has more than 4,096 bytes, or
+    ///   one or a number that a printer doesn't take.
     /// - [`E_FAILURE`](ResultCode::Failure): the printer didn't answer.
     /// - [`E_OFFLINE`](ResultCode::Offline): the printer is off.
     /// - E_EXTENDED, [`EPTR_COVER_OPEN`](ExtendedCode::PrinterCoverOpen): the cover is open.
