@@ -1190,6 +1190,13 @@ def try_torn_scans():
         told("and no scan", ["ErrorEvent"], [type(event).__name__ for event in scanner.events()])
         device.garbage(typed("31"))
         told("the next code is whole", True, until(lambda: till.run_devices(0.01) and scanner.data_count == 1))
+        told("it comes", ["DataEvent"], [type(event).__name__ for event in scanner.events()])
+        device.garbage(typed("12")[:-48] + dropped + typed("3") + typed("4006381"))
+        told("another error", True, until(lambda: till.run_devices(0.01) and scanner.state == 4))
+        scanner.data_event_enabled = True
+        told("beside the code right behind it", ["ErrorEvent", "DataEvent"],
+             [type(event).__name__ for event in scanner.events()])
+        told("which is whole", b"4006381", scanner.scan_data)
     lines = kijolvar.drivers._Lines()
     told("a line is too long", [], lines.take(b"1" * 4000) + lines.take(b"2" * 4000))
     told("its end is no code", [None, b"34"], lines.take(b"5\r\n34\n"))

@@ -565,8 +565,9 @@ class WedgeScanner(Driver):
         self._has_keys = keys
         self._reader = self._new_reader()
         self._kind, self._pause, self._tried_at = kind, pause, -1e9
-        # The codes that have come; one that isn't whole is None.
-        self._found: deque[bytes | None] = deque()
+        # The codes that have come whole, and whether another one hasn't.
+        self._found: deque[bytes] = deque()
+        self._has_failed = False
 
     def __repr__(self) -> str:
         return f"<kijolvar.WedgeScanner {self.port.name!r}, {'online' if self.is_online else 'offline'}>"
@@ -574,7 +575,7 @@ class WedgeScanner(Driver):
     @property
     def is_online(self) -> bool:
         # What came before the port was lost is told first.
-        return self.port.is_open or bool(self._found)
+        return self.port.is_open or bool(self._found) or self._has_failed
 
     def start(self, device: ProfileDevice) -> None:
         self.poll()
@@ -587,7 +588,11 @@ class WedgeScanner(Driver):
         with contextlib.suppress(PortError):
             self._open()
             for data in self.port.waiting():
-                self._found += self._reader.take(data)
+                for code in self._reader.take(data):
+                    if code is None:
+                        self._has_failed = True
+                    else:
+                        self._found.append(code)
 
     def _new_reader(self) -> _Keys | _Lines:
         return _Keys() if self._has_keys else _Lines()
@@ -606,20 +611,15 @@ class WedgeScanner(Driver):
         return Scan(self._kind, code, code)
 
     def happened(self) -> list[str]:
-        if not self._found or self._found[0] is not None:
+        # From a failed scan on a control ignores codes, so those that have come are told first.
+        if self._found or not self._has_failed:
             return []
-        self._found.popleft()
+        self._has_failed = False
         return ["fault"]
 
     def scans(self) -> list[Scan]:
-        found = []
-        for code in self._found:
-            # What came behind a code that isn't whole waits for that.
-            if code is None:
-                break
-            found.append(self._scan(code))
-        for _ in found:
-            self._found.popleft()
+        found = [self._scan(code) for code in self._found]
+        self._found.clear()
         return found
 
     def files(self) -> list[int]:
