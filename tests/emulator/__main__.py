@@ -8,9 +8,9 @@ A simple printer has neither automatic status nor acknowledgements of jobs. With
 
 It prints the port first. Then it takes: `cover open`, `cover closed`, `paper LINES`, `drawer open`, `drawer closed`,
 `jam on`, `jam off`, `plug out`, `plug in`, `hang on`, `hang off`, `mute on`, `mute off` (its answers are lost),
-`slow SECONDS`, `garbage HEX`, `scan TEXT`, `after BYTES WORDS ..` (the same once so many more bytes are worked off),
-`wait` (until all is worked off), `show`, which prints what is on the paper or the display, and `pulses`, which prints
-the pulses of the drawer's connector: pin, on and off.
+`slow SECONDS` (for each line), `garbage HEX`, `scan TEXT`, `after BYTES WORDS ..` (the same once so many more bytes are
+worked off), `wait` (until all is worked off), `show`, which prints what is on the paper or the display, and `pulses`,
+which prints the pulses of the drawer's connector: pin, on and off.
 """
 import argparse
 import os
@@ -79,11 +79,19 @@ def happens(device, words):
     elif verb == "show":
         show(device)
     else:
+        raise ValueError(verb)
+
+
+def takes(device, words):
+    """Does what a line says, or says that it isn't understood."""
+    try:
+        happens(device, words)
+    except (AttributeError, IndexError, ValueError):
         print(f"not understood: {' '.join(words)}", file=sys.stderr)
 
 
 def main():
-    reader = argparse.ArgumentParser(description="An emulated device.")
+    reader = argparse.ArgumentParser(description=__doc__, formatter_class=argparse.RawDescriptionHelpFormatter)
     reader.add_argument("kind", choices=["printer", "display", "scanner"])
     reader.add_argument("--path", default=None)
     reader.add_argument("--tcp", type=int, default=None)
@@ -105,7 +113,7 @@ def main():
         print(device.path, flush=True)
         for line in sys.stdin:
             if line.strip():
-                happens(device, line.split())
+                takes(device, line.split())
                 sys.stdout.flush()
 
 
