@@ -277,7 +277,8 @@ enum kij_claiming { KIJ_UNCLAIMED = 0, KIJ_CLAIMED = 1 };
 kij_result kij_new(kij_till *till, kij_category category, const char *name, kij_control **control);
 
 /**
- * Makes a control, opens it on a device, claims the device if claiming is KIJ_CLAIMED, and enables it.
+ * Makes a control, opens it on a device, claims the device if claiming is KIJ_CLAIMED, and enables it. PowerNotify has to
+ * be set before that: use kij_new, kij_control_open and kij_set_int then.
  * Scanners, line displays and printers have to be claimed. If a step fails, its result is returned, and there is no
  * control.
  */

@@ -74,7 +74,7 @@ const char *kij_property_name(kij_property property) {
 /* The codes that aren't the standard's. */
 static const kij_number_row own_codes[] = {
     {KIJ_NO_CATEGORY, KIJ_NO_MEMORY, "KIJ_NO_MEMORY", "There was no memory, and nothing was done."},
-    {KIJ_NO_CATEGORY, KIJ_BAD_PROFILE, "KIJ_BAD_PROFILE", "The profile is refused."},
+    {KIJ_NO_CATEGORY, KIJ_BAD_PROFILE, "KIJ_BAD_PROFILE", "The profile is refused: kij_profile_mistake says why."},
     {KIJ_NO_CATEGORY, KIJ_NO_ANSWER, "KIJ_NO_ANSWER",
      "The call was carried out, but there was no memory for its answer."},
     {KIJ_NO_CATEGORY, KIJ_DISK_FAILED, "KIJ_DISK_FAILED",
