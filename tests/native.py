@@ -512,14 +512,23 @@ def try_scanner():
                 told("a code that is too long", ["event ErrorEvent 111 0 2", "ok"],
                      host.lines("deliver s", "set s DataEventEnabled true"))
                 scanned(b"456", ["ok 0", "ok 343536", "ok 343536"])
-                device.garbage(b"x" * 10_000 + b"\r\n789\r\n")
-                device.wait(lambda: not device._sends)
-                time.sleep(0.1)
-                told("a code right behind that comes", "true", host.ask("run 10"))
-                told("it is first", ["event DataEvent 0", "ok 373839", "ok"],
-                     host.lines("deliver s", "get s ScanData", "set s DataEventEnabled true"))
-                told("the other one comes", True, until(lambda: host.ask("run 10") == "true"))
-                told("it has failed", "event ErrorEvent 111 0 2", host.line("deliver s"))
+
+
+def try_code_behind():
+    """A code that comes right behind one that has failed is told first."""
+    with contextlib.ExitStack() as stack:
+        device = stack.enter_context(Scanner(cable("tcp")))
+        host = Host(stack)
+        told("a scanner on a network", "ok", host.ask(f"scanner s1 {device.path} pause 10"))
+        host.lines("new s Scanner", "open s s1", "claim s 0", "set s DeviceEnabled true", "set s DataEventEnabled true")
+        device.garbage(b"x" * 5_000 + b"\r\n789\r\n")
+        told("both codes are sent", True, device.wait(lambda: not device._sends))
+        time.sleep(0.1)
+        told("one comes", "true", host.ask("run 10"))
+        told("the whole one is first", ["event DataEvent 0", "ok 373839", "ok"],
+             host.lines("deliver s", "get s ScanData", "set s DataEventEnabled true"))
+        told("the other one comes", True, until(lambda: host.ask("run 10") == "true"))
+        told("it has failed", "event ErrorEvent 111 0 2", host.line("deliver s"))
 
 
 def try_scanner_events():
