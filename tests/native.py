@@ -524,7 +524,7 @@ def try_code_behind():
         device.garbage(b"x" * 5_000 + b"\r\n789\r\n")
         told("both codes are sent", True, device.wait(lambda: not device._sends))
         time.sleep(0.1)
-        told("one comes", "true", host.ask("run 10"))
+        told("one comes", True, until(lambda: host.ask("run 10") == "true"))
         told("the whole one is first", ["event DataEvent 0", "ok 373839", "ok"],
              host.lines("deliver s", "get s ScanData", "set s DataEventEnabled true"))
         told("the other one comes", True, until(lambda: host.ask("run 10") == "true"))

@@ -277,10 +277,9 @@ enum kij_claiming { KIJ_UNCLAIMED = 0, KIJ_CLAIMED = 1 };
 kij_result kij_new(kij_till *till, kij_category category, const char *name, kij_control **control);
 
 /**
- * Makes a control, opens it on a device, claims the device if claiming is KIJ_CLAIMED, and enables it. PowerNotify has to
- * be set before that: use kij_new, kij_control_open and kij_set_int then.
- * Scanners, line displays and printers have to be claimed. If a step fails, its result is returned, and there is no
- * control.
+ * Makes a control, opens it on a device, claims the device if claiming is KIJ_CLAIMED, and enables it. Scanners, line
+ * displays and printers have to be claimed. If a step fails, its result is returned, and there is no control. To set
+ * PowerNotify before the control is enabled, use kij_new, kij_control_open and kij_set_int.
  */
 kij_result kij_start(kij_till *till, kij_category category, const char *device, int claiming, kij_control **control);
 
@@ -619,8 +618,8 @@ typedef struct kij_scanner_settings {
  * within the timeout: KIJ_E_EXTENDED with KIJ_EPTR_COVER_OPEN or KIJ_EPTR_REC_EMPTY, KIJ_E_OFFLINE, or KIJ_E_FAILURE if
  * the printer gives no reason. If an order failed and the next one is the same, as a retry is, only the lines and cuts
  * that the printer hasn't acknowledged are sent again. A printer counts as off once it was asked whether it is there,
- * and has answered nothing for the timeout. Over TCP the port is opened again then; if an order that failed may still
- * be acknowledged, once the other end has taken nothing for a minute.
+ * and has answered nothing for the timeout. Over TCP the port is opened again then, unless an order that failed may
+ * still be acknowledged: the system finds out then, at most two minutes after the printer is back.
  *
  * @param device   the name of a printer of the profile
  * @param port     /dev/usb/lp0, /dev/ttyUSB0, tcp:HOST or tcp:HOST:PORT (9100 if there is none). HOST had better be an

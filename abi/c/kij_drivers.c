@@ -882,6 +882,7 @@ static bool make_link(kij_till *till, kij_drive *printer, const char *port, cons
     if (link == NULL) return false;
     link->till = till;
     kij_internal_port(&link->port, name, &settings->serial, false);
+    link->port.is_patient = true;
     link->timeout = settings->timeout;
     link->pause = settings->pause;
     link->is_asked = settings->is_asked;

@@ -34,6 +34,8 @@ typedef struct kij_port {
     pid_t process;
     /* How often it was opened. */
     unsigned turns;
+    /* Whether what was sent may wait for long, as at a printer whose cover is open. */
+    bool is_patient;
     /* Whether reading no bytes means that it is lost, and whether the last reading gave none. */
     bool ends_empty;
     bool was_empty;

@@ -25,9 +25,9 @@
 /* How long a name isn't looked up again, in milliseconds. */
 static const int64_t rarely = 60000;
 
-/* How long the other end may take to acknowledge what was sent, in milliseconds. Else a printer that lost its power in
-   the middle of an order is noticed only minutes after it is back. */
-static const int acknowledged_within = 60000;
+/* How often the other end of a connection is asked whether it is there while nothing is sent, in seconds, and how long
+   it may take to acknowledge what was sent, in milliseconds. */
+enum { ASKED_EVERY = 10, ACKNOWLEDGED_WITHIN = 60000 };
 
 bool kij_internal_buffer_room(kij_buffer *buffer, size_t room) {
     if (room <= buffer->room) return true;
@@ -194,17 +194,32 @@ static int finish(int file, int64_t end) {
     return why;
 }
 
+/* Sets up a connection, so that the system finds out that the other end lost its power: by default after hours, and
+   after minutes if something was sent to it. 0 or errno. */
+static int set_up_tcp(int file, bool is_patient) {
+    const struct {
+        int level, name, value;
+    } options[] = {
+        {IPPROTO_TCP, TCP_NODELAY, 1},
+        {SOL_SOCKET, SO_KEEPALIVE, 1},
+        {IPPROTO_TCP, TCP_KEEPIDLE, ASKED_EVERY},
+        {IPPROTO_TCP, TCP_KEEPINTVL, ASKED_EVERY},
+        {IPPROTO_TCP, TCP_USER_TIMEOUT, is_patient ? 0 : ACKNOWLEDGED_WITHIN},
+    };
+    for (size_t place = 0; place < sizeof options / sizeof options[0]; place++) {
+        int value = options[place].value;
+        if (setsockopt(file, options[place].level, options[place].name, &value, sizeof value) != 0) return errno;
+    }
+    return 0;
+}
+
 /* Connects to an address: 0 or errno. */
-static int join(const kij_address *address, int64_t end, int *file) {
-    int one = 1, time = acknowledged_within;
+static int join(const kij_address *address, bool is_patient, int64_t end, int *file) {
     *file = socket(address->place.ss_family, SOCK_STREAM | SOCK_NONBLOCK | SOCK_CLOEXEC, 0);
     if (*file < 0) return errno;
     int why = connect(*file, (const struct sockaddr *)&address->place, address->size) == 0 ? 0 : errno;
     if (why == EINPROGRESS) why = finish(*file, end);
-    if (why == 0 && (setsockopt(*file, IPPROTO_TCP, TCP_NODELAY, &one, sizeof one) != 0 ||
-                     setsockopt(*file, SOL_SOCKET, SO_KEEPALIVE, &one, sizeof one) != 0 ||
-                     setsockopt(*file, IPPROTO_TCP, TCP_USER_TIMEOUT, &time, sizeof time) != 0))
-        why = errno;
+    if (why == 0) why = set_up_tcp(*file, is_patient);
     if (why != 0) close(*file);
     return why;
 }
@@ -248,7 +263,7 @@ static int open_tcp(kij_port *port, int64_t time, int *file) {
     for (size_t place = 0; place < port->address_count && why != 0; place++) {
         /* Each of those that are left has the same time, so that one that says nothing leaves some to the others. */
         int64_t now = kij_internal_now(), left = (int64_t)(port->address_count - place);
-        why = join(&port->addresses[place], now + (end - now) / left, file);
+        why = join(&port->addresses[place], port->is_patient, now + (end - now) / left, file);
     }
     /* The name may have others by now, for the next time. */
     if (why != 0) (void)resolve(port);

@@ -226,14 +226,38 @@ static void keep_address(kij_port *port, size_t place, int number) {
     port->address_count = place + 1;
 }
 
-/* An address that says nothing leaves time to the next one, and a host that acknowledges nothing is lost soon: the
-   system sends it what is due for a minute. */
+/* How a socket is set up. */
+static int option_of(int file, int level, int name) {
+    int value = -1;
+    socklen_t size = sizeof value;
+    return getsockopt(file, level, name, &value, &size) == 0 ? value : -1;
+}
+
+/* A device that is gone is found out: the system asks it while nothing is sent, and sends it what is due for a minute,
+   and a printer, whose cover may be open, for longer. */
+static void try_patience(void) {
+    kij_port port;
+    char name[64];
+    int number = 0, listener = listen_here(8, &number);
+    make_tcp(&port, name, sizeof name, number);
+    for (int turn = 0; turn < 2; turn++) {
+        port.is_patient = turn == 1;
+        told("a device that is there", true, kij_internal_port_open(&port, 1000));
+        told("it is asked", 1, option_of(port.file, SOL_SOCKET, SO_KEEPALIVE));
+        told("every 10 seconds", 10, option_of(port.file, IPPROTO_TCP, TCP_KEEPIDLE));
+        told("and again", 10, option_of(port.file, IPPROTO_TCP, TCP_KEEPINTVL));
+        told("the time for what is due", turn == 1 ? 0 : 60000, option_of(port.file, IPPROTO_TCP, TCP_USER_TIMEOUT));
+        told("nothing is held back", 1, option_of(port.file, IPPROTO_TCP, TCP_NODELAY));
+        kij_internal_port_close(&port);
+    }
+    close(listener);
+}
+
+/* An address that says nothing leaves time to the next one. */
 static void try_addresses(void) {
     kij_port port;
     char name[64];
     int silent = 0, number = 0, full = listen_here(0, &silent), listener = listen_here(8, &number), waiting[8];
-    int time = 0;
-    socklen_t size = sizeof time;
     make_tcp(&port, name, sizeof name, silent);
     keep_address(&port, 0, silent);
     for (size_t place = 0; place < 8; place++) {
@@ -244,8 +268,6 @@ static void try_addresses(void) {
     int64_t began = kij_internal_now();
     told("the second address", true, kij_internal_port_open(&port, 1000));
     told("after half of the time", true, kij_internal_now() - began < 900);
-    told("the system's time", 0, getsockopt(port.file, IPPROTO_TCP, TCP_USER_TIMEOUT, &time, &size));
-    told("it is a minute", 60000, time);
     kij_internal_port_close(&port);
     for (size_t place = 0; place < 8; place++) close(waiting[place]);
     close(full);
@@ -384,6 +406,7 @@ int main(int count, char **words) {
     try_endless();
     try_signal();
     try_addresses();
+    try_patience();
     try_empty();
     try_totals(path);
     snprintf(fifo, sizeof fifo, "%s/system-pipe", words[1]);
