@@ -1048,16 +1048,95 @@ def try_hosted():
 
 
 def try_own():
-    """A driver of the host's own, where the layer takes one."""
+    """A driver of the host's own: its orders, and what it says of its device."""
     with contextlib.ExitStack() as stack:
         host = Host(stack)
-        if host.ask("own d2 1") != "ok":
-            return
+        told("a drawer of the host's own", "ok", host.ask("own d2 1"))
         host.lines("new d CashDrawer", "open d d2", "set d DeviceEnabled true")
-        told("an order of the host's own driver", "ok", host.line("call d openDrawer"))
+        told("an order of its driver", "ok", host.line("call d openDrawer"))
+        told("the driver got it", "d2 openDrawer", host.ask("did"))
         told("one that it can't do", "err 111", host.line("call d openDrawer"))
         told("it is there", "online 0", host.ask("state d2"))
+        told("a driver already", "KIJ_DRIVEN", host.ask("own d2 1"))
         told("another kind", "KIJ_KIND_DIFFERS", host.ask("own p1 1"))
+        told("it is opened by hand", ["ok", "true", "ok true"],
+             [host.ask("says open"), host.ask("run 10"), host.line("get d DrawerOpened")])
+        told("nothing more happens", "false", host.ask("run 10"))
+        host.ask("there no")
+        told("it isn't there", ["true", "offline 0", "err 108"],
+             [host.ask("run 10"), host.ask("state d2"), host.line("call d openDrawer")])
+        told("it is back, and what can't happen there", ["ok"] * 2, [host.ask("there yes"), host.ask("says paper 5")])
+        told("the refusal", "KIJ_BAD_INPUT", host.ask("run 10"))
+        told("the others go on", ["false", "online 0"], [host.ask("run 10"), host.ask("state d2")])
+
+
+def try_own_printer():
+    """A printer and a display of the host's own: each order as the driver gets it, and why one isn't done."""
+    with contextlib.ExitStack() as stack:
+        host = Host(stack, PROFILE + SPARE)
+        told("a printer", "ok", host.ask("own r1 3 printer"))
+        host.lines("new r POSPrinter", "open r r1", "claim r 0", "set r DeviceEnabled true")
+        told("a line", ["ok", "r1 print 410a"], [host.line("call r printNormal 2 410a"), host.ask("did")])
+        told("a cut", ["ok", "r1 cutPaper 100"], [host.line("call r cutPaper 100"), host.ask("did")])
+        told("output that waits", ["ok", "ok"], host.lines("set r AsyncMode true", "call r printNormal 2 420a"))
+        told("it is printed", ["true", "event OutputCompleteEvent 1"], [host.ask("run 10"), host.line("deliver r")])
+        host.line("set r AsyncMode false")
+        host.ask("says cover open")
+        told("a line that isn't done, and why", "err 114 201", host.line("call r printNormal 2 430a"))
+        host.ask("says cover closed;paper 0")
+        told("two things at once", ["true", "ok false", "ok true"],
+             [host.ask("run 10"), *host.lines("get r CoverOpen", "get r RecEmpty")])
+        told("a spare is attached", ["ok"] * 3, host.lines("close r", "detach r1", "attach r1 1"))
+        told("the driver says how it is", "700", host.line("show r1").split()[2])
+    with contextlib.ExitStack() as stack:
+        host = Host(stack)
+        told("a display", "ok", host.ask("own p1 9 display"))
+        host.lines("new p LineDisplay", "open p p1", "claim p 0", "set p DeviceEnabled true")
+        for line, order in (("call p displayTextAt 1 2 4f4b 1", "p1 displayTextAt 4f4b 1 2 1"),
+                            ("call p scrollText 3 2", "p1 scrollText 3 2"), ("call p clearText", "p1 clearText")):
+            told(line, ["ok", order], [host.line(line), host.ask("did")])
+
+
+def try_own_scanner():
+    """A scanner of the host's own: its codes are told in order, and before it is off."""
+    with contextlib.ExitStack() as stack:
+        host = Host(stack)
+        told("a scanner", "ok", host.ask("own s1 0 scanner"))
+        host.lines("new s Scanner", "open s s1", "claim s 0", "set s DeviceEnabled true", "set s DecodeData true")
+
+        def reads(*codes):
+            for code in codes:
+                host.ask(f"reads {code}")
+            return host.ask("run 10")
+
+        def comes():
+            host.line("set s DataEventEnabled true")
+            return [host.line("deliver s"), *host.lines("get s ScanDataLabel", "get s ScanDataType")]
+        told("two codes", "true", reads("104 313233", "0 343536"))
+        told("the first", ["event DataEvent 0", "ok 313233", "ok 104"], comes())
+        told("the second", ["event DataEvent 0", "ok 343536", "ok 0"], comes())
+        told("a failed scan", ["true", "event ErrorEvent 111 0 2"], [reads("fault"), comes()[0]])
+        host.ask("there no")
+        told("a code of one that is gone", "true", reads("104 373839"))
+        told("it comes all the same", ["event DataEvent 0", "ok 373839", "ok 104"], comes())
+        told("it is off", "offline 0", host.ask("state s1"))
+        host.ask("there yes")
+        told("one that is back", "true", reads("501 61"))
+        told("its code", ["event DataEvent 0", "ok 61", "ok 501"], comes())
+        told("a type that there isn't", "KIJ_BAD_INPUT", reads("1000 62", "501 63"))
+        told("the next code", ["true", ["event DataEvent 0", "ok 63", "ok 501"]], [host.ask("run 10"), comes()])
+
+
+def try_own_calls():
+    """A driver of the host's own may not call the till, where it could."""
+    with contextlib.ExitStack() as stack:
+        host = Host(stack)
+        if host.ask("calls") != "ok":
+            return
+        host.ask("own d2 1")
+        host.lines("new d CashDrawer", "open d d2", "set d DeviceEnabled true")
+        told("an order whose driver calls the till", ["ok", "KIJ_IN_CALL"],
+             [host.line("call d openDrawer"), host.ask("did")])
 
 
 def try_errands():

@@ -523,6 +523,13 @@ def try_misuse():
         told("text for a number", "TypeError", name_of(display.scroll_text, "1", 1))
         told("a float for a number", "TypeError", name_of(display.scroll_text, 1.0, 1))
         told("a number for text", "TypeError", name_of(display.display_text, 5))
+        told("text for a truth value", "TypeError", name_of(setattr, drawer, "device_enabled", "false"))
+        told("nothing for one", "TypeError", name_of(setattr, drawer, "freeze_events", None))
+        told("a number that is none for one", "TypeError", name_of(till.device("d1").power, 2))
+        told("the drawer is as it was", (True, False), (drawer.device_enabled, drawer.freeze_events))
+        drawer.freeze_events = 1
+        told("1 is true", True, drawer.freeze_events)
+        drawer.freeze_events = False
         told("a number that is too long", "OverflowError", name_of(display.scroll_text, 10 ** 18, 1))
         told("text that isn't ASCII", "UnicodeEncodeError", name_of(display.display_text, "é"))
         told("a line feed in a name", "ValueError", name_of(till.device, "d1\nshow"))

@@ -665,6 +665,52 @@ kij_result kij_serial_display_open(kij_till *till, const char *device, const cha
 kij_result kij_wedge_scanner_open(kij_till *till, const char *device, const char *port,
                                   const kij_scanner_settings *settings);
 
+/** A code that a driver of your own has read, or a failed scan. */
+typedef struct kij_scan {
+    /** Whether the scanner failed to read; nothing else counts then. */
+    bool has_failed;
+    /** Its type, 0 to 999 (ScanDataType); all that came; and the code alone. */
+    int type;
+    const void *data;
+    size_t data_size;
+    const void *label;
+    size_t label_size;
+} kij_scan;
+
+/** A driver of your own, for other hardware. Each function gets the context that kij_driver_open got, and may be null.
+ * None may call the till: KIJ_IN_CALL. */
+typedef struct kij_driver {
+    /** The category of the device: KIJ_CASH_DRAWER, KIJ_SCANNER, KIJ_LINE_DISPLAY or KIJ_POS_PRINTER. */
+    kij_category category;
+    /** Carries out an order, which is lent, in a bounded time: whether the device has done it. Scanners have none. */
+    bool (*carry_out)(void *context, const kij_order *order);
+    /** What has happened at the device since the last call, as the words of `input` lines after the device's name
+     * (docs/reference/console.md), each with a line feed: "cover open\npaper 0\n". Null if nothing has. Keep the text
+     * until the next call. The till asks after an order that wasn't done, too, which it then answers accordingly. */
+    const char *(*happened)(void *context);
+    /** Whether the device is there. If not, the till takes it as switched off. By null it always is. */
+    bool (*is_online)(void *context);
+    /** Reads what the device has said, and looks for one that was lost, without waiting. */
+    void (*poll)(void *context);
+    /** Writes the next code that a scanner has read: whether there is one. Keep its bytes until the next call. */
+    bool (*scan)(void *context, kij_scan *scan);
+    /** The file descriptor at which something may come, which `poll` reads; or -1. */
+    int (*file)(void *context);
+    /** A spare serves the device from now on (kij_attach), which knows nothing of what `happened` said before. */
+    void (*attached)(void *context);
+    /** The till is closed. */
+    void (*end)(void *context);
+} kij_driver;
+
+/**
+ * Has a driver of your own carry out the orders of a device from now on, and tell what happens there.
+ *
+ * @param driver  it is copied; begin with all fields null. `carry_out` isn't null, unless it is a scanner's
+ * @param context what its functions get
+ * @return as kij_escpos_printer_open
+ */
+kij_result kij_driver_open(kij_till *till, const char *device, const kij_driver *driver, void *context);
+
 /**
  * Does what the driven devices need: tells the till what they say of themselves and what was scanned, opens lost ports
  * again, and prints output that waits (AsyncMode), at most one request of each printer. Call it regularly, and then

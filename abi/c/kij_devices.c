@@ -153,8 +153,8 @@ static bool is_data(char *word, kij_order *order) {
     return kij_internal_read_bytes(word, strlen(word), &order->size);
 }
 
-/* Reads an order's line: whether it is one of these. */
-static bool is_order(char *text, kij_order *order) {
+bool kij_internal_is_order(char *text, kij_order *order) {
+    memset(order, 0, sizeof *order);
     order->device = word_from(&text);
     const char *word = word_from(&text);
     if (strcmp(word, "openDrawer") == 0) order->kind = KIJ_ORDER_OPEN_DRAWER;
@@ -201,7 +201,7 @@ kij_result kij_next_order(kij_till *till, kij_order *order) {
     if (till->is_holding) kij_internal_give_up(till);
     switch (till->is_holding ? (uint32_t)KIJOLVAR_NO_MEMORY : take_order(till)) {
     case KIJOLVAR_OK: break;
-    case KIJOLVAR_ORDER: code = is_order(till->text, &found) ? KIJ_OK : KIJ_BAD_ANSWER; break;
+    case KIJOLVAR_ORDER: code = kij_internal_is_order(till->text, &found) ? KIJ_OK : KIJ_BAD_ANSWER; break;
     case KIJOLVAR_NO_MEMORY: code = KIJ_NO_MEMORY; break;
     case KIJOLVAR_DISK_FAILED: code = KIJ_DISK_FAILED; break;
     default: code = KIJ_BAD_ANSWER;

@@ -13,10 +13,17 @@ static kij_result plain(int code) { return kij_internal_result(code, 0, KIJ_NO_C
    that has failed waits, and a time before all others, in milliseconds. */
 static const int64_t quickly = 250, settle = 1000, rest = 100, never = -1000000000;
 
-/* The longest code of a scanner, how many ports are waited for at once, of how many orders of a printer the till keeps
-   the paper, and from how many lines before the near end on a roll is long; as many as a request of line feeds alone
-   feeds. */
-enum { LONGEST_CODE = 4096, MOST_PORTS = 64, KEPT_ORDERS = 500, LONG_ROLL = 100, MOST_FEEDS = 4096 };
+/* The longest code of a scanner and the highest type, how many ports are waited for at once, of how many orders of a
+   printer the till keeps the paper, and from how many lines before the near end on a roll is long; as many as a request
+   of line feeds alone feeds. */
+enum {
+    LONGEST_CODE = 4096,
+    HIGHEST_TYPE = 999,
+    MOST_PORTS = 64,
+    KEPT_ORDERS = 500,
+    LONG_ROLL = 100,
+    MOST_FEEDS = 4096
+};
 
 /* The drive of the device of a name, which is written behind a space; or null. */
 static kij_drive *drive_of(const kij_drives *drives, const char *name, size_t size) {
@@ -29,16 +36,24 @@ static kij_drive *drive_of(const kij_drives *drives, const char *name, size_t si
 static kij_port *port_of(kij_drive *drive) { return drive->link != NULL ? &drive->link->port : &drive->port; }
 
 static bool is_online(kij_drive *drive) {
+    if (drive->is_own) return drive->own.is_online == NULL || drive->own.is_online(drive->context);
     return drive->link != NULL ? kij_internal_link_is_online(drive->link) : kij_internal_port_is_open(&drive->port);
 }
 
+static bool is_range(int number, int least, int most) { return number >= least && number <= most; }
+
 /* ---- Inputs ---- */
 
-/* Adds a line: whether there is memory. */
-static bool add_line(kij_buffer *lines, const kij_drive *drive, const char *words) {
+/* Adds a line of these words: whether there is memory. */
+static bool add_words(kij_buffer *lines, const kij_drive *drive, const char *words, size_t size) {
     return kij_internal_buffer_add(lines, "input", 5) &&
            kij_internal_buffer_add(lines, drive->name.text, drive->name.size) &&
-           kij_internal_buffer_add(lines, words, strlen(words)) && kij_internal_buffer_add(lines, "\n", 1);
+           kij_internal_buffer_add(lines, " ", 1) && kij_internal_buffer_add(lines, words, size) &&
+           kij_internal_buffer_add(lines, "\n", 1);
+}
+
+static bool add_line(kij_buffer *lines, const kij_drive *drive, const char *words) {
+    return add_words(lines, drive, words, strlen(words));
 }
 
 /* Whether one of the lines, from a place on, says the same of the same thing as a line does: its third word. */
@@ -94,7 +109,7 @@ static bool add_paper(kij_drive *drive, kij_buffer *lines, size_t from) {
     bool is_due = !drive->belief.is_known || is_counted_down(drive);
     bool is_told = has_input(lines, from, text, front);
     if (!is_told && is_due && drive->link->signs.paper == KIJ_PAPER_GOOD) {
-        snprintf(text, sizeof text, " paper %u", (unsigned)drive->wire.lines);
+        snprintf(text, sizeof text, "paper %u", (unsigned)drive->wire.lines);
         if (!add_line(lines, drive, text)) return false;
         is_told = true;
     }
@@ -116,6 +131,24 @@ static bool add_told(kij_till *till, kij_drive *drive, kij_buffer *lines) {
     return drive->category != KIJ_POS_PRINTER || link->told_count == 0 || add_paper(drive, lines, from);
 }
 
+/* Adds what a driver of the caller's says has happened. A text that isn't told yet is first. Whether there is memory.
+   */
+static bool add_own(kij_drive *drive, kij_buffer *lines) {
+    if (drive->belief.texts == drive->texts) {
+        const char *text = drive->own.happened == NULL ? NULL : drive->own.happened(drive->context);
+        if (text == NULL) return true;
+        drive->text = text;
+        drive->texts++;
+    }
+    for (const char *line = drive->text; *line != 0; line += strspn(line, "\n")) {
+        size_t size = strcspn(line, "\n");
+        if (!add_words(lines, drive, line, size)) return false;
+        line += size;
+    }
+    drive->belief.texts = drive->texts;
+    return true;
+}
+
 /* Adds what has happened at a device: one that is back is on first. Whether there is memory. */
 static bool add_all(kij_till *till, kij_drive *drive, kij_buffer *lines) {
     char on[40];
@@ -124,9 +157,10 @@ static bool add_all(kij_till *till, kij_drive *drive, kij_buffer *lines) {
     /* A device that is off has no scans any more. */
     if (!is_online(drive) && !drive->is_untold && !drive->has_failed) {
         drive->belief.power = KIJ_POWER_OFF;
-        return before == KIJ_POWER_OFF || add_line(lines, drive, " power off");
+        return before == KIJ_POWER_OFF || add_line(lines, drive, "power off");
     }
     if (drive->link != NULL && !add_told(till, drive, lines)) return false;
+    if (drive->is_own && !add_own(drive, lines)) return false;
     size_t size = (size_t)snprintf(on, sizeof on, "input%s power on\n", drive->name.text);
     if (before != KIJ_POWER_ON && !has_input(lines, 0, on, size - 1)) {
         /* No status has come yet, or it was the paper's alone. */
@@ -243,8 +277,17 @@ static bool show(kij_till *till, kij_drive *drive) {
     return false;
 }
 
-static bool carry_out(kij_till *till, kij_drive *drive) {
+/* Has a driver of the caller's carry out the order of a line: whether the device has done it. */
+static bool carry_out_own(kij_drive *drive, char *line) {
+    kij_order order;
+    bool is_done = kij_internal_is_order(line, &order) && drive->own.carry_out(drive->context, &order);
+    if (is_done && drive->category == KIJ_POS_PRINTER) drive->orders++;
+    return is_done;
+}
+
+static bool carry_out(kij_till *till, kij_drive *drive, char *line) {
     if (!is_online(drive)) return false;
+    if (drive->is_own) return carry_out_own(drive, line);
     if (drive->category == KIJ_LINE_DISPLAY) return show(till, drive);
     uint64_t statuses = drive->link->statuses;
     bool is_printer = drive->category == KIJ_POS_PRINTER;
@@ -257,9 +300,9 @@ static bool carry_out(kij_till *till, kij_drive *drive) {
     return is_done;
 }
 
-/* Takes out the order for which a line waits, and its device. Those of hosted devices before it are kept. A code of the
-   library: KIJOLVAR_ORDER if there is one. */
-static uint32_t take_order(kij_till *till, kij_drive **drive) {
+/* Takes out the order for which a line waits, its device, and its text. Orders of hosted devices before it are kept. A
+   code of the library: KIJOLVAR_ORDER if there is one. */
+static uint32_t take_order(kij_till *till, kij_drive **drive, char **text) {
     kij_drives *drives = till->drives;
     kij_buffer *hosted = &drives->hosted;
     for (;;) {
@@ -273,6 +316,8 @@ static uint32_t take_order(kij_till *till, kij_drive **drive) {
         if (code != KIJOLVAR_ORDER) return code;
         const char *end = (const char *)memchr(line, ' ', needed);
         *drive = drive_of(drives, line, end == NULL ? needed : (size_t)(end - line));
+        line[needed] = 0;
+        *text = line;
         if (*drive != NULL) return code;
         line[needed] = '\n';
         hosted->size += needed + 1;
@@ -316,7 +361,8 @@ static uint32_t settled(kij_till *till, uint32_t code, size_t *needed, bool *is_
 /* Has the order that waits carried out. A code of the library: KIJOLVAR_ORDER if it is reported. */
 static uint32_t serve(kij_till *till, bool is_wanted, kij_report *made) {
     kij_drive *drive = NULL;
-    uint32_t code = take_order(till, &drive);
+    char *line = NULL;
+    uint32_t code = take_order(till, &drive, &line);
     /* An order that was taken out before, and wasn't reported, is no more. */
     if (code != KIJOLVAR_ORDER && code != KIJOLVAR_NO_ORDER) return code;
     memset(made, 0, sizeof *made);
@@ -324,7 +370,7 @@ static uint32_t serve(kij_till *till, bool is_wanted, kij_report *made) {
     till->drives->inputs.size = 0;
     if (drive == NULL || !is_wanted) return KIJOLVAR_ORDER;
     till->drives->has_served = true;
-    made->is_done = carry_out(till, drive);
+    made->is_done = carry_out(till, drive, line);
     if (made->is_done) return KIJOLVAR_ORDER;
     made->drive = drive;
     made->before = drive->belief;
@@ -586,6 +632,33 @@ static int take_scans(kij_till *till, kij_drive *drive, bool *is_any) {
     return code;
 }
 
+/* Whether a driver of the caller's has a code that isn't told yet, or a failed scan. */
+static bool has_scan(kij_drive *drive) {
+    if (drive->is_untold || drive->own.scan == NULL) return drive->is_untold;
+    memset(&drive->scan, 0, sizeof drive->scan);
+    drive->is_untold = drive->own.scan(drive->context, &drive->scan);
+    return drive->is_untold;
+}
+
+/* Tells the till of what a driver of the caller's has scanned: a code of enum kij_code. What can't be told for want of
+   memory stays. */
+static int own_scans(kij_till *till, kij_drive *drive, bool *is_any) {
+    static const kij_word words[] = {KIJ_WORD(" scan"), KIJ_WORD(" fault")};
+    int code = KIJ_OK;
+    for (int part = 0; part < KIJ_MOST_PARTS && code == KIJ_OK && has_scan(drive); part++) {
+        const kij_scan *scan = &drive->scan;
+        const kij_argument arguments[] = {kij_internal_number(scan->type),
+                                          kij_internal_bytes(scan->data, scan->data_size),
+                                          kij_internal_bytes(scan->label, scan->label_size)};
+        size_t count = scan->has_failed ? 0 : 3;
+        drive->is_untold = false;
+        if (!is_range(scan->type, 0, HIGHEST_TYPE)) return KIJ_BAD_INPUT;
+        code = tell_scan(till, drive, &words[scan->has_failed], arguments, count, &drive->is_untold);
+        *is_any |= code == KIJ_OK;
+    }
+    return code;
+}
+
 /* Reads what a scanner has sent: a code of enum kij_code. A control ignores codes from a failed scan on, so those that
    have come are first. */
 static int scans(kij_till *till, kij_drive *drive, bool *is_any) {
@@ -623,6 +696,12 @@ static void connect_port(kij_drive *drive, int64_t time) {
 
 /* Reads what a device has said, and looks for one that was lost, without waiting. */
 static void look(kij_drive *drive) {
+    if (drive->is_own) {
+        if (drive->own.poll != NULL) drive->own.poll(drive->context);
+        /* A code comes before the device is off. */
+        if (drive->category == KIJ_SCANNER) (void)has_scan(drive);
+        return;
+    }
     if (drive->link != NULL) {
         if (drive->has_link) kij_internal_link_poll(drive->link);
         return;
@@ -635,7 +714,8 @@ static void look(kij_drive *drive) {
 static int read_scanners(kij_till *till, bool *is_any) {
     int code = KIJ_OK;
     for (kij_drive *drive = till->drives->first; drive != NULL; drive = drive->next) {
-        int found = drive->category == KIJ_SCANNER ? scans(till, drive, is_any) : KIJ_OK;
+        int found = KIJ_OK;
+        if (drive->category == KIJ_SCANNER) found = (drive->is_own ? own_scans : scans)(till, drive, is_any);
         if (code == KIJ_OK) code = found;
     }
     return code;
@@ -683,8 +763,10 @@ static void wait_for_any(const kij_drives *drives, int64_t time) {
         const kij_port *port = port_of(drive);
         if (drive->link != NULL && !drive->has_link) continue;
         /* One that gives nothing may be readable all the time. */
-        if (!kij_internal_port_is_open(port) || port->was_empty) continue;
-        waiting[count].fd = port->file;
+        int file = port->was_empty ? -1 : port->file;
+        if (drive->is_own) file = drive->own.file == NULL ? -1 : drive->own.file(drive->context);
+        if (file < 0) continue;
+        waiting[count].fd = file;
         waiting[count].events = POLLIN;
         waiting[count++].revents = 0;
     }
@@ -741,6 +823,7 @@ static int category_of(kij_till *till, const kij_word *name, kij_category *categ
 }
 
 static void free_drive(kij_drive *drive) {
+    if (drive->is_own && drive->own.end != NULL) drive->own.end(drive->context);
     kij_internal_port_close(&drive->port);
     if (drive->link != NULL && drive->has_link) kij_internal_link_end(drive->link);
     free(drive->begun);
@@ -814,6 +897,8 @@ void kij_internal_drive_again(kij_till *till, const char *name, size_t size) {
     /* One that isn't attached after all can't be driven. */
     if (drive->category != KIJ_SCANNER) (void)begin_drive(till, drive);
     memset(&drive->belief, 0, sizeof drive->belief);
+    drive->belief.texts = drive->texts;
+    if (drive->is_own && drive->own.attached != NULL) drive->own.attached(drive->context);
     drive->kicked_at = -1;
     drive->is_new = true;
     /* What isn't handed in now is the next time. */
@@ -853,8 +938,6 @@ void kij_internal_end_drives(kij_till *till) {
     free(drives);
     till->drives = NULL;
 }
-
-static bool is_range(int number, int least, int most) { return number >= least && number <= most; }
 
 /* Takes over the settings of a printer, so far as they aren't the library's to check. */
 static int wire_of(const kij_escpos_settings *settings, kijolvar_wire_settings *wire) {
@@ -1010,7 +1093,7 @@ kij_result kij_wedge_scanner_open(kij_till *till, const char *device, const char
     kij_drive *drive = NULL;
     if (settings == NULL) settings = &usual;
     if (port == NULL) return plain(KIJ_BAD_ARGUMENT);
-    if (!is_range(settings->type, 0, 999) || !is_range(settings->pause, 0, INT32_MAX) ||
+    if (!is_range(settings->type, 0, HIGHEST_TYPE) || !is_range(settings->pause, 0, INT32_MAX) ||
         !kij_internal_is_serial(&settings->serial) || !kij_internal_is_port(port))
         return plain(KIJ_BAD_SETTINGS);
     int code = kij_internal_enter(till);
@@ -1022,6 +1105,35 @@ kij_result kij_wedge_scanner_open(kij_till *till, const char *device, const char
         drive->pause = settings->pause;
         code = open_port(till, drive, port, &settings->serial, settings->has_keys);
     }
+    kij_internal_leave(till);
+    return plain(code);
+}
+
+/* Has a driver of the caller's drive a device: a code of enum kij_code. */
+static int open_own(kij_till *till, const char *device, const kij_driver *driver, void *context) {
+    kij_drive *drive = NULL;
+    bool is_any = false;
+    int code = make_drive(till, device, driver->category, &drive);
+    if (code == KIJ_OK && drive->category != KIJ_SCANNER) code = begin_drive(till, drive);
+    if (code != KIJ_OK) {
+        if (drive != NULL) free_drive(drive);
+        return code;
+    }
+    drive->own = *driver;
+    drive->context = context;
+    drive->is_own = true;
+    add_drive(till->drives, drive);
+    /* What isn't handed in now is the next time. */
+    (void)kij_internal_hand_in(till, &is_any);
+    return code;
+}
+
+kij_result kij_driver_open(kij_till *till, const char *device, const kij_driver *driver, void *context) {
+    if (driver == NULL) return plain(KIJ_BAD_ARGUMENT);
+    if (driver->carry_out == NULL && driver->category != KIJ_SCANNER) return plain(KIJ_BAD_ARGUMENT);
+    int code = kij_internal_enter(till);
+    if (code != KIJ_OK) return plain(code);
+    code = open_own(till, device, driver, context);
     kij_internal_leave(till);
     return plain(code);
 }

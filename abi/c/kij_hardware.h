@@ -174,6 +174,8 @@ typedef struct kij_belief {
     /* A printer: whether its first status has come, and how many lines its orders had when its paper was told last. */
     bool is_known;
     uint64_t counted_from;
+    /* A driver of the caller's: how many of the texts of what has happened. */
+    uint64_t texts;
 } kij_belief;
 
 /* A driven device. */
@@ -213,6 +215,14 @@ typedef struct kij_drive {
     size_t begun_size;
     uint8_t got[64];
     size_t got_size;
+    /* A driver of the caller's, if there is one: the last text of what has happened, how many there were, and the last
+       code. */
+    bool is_own;
+    kij_driver own;
+    void *context;
+    const char *text;
+    uint64_t texts;
+    kij_scan scan;
 } kij_drive;
 
 /* A report of an order. */
@@ -316,6 +326,11 @@ uint32_t kij_internal_order_bytes(kij_till *till, const kijolvar_wire_settings *
 
 /* Closes the port, and frees what the line has. */
 void kij_internal_link_end(kij_link *link);
+
+/* kij_devices.c */
+
+/* Reads an order's line, which is changed: whether it is one. */
+bool kij_internal_is_order(char *text, kij_order *order);
 
 /* kij_drivers.c */
 

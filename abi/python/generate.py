@@ -14,7 +14,7 @@ WIDTH = 120
 HEAD = ('"""{}\n\nWritten by abi/python/generate.py: don\'t change it by hand.\n"""\n'
         "from __future__ import annotations\n")
 
-TYPES = {"number": "int", "bytes": "Text", "truth": "bool", "device": "str"}
+TYPES = {"number": "SupportsIndex", "bytes": "Text", "truth": "bool", "device": "str"}
 FORMS = {"number": "{{integer({})}}", "bytes": "{{hexed({})}}", "truth": "{{truth({})}}"}
 GIVEN = {"number": "int", "bytes": "bytes", "truth": "bool"}
 # Arguments that may be left out, and what they are then.
@@ -123,7 +123,7 @@ def constants(found):
 
 def errors(found):
     parts = [HEAD.format("The exceptions: one for each code of the standard, and what else goes wrong.")
-             + "\n" + imported("._faults", [*FAULTS, "library_fault"])]
+             + "\n" + imported("._faults", FAULTS)]
     for code in found["result_codes"][1:]:
         parts.append(error_class(code, f"UposError{BASES.get(code['name'], '')}", str(code["number"])))
     for code in found["extended_codes"]:
@@ -238,7 +238,7 @@ def signature(method):
     listed = ["self"]
     for argument in method["arguments"]:
         default = DEFAULTS.get((method["word"], argument["name"]))
-        kind = "SupportsIndex" if argument["name"] == "handle" else TYPES[argument["type"]]
+        kind = TYPES[argument["type"]]
         listed.append(f"{argument['name']}: {kind}" + (f" = {default}" if default else ""))
     return ", ".join(listed)
 
@@ -316,7 +316,7 @@ def property_code(about, names):
     read = carried(f"self._get + b\"{name}\"", snake, "enum" if about["values"] else about["type"], about["values"])
     lines = ["    @property", f"    def {snake}(self) -> {kind}:", property_doc(about, names), read]
     if about["writable"]:
-        line = (f"self._set + (b\"{name} true\" if value else b\"{name} false\")" if about["type"] == "truth"
+        line = (f"self._set + f\"{name} {{truth(value)}}\".encode()" if about["type"] == "truth"
                 else f"self._set + b\"{name} %d\" % integer(value)")
         lines += ["", f"    @{snake}.setter", f"    def {snake}(self, value: {kind}) -> None:",
                   carried(line, snake, "none", None)]

@@ -4,6 +4,13 @@
    printer DEVICE PORT [drawer NAME] [timeout N] [pause N] [lines N] [width N] [asked] [serial SPEED]
    display DEVICE PORT [escpos] [timeout N] [pause N]
    scanner DEVICE PORT [keys] [pause N]
+   own DEVICE N [printer|display|scanner]
+                     kij_driver_open: a driver of this program's, whose drawer, or other device, takes so many orders
+   did               the last order of that, in words
+   says WORDS;WORDS  what happens there next
+   there yes|no      whether the device is there
+   reads TYPE HEX    a code that it reads next; or a failed scan, for `fault` in place of the type
+   calls             whether the till may be called from the driver's next order
    run TIMEOUT       kij_run_devices: `true` or `false`
    state DEVICE      kij_show_driver: whether it is online, and how many orders were printed late
    lines LINE;LINE   kij_carry_out: the answers, with `;` in place of line feeds
@@ -86,6 +93,141 @@ static kij_result open_scanner(void) {
     return kij_wedge_scanner_open(till, device, port, &settings);
 }
 
+/* ---- A driver of this program's ---- */
+
+/* A code that is read next. */
+typedef struct code {
+    bool has_failed;
+    int type;
+    char data[40];
+    size_t size;
+} code;
+
+static struct {
+    int left;
+    char did[200];
+    char says[200];
+    /* What `happened` returned last. */
+    char said[200];
+    bool is_away;
+    code codes[32];
+    size_t code_count;
+    size_t read;
+    bool calls;
+    bool has_ended;
+} own;
+
+/* An order in words. */
+static void write_order(const kij_order *order) {
+    static const char *const kinds[] = {"none",       "openDrawer", "displayTextAt", "clearText",
+                                        "scrollText", "print",      "cutPaper"};
+    int size = snprintf(own.did, sizeof own.did, "%s %s", order->device, kinds[order->kind]);
+    char *at = own.did + size;
+    if (order->size > 0) *at++ = ' ';
+    for (size_t place = 0; place < order->size; place++) at += sprintf(at, "%02x", order->data[place]);
+    if (order->kind == KIJ_ORDER_DISPLAY_TEXT_AT) sprintf(at, " %d %d %d", order->row, order->column, order->attribute);
+    if (order->kind == KIJ_ORDER_SCROLL_TEXT) sprintf(at, " %d %d", order->direction, order->units);
+    if (order->kind == KIJ_ORDER_CUT_PAPER) sprintf(at, " %d", order->percentage);
+}
+
+static bool carry_out_own(void *context, const kij_order *order) {
+    (void)context;
+    write_order(order);
+    if (own.calls) {
+        kij_result result = kij_run_devices(till, 0, NULL);
+        snprintf(own.did, sizeof own.did, "%s", kij_code_name(result.code));
+    }
+    return own.left-- > 0;
+}
+
+static const char *happened_own(void *context) {
+    (void)context;
+    if (own.says[0] == 0) return NULL;
+    strcpy(own.said, own.says);
+    own.says[0] = 0;
+    return own.said;
+}
+
+static bool is_online_own(void *context) {
+    (void)context;
+    return !own.is_away;
+}
+
+static bool scan_own(void *context, kij_scan *scan) {
+    (void)context;
+    if (own.read == own.code_count) return false;
+    const code *found = &own.codes[own.read++];
+    scan->has_failed = found->has_failed;
+    scan->type = found->type;
+    scan->data = scan->label = found->data;
+    scan->data_size = scan->label_size = found->size;
+    return true;
+}
+
+static void attached_own(void *context) {
+    (void)context;
+    strcpy(own.says, "paper 700\n");
+}
+
+/* The program must see this, so that the tests do. */
+static void end_own(void *context) {
+    (void)context;
+    own.has_ended = true;
+}
+
+static kij_result open_own(void) {
+    kij_driver driver;
+    const char *device = word();
+    memset(&driver, 0, sizeof driver);
+    own.left = number();
+    const char *kind = word();
+    driver.category = KIJ_CASH_DRAWER;
+    if (kind != NULL && strcmp(kind, "printer") == 0) driver.category = KIJ_POS_PRINTER;
+    if (kind != NULL && strcmp(kind, "display") == 0) driver.category = KIJ_LINE_DISPLAY;
+    if (kind != NULL && strcmp(kind, "scanner") == 0) driver.category = KIJ_SCANNER;
+    if (driver.category != KIJ_SCANNER) driver.carry_out = carry_out_own;
+    driver.happened = happened_own;
+    driver.is_online = is_online_own;
+    driver.scan = scan_own;
+    driver.attached = attached_own;
+    driver.end = end_own;
+    return kij_driver_open(till, device, &driver, NULL);
+}
+
+/* Writes bytes in hex digits, of which there is room for. */
+static size_t bytes_of(const char *digits, char *bytes) {
+    size_t size = strlen(digits) / 2;
+    for (size_t place = 0; place < size; place++) {
+        char pair[3] = {digits[2 * place], digits[2 * place + 1], 0};
+        bytes[place] = (char)strtoul(pair, NULL, 16);
+    }
+    return size;
+}
+
+static const char *say(char *words) {
+    size_t size = strcspn(words, "\n");
+    memcpy(own.says, words, size);
+    strcpy(own.says + size, "\n");
+    for (char *at = own.says; *at != 0; at++)
+        if (*at == ';') *at = '\n';
+    return "ok";
+}
+
+static const char *read_code(void) {
+    const char *kind = word(), *digits = word();
+    if (own.read == own.code_count) own.read = own.code_count = 0;
+    code *next = &own.codes[own.code_count++];
+    next->has_failed = strcmp(kind, "fault") == 0;
+    next->type = next->has_failed ? 0 : (int)strtol(kind, NULL, 10);
+    next->size = digits == NULL ? 0 : bytes_of(digits, next->data);
+    return "ok";
+}
+
+static const char *set_there(void) {
+    own.is_away = strcmp(word(), "no") == 0;
+    return "ok";
+}
+
 static void run(void) {
     bool is_any = false;
     kij_result result = kij_run_devices(till, number(), &is_any);
@@ -117,11 +259,7 @@ static void carry_out(char *lines) {
 static void print(void) {
     static uint8_t bytes[100000];
     char *digits = strtok(NULL, "\n");
-    size_t size = digits == NULL ? 0 : strlen(digits) / 2;
-    for (size_t place = 0; place < size; place++) {
-        char pair[3] = {digits[2 * place], digits[2 * place + 1], 0};
-        bytes[place] = (uint8_t)strtoul(pair, NULL, 16);
-    }
+    size_t size = digits == NULL ? 0 : bytes_of(digits, (char *)bytes);
     kij_result result = {KIJ_OK, 0, KIJ_NO_CATEGORY};
     if (printer == NULL) result = kij_start(till, KIJ_POS_PRINTER, "r1", KIJ_CLAIMED, &printer);
     if (result.code == KIJ_OK) result = kij_printer_print(printer, KIJ_PTR_S_RECEIPT, bytes, size);
@@ -156,11 +294,20 @@ static void obey(char *line) {
         carry_out(rest);
         return;
     }
+    if (strncmp(line, "says ", 5) == 0) {
+        puts(say(rest));
+        return;
+    }
     const char *verb = strtok(line, " \n");
     if (verb == NULL) answer(kij_run_devices(till, -1, NULL), "");
     else if (strcmp(verb, "printer") == 0) answer(open_printer(), "ok");
     else if (strcmp(verb, "display") == 0) answer(open_display(), "ok");
     else if (strcmp(verb, "scanner") == 0) answer(open_scanner(), "ok");
+    else if (strcmp(verb, "own") == 0) answer(open_own(), "ok");
+    else if (strcmp(verb, "did") == 0) puts(own.did);
+    else if (strcmp(verb, "there") == 0) puts(set_there());
+    else if (strcmp(verb, "reads") == 0) puts(read_code());
+    else if (strcmp(verb, "calls") == 0) puts((own.calls = true) ? "ok" : "");
     else if (strcmp(verb, "run") == 0) run();
     else if (strcmp(verb, "state") == 0) state();
     else if (strcmp(verb, "print") == 0) print();
@@ -207,6 +354,7 @@ int main(int count, char **words) {
         obey(line);
         fflush(stdout);
     }
+    bool is_own = own.did[0] != 0;
     kij_close(till);
-    return 0;
+    return is_own && !own.has_ended;
 }

@@ -37,9 +37,16 @@ def hexed(text: Text) -> str:
     raise TypeError(f"bytes or ASCII text needed, not {type(text).__name__}")
 
 
+def is_true(value: bool) -> bool:
+    """Whether an argument is true. Text such as "false" is neither true nor false."""
+    if value not in (True, False):
+        raise TypeError(f"True or False needed, not {value!r}")
+    return bool(value)
+
+
 def truth(value: bool) -> str:
     """An argument that is true or false, as a line has it."""
-    return "true" if value else "false"
+    return "true" if is_true(value) else "false"
 
 
 def device_word(name: str) -> bytes:
@@ -69,7 +76,7 @@ class Control:
         self._till = till
         self._name = device_word(name)
         self._carry_out = till._carry_out
-        self._call = b"call %b " % self._name
+        self._call: bytes = b"call %b " % self._name
         self._words = self._call.decode()
         self._get = b"get %b " % self._name
         self._set = b"set %b " % self._name

@@ -87,7 +87,7 @@ class StandardControl(Control):
 
     @device_enabled.setter
     def device_enabled(self, value: bool) -> None:
-        answer = self._carry_out(self._set + (b"DeviceEnabled true" if value else b"DeviceEnabled false"))
+        answer = self._carry_out(self._set + f"DeviceEnabled {truth(value)}".encode())
         if answer != OK:
             raise self._refusal(answer, "device_enabled")
 
@@ -114,7 +114,7 @@ class StandardControl(Control):
 
     @freeze_events.setter
     def freeze_events(self, value: bool) -> None:
-        answer = self._carry_out(self._set + (b"FreezeEvents true" if value else b"FreezeEvents false"))
+        answer = self._carry_out(self._set + f"FreezeEvents {truth(value)}".encode())
         if answer != OK:
             raise self._refusal(answer, "freeze_events")
 
@@ -211,7 +211,7 @@ class StandardControl(Control):
         """
         self._close()
 
-    def claim(self, timeout: int = 0) -> Claim:
+    def claim(self, timeout: SupportsIndex = 0) -> Claim:
         """Claims the device, which keeps other controls from using it.
 
         A claim that the control has already stays as it is. The call never waits: if another control has the device, it
@@ -348,7 +348,7 @@ class Scanner(StandardControl):
 
     @data_event_enabled.setter
     def data_event_enabled(self, value: bool) -> None:
-        answer = self._carry_out(self._set + (b"DataEventEnabled true" if value else b"DataEventEnabled false"))
+        answer = self._carry_out(self._set + f"DataEventEnabled {truth(value)}".encode())
         if answer != OK:
             raise self._refusal(answer, "data_event_enabled")
 
@@ -375,7 +375,7 @@ class Scanner(StandardControl):
 
     @auto_disable.setter
     def auto_disable(self, value: bool) -> None:
-        answer = self._carry_out(self._set + (b"AutoDisable true" if value else b"AutoDisable false"))
+        answer = self._carry_out(self._set + f"AutoDisable {truth(value)}".encode())
         if answer != OK:
             raise self._refusal(answer, "auto_disable")
 
@@ -418,7 +418,7 @@ class Scanner(StandardControl):
 
     @decode_data.setter
     def decode_data(self, value: bool) -> None:
-        answer = self._carry_out(self._set + (b"DecodeData true" if value else b"DecodeData false"))
+        answer = self._carry_out(self._set + f"DecodeData {truth(value)}".encode())
         if answer != OK:
             raise self._refusal(answer, "decode_data")
 
@@ -617,11 +617,11 @@ class LineDisplay(StandardControl):
 
     @cursor_update.setter
     def cursor_update(self, value: bool) -> None:
-        answer = self._carry_out(self._set + (b"CursorUpdate true" if value else b"CursorUpdate false"))
+        answer = self._carry_out(self._set + f"CursorUpdate {truth(value)}".encode())
         if answer != OK:
             raise self._refusal(answer, "cursor_update")
 
-    def display_text(self, text: Text, attribute: int = DISP_DT_NORMAL) -> None:
+    def display_text(self, text: Text, attribute: SupportsIndex = DISP_DT_NORMAL) -> None:
         """Shows a text from the cursor on.
 
         A line feed goes to the start of the next row, a carriage return to the start of its row. A text that runs past
@@ -648,7 +648,8 @@ class LineDisplay(StandardControl):
         if answer != OK:
             raise self._refusal(answer, "display_text")
 
-    def display_text_at(self, row: int, column: int, text: Text, attribute: int = DISP_DT_NORMAL) -> None:
+    def display_text_at(self, row: SupportsIndex, column: SupportsIndex, text: Text, attribute: SupportsIndex =
+                        DISP_DT_NORMAL) -> None:
         """Moves the cursor to a place, and shows a text from there on, as displayText does.
 
         The cursor moves to the place even if CursorUpdate is false.
@@ -695,7 +696,7 @@ class LineDisplay(StandardControl):
         if answer != OK:
             raise self._refusal(answer, "clear_text")
 
-    def scroll_text(self, direction: int, units: int) -> None:
+    def scroll_text(self, direction: SupportsIndex, units: SupportsIndex) -> None:
         """Scrolls what the display shows, and leaves blanks behind it; the cursor stays.
 
         Args:
@@ -754,7 +755,7 @@ class POSPrinter(StandardControl):
 
     @async_mode.setter
     def async_mode(self, value: bool) -> None:
-        answer = self._carry_out(self._set + (b"AsyncMode true" if value else b"AsyncMode false"))
+        answer = self._carry_out(self._set + f"AsyncMode {truth(value)}".encode())
         if answer != OK:
             raise self._refusal(answer, "async_mode")
 
@@ -848,7 +849,7 @@ class POSPrinter(StandardControl):
             return False
         raise self._refusal(answer, "rec_near_end")
 
-    def print_normal(self, station: int, data: Text) -> None:
+    def print_normal(self, station: SupportsIndex, data: Text) -> None:
         """Prints data, with its escape sequences; if AsyncMode is true, it is queued and printed later.
 
         The data counts as printed whole, or not at all; an attached printer may have printed its first lines. An
@@ -878,7 +879,7 @@ class POSPrinter(StandardControl):
         if answer != OK:
             raise self._refusal(answer, "print_normal")
 
-    def print_immediate(self, station: int, data: Text) -> None:
+    def print_immediate(self, station: SupportsIndex, data: Text) -> None:
         """Prints data at once, before all requests that wait.
 
         The data counts as printed whole, or not at all; an attached printer may have printed its first lines.
@@ -906,7 +907,7 @@ class POSPrinter(StandardControl):
         if answer != OK:
             raise self._refusal(answer, "print_immediate")
 
-    def cut_paper(self, percentage: int = PTR_CP_FULLCUT) -> None:
+    def cut_paper(self, percentage: SupportsIndex = PTR_CP_FULLCUT) -> None:
         """Cuts the receipt's paper; if AsyncMode is true, the cut is queued and done later.
 
         A cut of 0 percent cuts nothing, but still needs a closed cover and paper.
@@ -1079,7 +1080,7 @@ class HardTotals(StandardControl):
             return False
         raise self._refusal(answer, "cap_error_detection")
 
-    def create(self, name: Text, size: int, error_detection: bool = False) -> int:
+    def create(self, name: Text, size: SupportsIndex, error_detection: bool = False) -> int:
         """Creates a file whose bytes are all 0, and returns its handle.
 
         Error detection changes nothing.
@@ -1154,7 +1155,7 @@ class HardTotals(StandardControl):
         first, second = answer[3:].split()
         return int(first), int(second)
 
-    def find_by_index(self, index: int) -> bytes:
+    def find_by_index(self, index: SupportsIndex) -> bytes:
         """Returns the name of the file at an index, in the order of creation.
 
         Args:
@@ -1177,7 +1178,7 @@ class HardTotals(StandardControl):
             raise self._refusal(answer, "find_by_index")
         return unhexlify(answer[3:-1]) if answer != OK_NO_BYTES else b""
 
-    def read(self, handle: SupportsIndex, offset: int, count: int) -> bytes:
+    def read(self, handle: SupportsIndex, offset: SupportsIndex, count: SupportsIndex) -> bytes:
         """Reads bytes of a file as they are on the disk; what a transaction has buffered isn't among them.
 
         Args:
@@ -1203,7 +1204,7 @@ class HardTotals(StandardControl):
             raise self._refusal(answer, "read")
         return unhexlify(answer[3:-1]) if answer != OK_NO_BYTES else b""
 
-    def write(self, handle: SupportsIndex, offset: int, data: Text) -> None:
+    def write(self, handle: SupportsIndex, offset: SupportsIndex, data: Text) -> None:
         """Writes bytes to a file; in a transaction they are buffered until it is committed.
 
         Args:
@@ -1226,7 +1227,7 @@ class HardTotals(StandardControl):
         if answer != OK:
             raise self._refusal(answer, "write")
 
-    def set_all(self, handle: SupportsIndex, value: int) -> None:
+    def set_all(self, handle: SupportsIndex, value: SupportsIndex) -> None:
         """Sets all bytes of a file to one value; in a transaction this is buffered until it is committed.
 
         Args:
@@ -1270,7 +1271,7 @@ class HardTotals(StandardControl):
         if answer != OK:
             raise self._refusal(answer, "rename")
 
-    def claim_file(self, handle: SupportsIndex, timeout: int = 0) -> None:
+    def claim_file(self, handle: SupportsIndex, timeout: SupportsIndex = 0) -> None:
         """Claims a file, which keeps other controls from reading and changing it.
 
         The call never waits: if another control has the file, it fails at once.

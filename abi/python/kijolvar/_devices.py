@@ -5,7 +5,7 @@ from dataclasses import dataclass
 from operator import index
 from typing import TYPE_CHECKING, SupportsIndex, Union
 
-from ._control import Text, device_word, hexed
+from ._control import Text, device_word, hexed, is_true
 from ._constants import KIJOLVAR_NO_DEVICE, KIJOLVAR_NO_MEMORY
 from ._faults import ExchangeError, InputError, LineError, NoDeviceError, NoMemoryError
 
@@ -177,11 +177,11 @@ class Device:
 
     def power(self, is_on: bool) -> None:
         """The device is switched on or off."""
-        self._happens(b"power on" if is_on else b"power off")
+        self._happens(b"power on" if is_true(is_on) else b"power off")
 
     def drawer(self, is_open: bool) -> None:
         """The drawer is opened or closed by hand."""
-        self._happens(b"open" if is_open else b"closed")
+        self._happens(b"open" if is_true(is_open) else b"closed")
 
     def scan(self, kind: SupportsIndex, data: Text, label: Text) -> None:
         """The scanner reads a bar code.
@@ -199,7 +199,7 @@ class Device:
 
     def cover(self, is_open: bool) -> None:
         """The printer's cover is opened or closed by hand."""
-        self._happens(b"cover open" if is_open else b"cover closed")
+        self._happens(b"cover open" if is_true(is_open) else b"cover closed")
 
     def paper(self, lines: SupportsIndex) -> None:
         """The printer is loaded with paper: so many lines are left, 0 to 100,000."""

@@ -46,7 +46,7 @@ def open_totals(path: Path) -> BinaryIO:
         _lock(totals, name)
         os.fsync(folder)
         undo.pop_all()
-        return totals
+    return totals
 
 
 def create_totals(library: ctypes.CDLL, path: Path, profile: bytes = b"") -> BinaryIO:
@@ -70,7 +70,7 @@ def create_totals(library: ctypes.CDLL, path: Path, profile: bytes = b"") -> Bin
         os.link(f"/proc/self/fd/{totals.fileno()}", os.path.basename(name), dst_dir_fd=folder)
         os.fsync(folder)
         undo.pop_all()
-        return totals
+    return totals
 
 
 def move_totals(library: ctypes.CDLL, path: Path) -> None:

@@ -97,7 +97,8 @@ def find(path: Path | None = None) -> ctypes.CDLL:
     Raises:
         LibraryError: No library is there, it can't be loaded, or it is of another version.
     """
-    where = path or os.environ.get(VARIABLE) or next((place for place in places() if place.exists()), None)
+    beside = next((place for place in places() if place.exists()), None)
+    where = path or os.environ.get(VARIABLE) or beside
     if where is None:
         looked = ", ".join(map(str, places()))
         raise LibraryError(f"{NAME} not found: pass library=.., set {VARIABLE}, or put it at one of: {looked}")

@@ -14,10 +14,10 @@ from typing import Any, BinaryIO, NoReturn
 from ._constants import (KIJOLVAR_CUT, KIJOLVAR_DISK_FAILED, KIJOLVAR_DISK_LENGTH, KIJOLVAR_ERRANDS, KIJOLVAR_EVENT,
                          KIJOLVAR_NO_MEMORY, KIJOLVAR_NO_ORDER, KIJOLVAR_OK, KIJOLVAR_ORDER, KIJOLVAR_SHORT,
                          KIJOLVAR_SYNC, KIJOLVAR_UNDONE, KIJOLVAR_WAITS, KIJOLVAR_WRITE)
-from ._faults import NO_THREAD
+from ._faults import NO_THREAD, library_fault
 from ._library import Raw, by_addresses, carrier, check
 from ._wire import RawSettings, Reply
-from .errors import DriverError, ThreadError, TillClosedError, library_fault
+from .errors import DriverError, ThreadError, TillClosedError
 
 _identity = threading.get_ident
 _ROOM = 1024

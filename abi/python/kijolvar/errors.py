@@ -7,7 +7,7 @@ from __future__ import annotations
 from ._faults import (DamagedError, DiskError, DriverError, Error, ExchangeError, FormattedError, InputError,
                       LibraryError, LibraryFault, LineError, MovedError, NoDeviceError, NoMemoryError, NoOrderError,
                       ProfileError, SettingsError, ThreadError, TillClosedError, TooManyControlsError, TooSmallError,
-                      UnformattedError, UposError, library_fault)
+                      UnformattedError, UposError)
 
 
 class ClosedError(UposError):

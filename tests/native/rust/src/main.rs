@@ -3,9 +3,10 @@
 use kijolvar::standard::{Category, PrinterStation};
 use kijolvar::{
     Cause, DisplaySettings, Driver, DriverTill, Error, EscPosPrinter, EscPosSettings, Flow, Order, Port, PosPrinter,
-    Protocol, SerialDisplay, SerialSettings, Till, Totals, WedgeScanner,
+    Protocol, Scan, SerialDisplay, SerialSettings, Till, Totals, WedgeScanner,
 };
 use std::io::{BufRead, Write};
+use std::sync::{Mutex, MutexGuard};
 use std::time::Duration;
 
 /// The words behind a command's verb, of which some are keys with a value.
@@ -69,19 +70,102 @@ fn open_scanner(till: &Till, words: &Words) -> Result<String, Error> {
     Ok("ok".to_string())
 }
 
-/// A driver of the host's own, whose device takes this many orders.
-struct Own(u32);
+/// What becomes of the device of a driver of the host's own.
+struct Fate {
+    /// How many orders it takes, and the last one.
+    left: u32,
+    did: String,
+    says: Vec<String>,
+    is_away: bool,
+    codes: Vec<Scan>,
+}
+
+static FATE: Mutex<Fate> =
+    Mutex::new(Fate { left: 0, did: String::new(), says: Vec::new(), is_away: false, codes: Vec::new() });
+
+fn fate() -> MutexGuard<'static, Fate> {
+    FATE.lock().unwrap()
+}
+
+/// A driver of the host's own.
+struct Own(Category);
 
 impl Driver for Own {
     fn category(&self) -> Category {
-        Category::CashDrawer
+        self.0
     }
 
     fn carry_out(&mut self, _: &mut DriverTill<'_>, order: &Order) -> bool {
-        let is_done = self.0 > 0 && matches!(order, Order::OpenDrawer { .. });
-        self.0 = self.0.saturating_sub(1);
+        let mut fate = fate();
+        fate.did = words_of(order);
+        let is_done = fate.left > 0;
+        fate.left = fate.left.saturating_sub(1);
         is_done
     }
+
+    fn happened(&mut self, _: &mut DriverTill<'_>) -> Vec<String> {
+        std::mem::take(&mut fate().says)
+    }
+
+    fn is_online(&self) -> bool {
+        !fate().is_away
+    }
+
+    fn scans(&mut self) -> Vec<Scan> {
+        std::mem::take(&mut fate().codes)
+    }
+
+    fn attached(&mut self) {
+        fate().says = vec!["paper 700".to_string()];
+    }
+}
+
+/// An order in words.
+fn words_of(order: &Order) -> String {
+    match order {
+        Order::OpenDrawer { device } => format!("{device} openDrawer"),
+        Order::DisplayTextAt { device, row, column, text, attribute } => {
+            format!("{device} displayTextAt {} {row} {column} {attribute}", hex(text))
+        }
+        Order::ClearText { device } => format!("{device} clearText"),
+        Order::ScrollText { device, direction, units } => format!("{device} scrollText {direction} {units}"),
+        Order::Print { device, data } => format!("{device} print {}", hex(data)),
+        Order::CutPaper { device, percentage } => format!("{device} cutPaper {percentage}"),
+        other => format!("{other:?}"),
+    }
+}
+
+fn hex(bytes: &[u8]) -> String {
+    bytes.iter().map(|byte| format!("{byte:02x}")).collect()
+}
+
+fn bytes_of(digits: &str) -> Vec<u8> {
+    let digit = |place: usize| u8::from_str_radix(&digits[place..place + 2], 16).unwrap();
+    (0..digits.len()).step_by(2).map(digit).collect()
+}
+
+fn open_own(till: &Till, words: &Words) -> Result<String, Error> {
+    let category = match words.0.get(2) {
+        Some(&"printer") => Category::PosPrinter,
+        Some(&"display") => Category::LineDisplay,
+        Some(&"scanner") => Category::Scanner,
+        _ => Category::CashDrawer,
+    };
+    fate().left = words.0[1].parse().unwrap();
+    till.drive(words.0[0], Own(category))?;
+    Ok("ok".to_string())
+}
+
+/// What the device of the host's own driver reads next.
+fn read_code(words: &Words) -> String {
+    match words.0[0].parse() {
+        Ok(kind) => {
+            let data = bytes_of(words.0[1]);
+            fate().codes.push(Scan { kind, label: data.clone(), data });
+        }
+        Err(_) => fate().says = vec!["fault".to_string()],
+    }
+    "ok".to_string()
 }
 
 /// Refuses memory to the library, if tests/native/scarce_heap.c is its heap.
@@ -103,8 +187,7 @@ fn refuse_memory(_: &Words) -> String {
 
 /// Prints bytes by a typed call, over a control that the first one makes.
 fn print<'t>(till: &'t Till, printer: &mut Option<PosPrinter<'t>>, digits: &str) -> Result<String, Error> {
-    let digit = |place: usize| u8::from_str_radix(&digits[place..place + 2], 16).unwrap();
-    let bytes: Vec<u8> = (0..digits.len()).step_by(2).map(digit).collect();
+    let bytes = bytes_of(digits);
     if printer.is_none() {
         *printer = Some(till.pos_printer("r1")?.enabled()?);
     }
@@ -119,7 +202,17 @@ fn obey<'t>(till: &'t Till, printer: &mut Option<PosPrinter<'t>>, line: &str) ->
         "printer" => open_printer(till, &words),
         "display" => open_display(till, &words),
         "scanner" => open_scanner(till, &words),
-        "own" => till.drive(words.0[0], Own(words.0[1].parse().unwrap())).map(|()| "ok".to_string()),
+        "own" => open_own(till, &words),
+        "did" => Ok(fate().did.clone()),
+        "says" => {
+            fate().says = rest.split(';').map(str::to_string).collect();
+            Ok("ok".to_string())
+        }
+        "there" => {
+            fate().is_away = rest == "no";
+            Ok("ok".to_string())
+        }
+        "reads" => Ok(read_code(&words)),
         "run" => till.run_devices(Duration::from_millis(words.0[0].parse().unwrap())).map(|is_any| is_any.to_string()),
         "state" => till
             .driver_state(words.0[0])
