@@ -1252,6 +1252,38 @@ def try_memory_own():
             orders.append(host.ask("order"))
         told("want of memory for an order of a driver", True, {"ok;", "KIJ_NO_MEMORY"} <= set(answers))
         told("want of memory: orders that aren't the host's", ["none"] * 29, orders)
+        opened = []
+        for number in range(1, 15):
+            host.ask(f"says {('closed', 'open')[number % 2]}")
+            host.ask(f"memory {number}")
+            host.ask("run 0")
+            host.ask("memory 0")
+            host.ask("run 0")
+            opened.append(host.line("get d DrawerOpened"))
+        told("want of memory: what a driver says", ["ok true", "ok false"] * 7, opened)
+
+
+def try_memory_own_scans():
+    """Want of memory at each allocation of a code of a driver of the host's own in turn: each comes once."""
+    with contextlib.ExitStack() as stack:
+        host = Host(stack)
+        if host.ask("memory 0") != "ok":
+            return
+        host.ask("own s1 0 scanner")
+        host.lines("new s Scanner", "open s s1", "claim s 0", "set s DeviceEnabled true", "set s DecodeData true")
+        wanted, found = [], []
+        for number in range(1, 20):
+            host.ask(f"reads 104 {number:02x}")
+            host.ask(f"memory {number}")
+            host.ask("run 0")
+            host.ask("memory 0")
+            host.ask("run 0")
+            host.line("set s DataEventEnabled true")
+            wanted.append(("event DataEvent 0", f"ok {number:02x}", "none"))
+            event, label = host.lines("deliver s", "get s ScanDataLabel")
+            host.line("set s DataEventEnabled true")
+            found.append((event, label, host.line("deliver s")))
+        told("want of memory: codes of a driver", wanted, found)
 
 
 def try_memory_scans():

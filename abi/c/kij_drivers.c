@@ -140,10 +140,10 @@ static bool add_own(kij_drive *drive, kij_buffer *lines) {
         drive->text = text;
         drive->texts++;
     }
-    for (const char *line = drive->text; *line != 0; line += strspn(line, "\n")) {
+    for (const char *line = drive->text; *line != 0;) {
         size_t size = strcspn(line, "\n");
-        if (!add_words(lines, drive, line, size)) return false;
-        line += size;
+        if (size > 0 && !add_words(lines, drive, line, size)) return false;
+        line += size + (line[size] != 0);
     }
     drive->belief.texts = drive->texts;
     return true;
@@ -721,8 +721,8 @@ static int read_scanners(kij_till *till, bool *is_any) {
     return code;
 }
 
-/* Does the first request that waits for a printer: a code of enum kij_code. One that has failed waits a while, since the
-   default reply to its ErrorEvent tries it again at once. */
+/* Does the first request that waits for a printer: a code of enum kij_code. One that has failed waits a while, since
+   the default reply to its ErrorEvent tries it again at once. */
 static int work(kij_till *till, kij_drive *drive, bool *is_any) {
     char *value;
     if (kij_internal_now() - drive->failed_at < rest) return KIJ_OK;

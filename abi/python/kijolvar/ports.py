@@ -32,6 +32,8 @@ _LOOKED_UP_FOR, _QUICKLY = 60.0, 0.25
 # How long the other end of a TCP port may take to acknowledge what was sent, in milliseconds; and how often it is asked
 # whether it is there, while nothing is sent, in seconds. Else one that was cut off is noticed after minutes or hours.
 _ACKNOWLEDGED_WITHIN, _ASKED_EVERY = 60_000, 10
+# The system's number of the option for the first. Not all type stubs of `socket` have its name.
+_USER_TIMEOUT = 18
 _TCP = re.compile(r"tcp:(?://)?(?:\[(?P<address>.+)\]|(?P<name>[^:\[\]]*))(?::(?P<port>[0-9]+))?")
 _READABLE = select.POLLIN | select.POLLHUP | select.POLLERR | select.POLLNVAL
 
@@ -385,7 +387,7 @@ class TcpPort(Port):
                     made.setsockopt(socket.IPPROTO_TCP, socket.TCP_KEEPIDLE, _ASKED_EVERY)
                     made.setsockopt(socket.IPPROTO_TCP, socket.TCP_KEEPINTVL, _ASKED_EVERY)
                     if not self.is_patient:
-                        made.setsockopt(socket.IPPROTO_TCP, socket.TCP_USER_TIMEOUT, _ACKNOWLEDGED_WITHIN)
+                        made.setsockopt(socket.IPPROTO_TCP, _USER_TIMEOUT, _ACKNOWLEDGED_WITHIN)
                     made.setblocking(False)
                     return made.detach()
             except OSError as found:

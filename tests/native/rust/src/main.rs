@@ -236,6 +236,7 @@ fn refusal(error: &Error) -> String {
         Cause::Extended(extended) => format!("E_EXTENDED {}", extended.number()),
         Cause::Code(code) => format!("{code:?}"),
         Cause::BadDevice => "KIJ_BAD_DEVICE".to_string(),
+        Cause::BadInput => "KIJ_BAD_INPUT".to_string(),
         Cause::KindDiffers => "KIJ_KIND_DIFFERS".to_string(),
         Cause::BadSettings => "KIJ_BAD_SETTINGS".to_string(),
         Cause::NoDevice => "KIJ_NO_DEVICE".to_string(),
