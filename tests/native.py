@@ -1086,6 +1086,7 @@ def try_own_printer():
         host.ask("says cover closed;paper 0")
         told("two things at once", ["true", "ok false", "ok true"],
              [host.ask("run 10"), *host.lines("get r CoverOpen", "get r RecEmpty")])
+        told("a spare that isn't there", ["bad spare", "0"], [host.line("attach r1 9"), host.line("show r1").split()[2]])
         told("a spare is attached", ["ok"] * 3, host.lines("close r", "detach r1", "attach r1 1"))
         told("the driver says how it is", "700", host.line("show r1").split()[2])
     with contextlib.ExitStack() as stack:

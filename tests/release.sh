@@ -234,13 +234,18 @@ unzip_one() {
   python3 -c 'import sys, zipfile; sys.stdout.buffer.write(zipfile.ZipFile(sys.argv[1]).read(sys.argv[2]))' "$1" "$2"
 }
 
-# try_again: the release is built once more, and tools/install lays out the same files
+# try_again: the release is built once more, and tools/install lays out the same files, over an old one that is in use
 try_again() {
   local place
   "$top/tools/release" "${again[@]}" "$work/again" > "$work/said" 2>&1
   told "built again, the same bytes" "$(cat "$dist/SHA256SUMS")" "$(cat "$work/again/SHA256SUMS" 2>&1)"
+  mkdir -p -m 2775 "$work/prefix/bin"
+  echo old > "$work/prefix/bin/pos_console"
+  ln "$work/prefix/bin/pos_console" "$work/in_use"
   "$top/tools/install" "$work/prefix" > "$work/said" 2>&1
   told "tools/install" 0 "$?"
+  told "tools/install leaves a file that is in use" old "$(cat "$work/in_use")"
+  told "tools/install leaves the mode of a folder" 2775 "$(stat -c %a "$work/prefix/bin")"
   for place in bin include lib share; do
     told "tools/install lays out $place/ as the archive has it" "" \
       "$(diff -r -x __pycache__ "$tree/$place" "$work/prefix/$place" 2>&1)"

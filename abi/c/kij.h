@@ -107,7 +107,7 @@ enum kij_code {
     /** An argument can't be passed on: a null pointer, a name that isn't 1 to 16 letters, digits or hyphens, a number
      * of more than 18 digits, or bytes that are too many for a line (69,000 always fit). */
     KIJ_BAD_ARGUMENT = 34,
-    /** The property has another type, or can't be set to this one. */
+    /** The property has another type, or the device another category. */
     KIJ_WRONG_TYPE = 35,
     /** Another call of the same till is under way. */
     KIJ_IN_CALL = 36,
@@ -168,7 +168,8 @@ enum kij_flags {
  * Opens a till.
  *
  * Creating a file is all or nothing: it gets its name once it is whole and synced. The file is locked (flock) until
- * kij_close. A call that changes the totals returns once the change is synced.
+ * kij_close. A call that changes the totals returns once the change is synced. In a process that was forked from the
+ * till's, it writes nothing: KIJ_DISK_FAILED.
  *
  * @param profile the profile's text (TOML, docs/reference/profile.md), which ends in a 0 byte; null or empty is the
     *   built profile
@@ -176,7 +177,8 @@ enum kij_flags {
  * @param flags   one of enum kij_flags
  * @param till    where the till is written
  * @return KIJ_BAD_PROFILE, KIJ_NO_MEMORY, KIJ_WRONG_VERSION, KIJ_SYSTEM, KIJ_TOO_SMALL or KIJ_DISK_FAILED on failure. A
- * file that isn't formatted opens; enabling its totals is KIJ_E_NOHARDWARE.
+ * file that isn't formatted opens; enabling its totals is KIJ_E_NOHARDWARE. A file that was created stays after
+ * KIJ_NO_MEMORY.
  */
 kij_result kij_open(const char *profile, const char *totals, int flags, kij_till **till);
 
@@ -270,7 +272,7 @@ enum kij_claiming { KIJ_UNCLAIMED = 0, KIJ_CLAIMED = 1 };
  * Makes a control, which is closed.
  *
  * @param name    the control's name in lines of the text interface, 1 to 16 letters, digits or hyphens; null makes one
- * up
+ * up. One that was given back has it again by the same name
  * @param control where the control is written; it stays until the till is closed
  * @return KIJ_NAME_IN_USE, KIJ_FULL, KIJ_NO_MEMORY or KIJ_BAD_ARGUMENT on failure
  */

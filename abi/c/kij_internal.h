@@ -70,8 +70,9 @@ struct kij_control {
     kij_category category;
     /* The library's number of it. */
     size_t number;
-    /* Whether it was given back, and may be handed out again. */
+    /* Whether it was given back, and may be handed out again; and whether its name was chosen. */
     bool is_free;
+    bool is_named;
     kij_word name;
 };
 

@@ -124,7 +124,11 @@ kij_result kij_files(const char *path, char *text, size_t room, size_t *needed, 
     if (path == NULL || needed == NULL || place == NULL || (text == NULL && room != 0)) return plain(KIJ_BAD_ARGUMENT);
     int file = open(path, O_RDONLY | O_NONBLOCK | O_CLOEXEC);
     int why = file < 0 ? errno : read_file(file, &bytes, &size);
-    if (file >= 0) close(file);
+    if (file >= 0) {
+        /* A process that was forked meanwhile would keep it locked. */
+        (void)flock(file, LOCK_UN);
+        close(file);
+    }
     if (why != 0) return why < 0 ? plain(-why) : kij_internal_result(KIJ_SYSTEM, why, KIJ_NO_CATEGORY);
     kij_result result = survey(bytes, size, text, room, needed, place);
     free(bytes);

@@ -105,6 +105,15 @@ static int put_before(kij_till *till, kij_buffer *front, int code) {
     return code == KIJ_NO_MEMORY ? (int)KIJ_NO_ANSWER : code;
 }
 
+/* Whether something was attached by the last line that was carried out, by its code and its answer. */
+static bool is_attached(const kij_till *till, int code) {
+    static const char done[] = "ok\n";
+    size_t size = sizeof done - 1, at = till->text_size - size;
+    if (code != KIJ_OK) return code == KIJ_NO_ANSWER;
+    if (till->text_size < size || memcmp(till->text + at, done, size) != 0) return false;
+    return at == 0 || till->text[at - 1] == '\n';
+}
+
 /* Carries out lines: a code of enum kij_code. A driven device that something was attached to is driven again before the
    next line. */
 static int carry_out(kij_till *till, const char *lines, size_t size) {
@@ -113,7 +122,7 @@ static int carry_out(kij_till *till, const char *lines, size_t size) {
     size_t name_size = 0, part = attach_end(lines, size, &name, &name_size);
     int code = kij_internal_carry_out(till, lines, part);
     while (name_size > 0) {
-        kij_internal_drive_again(till, name, name_size);
+        if (is_attached(till, code)) kij_internal_drive_again(till, name, name_size);
         lines += part;
         size -= part;
         if (size == 0 || code != KIJ_OK) break;
@@ -143,10 +152,16 @@ static const kij_word *word_of(kij_category category) {
     return category >= KIJ_CASH_DRAWER && category <= KIJ_HARD_TOTALS ? &words[category - 1] : NULL;
 }
 
-/* A control of the category that was given back, or null. */
-static kij_control *free_control(kij_till *till, kij_category category) {
+static bool has_name(const kij_control *control, const kij_word *name) {
+    return control->name.size == name->size && memcmp(control->name.text, name->text, name->size) == 0;
+}
+
+/* A control of the category that was given back, or null: the one of this name, or any whose name was made up. */
+static kij_control *free_control(kij_till *till, kij_category category, const kij_word *name) {
     for (kij_control *control = till->first; control != NULL; control = control->next)
-        if (control->is_free && control->category == category) return control;
+        if (control->is_free && control->category == category &&
+            (name == NULL ? !control->is_named : has_name(control, name)))
+            return control;
     return NULL;
 }
 
@@ -201,10 +216,11 @@ kij_result kij_new(kij_till *till, kij_category category, const char *name, kij_
     int code = kij_internal_enter(till);
     if (code != KIJ_OK) return kij_internal_result(code, 0, category);
     kij_result result = kij_internal_result(KIJ_OK, 0, category);
-    kij_control *found = name == NULL ? free_control(till, category) : NULL;
+    kij_control *found = free_control(till, category, name == NULL ? NULL : &word);
     if (found == NULL) result = made_control(till, category, name == NULL ? NULL : &word, &found);
     if (result.code == KIJ_OK) {
         found->is_free = false;
+        found->is_named = name != NULL;
         *control = found;
     }
     kij_internal_leave(till);

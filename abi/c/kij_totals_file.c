@@ -50,8 +50,10 @@ uint32_t kij_internal_settle(kij_till *till) {
         if (code == KIJOLVAR_OK) return code;
         /* Unless the file says why. */
         errno = EIO;
-        if (code == KIJOLVAR_WRITE && is_written(till->file, till->errand, count, at)) continue;
-        if (code == KIJOLVAR_SYNC && kij_internal_is_synced(till->file)) continue;
+        /* A process that was forked has a copy of the till, and would write over what the till itself has written. */
+        if (till->process != getpid()) errno = EPERM;
+        else if (code == KIJOLVAR_WRITE && is_written(till->file, till->errand, count, at)) continue;
+        else if (code == KIJOLVAR_SYNC && kij_internal_is_synced(till->file)) continue;
         int why = errno;
         kijolvar_errand_failed(till->inner, &till->inner.at);
         errno = why;
@@ -98,8 +100,9 @@ int kij_internal_open_till(kij_till *till, const char *profile) {
     return open_over_file(till, text, size, kijolvar_open_file);
 }
 
-/* Closes a file after an error, which it returns. */
+/* Unlocks a file and closes it, and returns an error. A process that was forked meanwhile would keep it locked. */
 static int dropped(int file, int why) {
+    (void)flock(file, LOCK_UN);
     close(file);
     return why;
 }
@@ -142,6 +145,7 @@ static int format(int file, const char *profile) {
     kij_till till;
     memset(&till, 0, sizeof till);
     till.file = file;
+    till.process = getpid();
     till.errand = (uint8_t *)calloc(1, KIJOLVAR_DISK_LENGTH);
     if (till.errand == NULL) return -KIJ_NO_MEMORY;
     uint32_t code = kijolvar_format_file((const uint8_t *)profile, profile == NULL ? 0 : strlen(profile), till.errand,
@@ -192,11 +196,11 @@ int kij_internal_open_file(const char *path, int flags, const char *profile, int
 int kij_internal_move_file(const char *path) {
     kij_till till;
     memset(&till, 0, sizeof till);
+    till.process = getpid();
     int why = open_existing(path, &till.file);
     if (why != 0) return why;
     why = open_over_file(&till, NULL, 0, kijolvar_migrate_file);
     if (why == 0) kijolvar_close(till.inner);
     free(till.errand);
-    close(till.file);
-    return why;
+    return dropped(till.file, why);
 }

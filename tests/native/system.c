@@ -354,6 +354,33 @@ static void open_totals(const char *name, const char *path, int flags, int code,
     kij_close(till);
 }
 
+/* A process that was forked doesn't write the totals, which the one that opened them goes on changing. */
+static void try_forked_totals(const char *path) {
+    kij_till *till = NULL;
+    kij_control *totals = NULL;
+    int64_t first = 0, second = 0, size = 0;
+    const uint8_t *bytes = NULL;
+    size_t count = 0;
+    int status = 0;
+    told("totals", KIJ_OK, kij_open(NULL, path, KIJ_CREATE_NEW, &till).code);
+    told("enabled", KIJ_OK, kij_start(till, KIJ_HARD_TOTALS, "t1", KIJ_UNCLAIMED, &totals).code);
+    told("a file", KIJ_OK, kij_totals_create(totals, "A", 1, 1, false, &first).code);
+    fflush(stdout);
+    pid_t child = fork();
+    if (child == 0) _exit(kij_totals_write(totals, first, 0, "x", 1).code);
+    told("a forked process", child, waitpid(child, &status, 0));
+    told("writes nothing", KIJ_DISK_FAILED, WIFEXITED(status) ? WEXITSTATUS(status) : -1);
+    told("a change after it", KIJ_OK, kij_totals_create(totals, "B", 1, 1, false, &second).code);
+    kij_close(till);
+    told("another till", KIJ_OK, kij_open(NULL, path, KIJ_EXISTING, &till).code);
+    told("it is enabled", KIJ_OK, kij_start(till, KIJ_HARD_TOTALS, "t1", KIJ_UNCLAIMED, &totals).code);
+    told("the change is there", KIJ_OK, kij_totals_find(totals, "B", 1, &second, &size).code);
+    told("so is the first file", KIJ_OK, kij_totals_find(totals, "A", 1, &first, &size).code);
+    told("as it was", KIJ_OK, kij_totals_read(totals, first, 0, 1, &bytes, &count).code);
+    told("its byte", 0, count == 1 ? bytes[0] : -1);
+    kij_close(till);
+}
+
 /* Reading and writing in parts and signals are no failure of the file of the totals, and a failure says why. */
 static void try_totals(const char *path) {
     write_fault = ENOSPC;
@@ -401,6 +428,8 @@ int main(int count, char **words) {
     try_closing();
     snprintf(forked, sizeof forked, "%s/forked-totals", words[1]);
     try_forked(forked);
+    snprintf(forked, sizeof forked, "%s/totals-of-two", words[1]);
+    try_forked_totals(forked);
     try_hosts();
     try_names();
     try_endless();

@@ -110,6 +110,15 @@ static void arguments(kij_till *till) {
     gives("no drawer", KIJ_BAD_INPUT, kij_input_drawer(till, "r1", true));
     gives("no device", KIJ_BAD_DEVICE, kij_input_drawer(till, "d9", true));
     gives("another kind", KIJ_WRONG_TYPE, kij_show_drawer(till, "r1", &is_true));
+    kij_discard(printer);
+    succeeds("any printer", kij_new(till, KIJ_POS_PRINTER, NULL, &control));
+    wants("it isn't the one that has a name", control != printer);
+    kij_discard(control);
+    succeeds("the name again", kij_new(till, KIJ_POS_PRINTER, "printer", &control));
+    wants("it is the one that has it", control == printer);
+    gives("the name twice again", KIJ_NAME_IN_USE, kij_new(till, KIJ_POS_PRINTER, "printer", &control));
+    kij_discard(printer);
+    gives("its name for a scanner", KIJ_NAME_IN_USE, kij_new(till, KIJ_SCANNER, "printer", &control));
     kij_discard(NULL);
     kij_close(NULL);
 }
