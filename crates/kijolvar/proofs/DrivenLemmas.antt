@@ -31,8 +31,8 @@ held_behind {these} {those} is each others =
 
 -- what the till keeps, if it kept it before too
 pub rest_from : {old mid new : TillState} → file_of (disk_of mid) ≡ file_of (disk_of old) → mid.failed ≡ old.failed
-    → mid.profile ≡ old.profile
-    → mid.orders ≡ old.orders → mid.is_driven ≡ old.is_driven → KeepsRest mid new → KeepsRest old new
+    → mid.profile ≡ old.profile → mid.orders ≡ old.orders → mid.is_driven ≡ old.is_driven → KeepsRest mid new
+    → KeepsRest old new
 rest_from file failed profile orders is_driven rest = record {
   file = rest.file ∙ file;
   in_step = rest.in_step;
@@ -46,9 +46,8 @@ rest_from file failed profile orders is_driven rest = record {
 module _ (bound : DiskGhosts HostedDisk) (hosts : Device → Course) (peripherals : Ghosts Device) where
   -- lines go on, from the same
   goes_from : {counter : Counter HostedDisk Device} (s : Session) {t : Session} {b d : Given} {ls : List (Vec ℕ Global)}
-      (ms : List (Vec ℕ Global)) (new : TillState)
-      → s ≡ t → b ≡ d → ls ≡ ms → GoesOn bound hosts peripherals counter s b ls new
-      → GoesOn bound hosts peripherals counter t d ms new
+      (ms : List (Vec ℕ Global)) (new : TillState) → s ≡ t → b ≡ d → ls ≡ ms
+      → GoesOn bound hosts peripherals counter s b ls new → GoesOn bound hosts peripherals counter t d ms new
   goes_from {counter} s {b} {d} ms new same_session same_given same_lines go =
       subst (λ (x : Session). GoesOn bound hosts peripherals counter x d ms new) same_session
       (subst (λ (x : Given). GoesOn bound hosts peripherals counter s x ms new) same_given
@@ -64,15 +63,13 @@ module _ (bound : DiskGhosts HostedDisk) (hosts : Device → Course) (peripheral
       (record { stays = stays; course = course })
 
   pub takes_done : {old before begun : TillState} {reported : Counter HostedDisk Device} {new : TillState}
-      {inputs : List ℕ} (these : List (Vec ℕ Global))
-      → before ≡ record old { held = before.held } → BeginsAnswer before begun
-      → Stays peripherals begun.counter reported
+      {inputs : List ℕ} (these : List (Vec ℕ Global)) → before ≡ record old { held = before.held }
+      → BeginsAnswer before begun → Stays peripherals begun.counter reported
       → hosts_in hosts reported ≡ changed_pending (reported_course true) (hosts_in hosts begun.counter)
       → lines_in these ≡ lines_of inputs → before.held.items ≡ behind_first these old.held.items
-      → AreHeld old.held.items
-      → GoesOn bound hosts peripherals reported (session_in peripherals begun)
-      (given_to begun.answer) begun.held.items new
-      → KeepsRest (record begun { counter = reported }) new → TakesDone bound hosts peripherals old inputs new
+      → AreHeld old.held.items → GoesOn bound hosts peripherals reported (session_in peripherals begun)
+      (given_to begun.answer) begun.held.items new → KeepsRest (record begun { counter = reported }) new
+      → TakesDone bound hosts peripherals old inputs new
   takes_done {old} {before} {begun} {reported} {new} these is begins stays course are inserted each go rest =
       let counter : begun.counter ≡ old.counter =
       ap (λ (k : TillState). k.counter) begins.stays ∙ ap (λ (k : TillState). k.counter) is in
@@ -88,8 +85,8 @@ module _ (bound : DiskGhosts HostedDisk) (hosts : Device → Course) (peripheral
         are = ap lines_in inserted ∙ lines_behind these old.held.items each.each
             ∙ ap (λ (ls : List (List ℕ)). behind_first ls (lines_in old.held.items)) are;
         go_on = goes_from _ _ new session answer held go;
-        rest = rest_from (ap (λ (t : TotalsView HostedDisk). file_of t.disk) stays.totals ∙ ap
-            (λ (c : Counter HostedDisk Device). file_of c.totals.disk) counter)
+        rest = rest_from (ap (λ (t : TotalsView HostedDisk). file_of t.disk) stays.totals
+            ∙ ap (λ (c : Counter HostedDisk Device). file_of c.totals.disk) counter)
             (ap (λ (k : TillState). k.failed) begins.stays ∙ ap (λ (k : TillState). k.failed) is)
             (ap (λ (k : TillState). k.profile) begins.stays ∙ ap (λ (k : TillState). k.profile) is)
             (ap (λ (k : TillState). k.orders) begins.stays ∙ ap (λ (k : TillState). k.orders) is)
@@ -98,27 +95,25 @@ module _ (bound : DiskGhosts HostedDisk) (hosts : Device → Course) (peripheral
 
   -- lines that were carried out, in the terms of any fault
   all_carried : {E : Type 0} {old new : Counter HostedDisk Device} {s left : Session} {lines : List (List ℕ)}
-      {before after : Given} (result : Result (Unit {0}) E)
-      → is_ok result ≡ true → RunsGivenLines bound peripherals old s lines before after result left new
+      {before after : Given} (result : Result (Unit {0}) E) → is_ok result ≡ true
+      → RunsGivenLines bound peripherals old s lines before after result left new
       → RunsGivenLines {E = Unit {0}} bound peripherals old s lines before after (Ok tt) left new
   all_carried (Ok u) is done = done
   all_carried (Err fault) is done = absurd (true≢false (sym is))
 
   cut_carried : {E : Type 0} {old new : Counter HostedDisk Device} {s left : Session} {lines : List (List ℕ)}
-      {before after : Given} (result : Result (Unit {0}) E)
-      → is_ok result ≡ false → RunsGivenLines bound peripherals old s lines before after result left new
+      {before after : Given} (result : Result (Unit {0}) E) → is_ok result ≡ false
+      → RunsGivenLines bound peripherals old s lines before after result left new
       → RunsGivenLines {E = Unit {0}} bound peripherals old s lines before after (Err tt) left new
   cut_carried (Ok u) is done = absurd (true≢false is)
   cut_carried (Err fault) is done = done
 
   -- lines are carried out by a till that has begun its answer
   carries_from : {E : Type 0} (old begun : TillState) (fed : Counter HostedDisk Device) (left : Session)
-      (lines : List (List ℕ)) (between : Given) (result : Result (Unit {0}) E)
-      → BeginsAnswer old begun
-      → RunsGivenLines bound peripherals begun.counter (session_in peripherals begun) lines (given_to begun.answer)
-      between result left fed
-      → RunsGivenLines bound peripherals old.counter (session_in peripherals old) lines
-      (given_with [] (given_to old.answer).faults) between result left fed
+      (lines : List (List ℕ)) (between : Given) (result : Result (Unit {0}) E) → BeginsAnswer old begun
+      → RunsGivenLines bound peripherals begun.counter (session_in peripherals begun) lines
+      (given_to begun.answer) between result left fed → RunsGivenLines bound peripherals old.counter
+      (session_in peripherals old) lines (given_with [] (given_to old.answer).faults) between result left fed
   carries_from old begun fed left lines between result begins done =
       let counter : begun.counter ≡ old.counter = ap (λ (k : TillState). k.counter) begins.stays in
       let session : session_in peripherals begun ≡ session_in peripherals old =
@@ -132,17 +127,15 @@ module _ (bound : DiskGhosts HostedDisk) (hosts : Device → Course) (peripheral
 
   pub takes_failure : {E : Type 0} {old begun mid : TillState} {fed reported : Counter HostedDisk Device}
       (left : Session) (between : Given) (result : Result (Unit {0}) E) {new : TillState} {inputs : List ℕ}
-      → BeginsAnswer old begun
-      → RunsGivenLines bound peripherals begun.counter (session_in peripherals begun) (lines_of inputs)
-      (given_to begun.answer) between result left fed
-      → is_ok result ≡ true → file_of fed.totals.disk ≡ file_of (disk_of begun) → Stays peripherals fed reported
+      → BeginsAnswer old begun → RunsGivenLines bound peripherals begun.counter (session_in peripherals begun)
+      (lines_of inputs) (given_to begun.answer) between result left fed → is_ok result ≡ true
+      → file_of fed.totals.disk ≡ file_of (disk_of begun) → Stays peripherals fed reported
       → hosts_in hosts reported ≡ changed_pending (reported_course false) (hosts_in hosts fed) → mid ≡ record begun {
         counter = reported;
         names = mid.names;
         spares = mid.spares;
         answer = mid.answer;
-        outcome =
-            mid.outcome;
+        outcome = mid.outcome;
       } → GoesOn bound hosts peripherals reported left between begun.held.items new → KeepsRest mid new → TakesFailure
       bound hosts peripherals old inputs new
   takes_failure {old} {begun} {fed} {reported} left between result {new} begins done all file stays course is go rest =
@@ -154,27 +147,24 @@ module _ (bound : DiskGhosts HostedDisk) (hosts : Device → Course) (peripheral
         reported = reported;
         reports = record { stays = stays; course = course };
         go_on = goes_from left _ new refl refl (ap (λ (k : TillState). k.held.items) begins.stays) go;
-        rest = rest_from (ap (λ (k : TillState). file_of (disk_of k)) is ∙ ap
-            (λ (t : TotalsView HostedDisk). file_of t.disk) stays.totals ∙ file ∙ ap
-            (λ (k : TillState). file_of (disk_of k)) begins.stays) (ap (λ (k : TillState). k.failed) is ∙ ap
-            (λ (k : TillState). k.failed) begins.stays) (ap (λ (k : TillState). k.profile) is ∙ ap
-            (λ (k : TillState). k.profile) begins.stays) (ap (λ (k : TillState). k.orders) is ∙ ap
-            (λ (k : TillState). k.orders) begins.stays) (ap (λ (k : TillState). k.is_driven) is ∙ ap
-            (λ (k : TillState). k.is_driven) begins.stays) rest;
+        rest = rest_from (ap (λ (k : TillState). file_of (disk_of k)) is ∙ ap (λ (t : TotalsView HostedDisk).
+            file_of t.disk) stays.totals ∙ file ∙ ap (λ (k : TillState). file_of (disk_of k)) begins.stays)
+            (ap (λ (k : TillState). k.failed) is ∙ ap (λ (k : TillState). k.failed) begins.stays)
+            (ap (λ (k : TillState). k.profile) is ∙ ap (λ (k : TillState). k.profile) begins.stays)
+            (ap (λ (k : TillState). k.orders) is ∙ ap (λ (k : TillState). k.orders) begins.stays)
+            (ap (λ (k : TillState). k.is_driven) is ∙ ap (λ (k : TillState). k.is_driven) begins.stays) rest;
       }
 
   pub cuts_inputs : {E : Type 0} {old begun mid : TillState} {fed : Counter HostedDisk Device}
-      (result : Result (Unit {0}) E) {new : TillState} {inputs : List ℕ}
-      → BeginsAnswer old begun
+      (result : Result (Unit {0}) E) {new : TillState} {inputs : List ℕ} → BeginsAnswer old begun
       → RunsGivenLines bound peripherals begun.counter (session_in peripherals begun) (lines_of inputs)
-      (given_to begun.answer) (given_to mid.answer) result (session_in peripherals mid) fed
-      → is_ok result ≡ false → file_of fed.totals.disk ≡ file_of (disk_of begun) → mid ≡ record begun {
+      (given_to begun.answer) (given_to mid.answer) result (session_in peripherals mid) fed → is_ok result ≡ false
+      → file_of fed.totals.disk ≡ file_of (disk_of begun) → mid ≡ record begun {
         counter = fed;
         names = mid.names;
         spares = mid.spares;
         answer = mid.answer;
-        outcome =
-            mid.outcome;
+        outcome = mid.outcome;
       } → DropsHeld peripherals mid new → IsInStep (disk_of new) → CutsInputs bound hosts peripherals old inputs new
   cuts_inputs {old} {begun} {mid} {fed} result {new} {inputs} begins done cut file is drops in_step =
       let counter : mid.counter ≡ fed = ap (λ (k : TillState). k.counter) is in

@@ -21,8 +21,7 @@ says peripherals till (Some number) next written part = inl (written.0, rw writt
 
 -- and so it does for a till in memory, and for one whose errands are done
 pub says_settled : (peripherals : Ghosts Device) (till : TillState) (from before after code : ℕ) (found : Option ℕ)
-    {settlement : Settlement}
-    → (settlement ≡ InMemory) ⊎ (settlement ≡ Settled) → settlement ≡ settlement_of till
+    {settlement : Settlement} → (settlement ≡ InMemory) ⊎ (settlement ≡ Settled) → settlement ≡ settlement_of till
     → (settlement ≡ Settled → IsInFile (disk_of till))
     → ((part : TotalsPart) → IsNextEvent (machine peripherals till.counter part) from found)
     → WritesEvent found before after code → NextEvent peripherals till from before after code

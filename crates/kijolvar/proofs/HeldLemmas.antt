@@ -41,8 +41,9 @@ splits_at_feed {text} {count} within free feed =
     record {
       line = without_cr (take count text);
       one = ap lines_of front ∙ feed_alone (take count text) free;
-      lines = ap lines_of (sym (take-append-drop (count + 1) text)) ∙ ap (λ x. lines_of (x ++ drop (count + 1) text))
-          front ∙ feed_splits (take count text) (drop (count + 1) text) free;
+      lines = ap lines_of (sym (take-append-drop (count + 1) text))
+          ∙ ap (λ x. lines_of (x ++ drop (count + 1) text)) front
+          ∙ feed_splits (take count text) (drop (count + 1) text) free;
     }
 
 -- or it is the last
@@ -61,9 +62,8 @@ lines_push (t ∷ ts) text = ap (λ x. lines_of t.items ++ x) (lines_push ts tex
     ∙ sym (append_assoc (lines_of t.items) (lines_in ts) (lines_of text.items))
 
 pub one_more : {A : Type 0} (texts : List (Vec ℕ A)) (text : Vec ℕ A) (rest : List ℕ) (count : ℕ)
-    {whole : List (List ℕ)}
-    → text.items ≡ take count rest → SplitsOff rest count → whole ≡ lines_in texts ++ lines_of rest
-    → whole ≡ lines_in (texts ++ text ∷ []) ++ lines_of (drop count rest)
+    {whole : List (List ℕ)} → text.items ≡ take count rest → SplitsOff rest count
+    → whole ≡ lines_in texts ++ lines_of rest → whole ≡ lines_in (texts ++ text ∷ []) ++ lines_of (drop count rest)
 one_more texts text rest count is splits same =
     let one : lines_of text.items ≡ splits.line ∷ [] = ap lines_of is ∙ splits.one in
     same ∙ ap (λ x. lines_in texts ++ x) splits.lines ∙ sym (append_assoc (lines_in texts) (splits.line ∷ [])
@@ -72,8 +72,7 @@ one_more texts text rest count is splits same =
 
 pub each_more : {A : Type 0} (texts : List (Vec ℕ A)) (text : Vec ℕ A) {rest : List ℕ} {count : ℕ}
     → text.items ≡ take count rest → SplitsOff rest count → All IsOneLine texts → All IsOneLine (texts ++ text ∷ [])
-each_more texts text is splits each =
-    All-push IsOneLine texts text each (splits.line, ap lines_of is ∙ splits.one)
+each_more texts text is splits each = All-push IsOneLine texts text each (splits.line, ap lines_of is ∙ splits.one)
 
 -- lines behind the first of others, each of which is one line
 lines_append : {A : Type 0} (these those : List (Vec ℕ A))

@@ -20,14 +20,13 @@ time_under : {old new : DiskState} (f g : ℕ) → Elapses old new → Elapses (
 time_under {new} f g time = record {
   later = time.later;
   keeps = time.keeps;
-  nothing_else = λ t bytes le left. ⊎_elim inl (λ may. inr (may_under new g bytes may))
-      (time.nothing_else t bytes le left);
+  nothing_else = λ t bytes le left. ⊎_elim inl
+      (λ may. inr (may_under new g bytes may)) (time.nothing_else t bytes le left);
 }
 
 -- a lost errand is a failure, and so is each later call
-lost_cause : (lost : Bool) (before after : DiskState) (fault : DiskFault)
-    → HasCause {T = Unit {0}} (with_failures before (failures_by lost)) (with_failures after (failures_by true))
-    (Err fault)
+lost_cause : (lost : Bool) (before after : DiskState) (fault : DiskFault) → HasCause {T = Unit {0}}
+    (with_failures before (failures_by lost)) (with_failures after (failures_by true)) (Err fault)
 lost_cause true before after fault =
     record { later = omega arith; last = omega arith; rises = inr (omega arith); same = tt }
 lost_cause false before after fault =
@@ -105,8 +104,8 @@ module _ (Is : Errand → Type 0) (after : List ℕ → List ℕ)
       → IsInStep (hosted next new)
   in_step_on None new answer memory next (none, done) reads is = rw none tt
   in_step_on (Some old) None answer memory next adds reads is = absurd adds
-  in_step_on (Some old) (Some new) (Ok u) memory next (kept, (one, it_is, now)) reads is = λ present.
-      rw (now, reads refl) (last_done old.errands one old.file ∙ does one _ it_is ∙ ap after (is kept))
+  in_step_on (Some old) (Some new) (Ok u) memory next (kept, (one, it_is, now)) reads is =
+      λ present. rw (now, reads refl) (last_done old.errands one old.file ∙ does one _ it_is ∙ ap after (is kept))
   in_step_on (Some old) (Some new) (Err e) memory next now reads is = λ present. absurd (cc (now, present))
 
 -- what a write and a sync do to a file
@@ -121,8 +120,8 @@ synced_so Sync file is = refl
 
 -- where nothing is left and nothing failed, the file has the bytes of the disk
 settled_file : (lost failed : Bool) (errands : List Errand) {file reading : List ℕ}
-    → (lost ≡ false → file_after_all errands file ≡ reading)
-    → settlement_by (lost || failed) errands ≡ Settled → Some file ≡ Some reading
+    → (lost ≡ false → file_after_all errands file ≡ reading) → settlement_by (lost || failed) errands ≡ Settled
+    → Some file ≡ Some reading
 settled_file true failed errands is settled = absurd (cc)
 settled_file false true errands is settled = absurd (cc)
 settled_file false false [] is settled = ap Some (is refl)
@@ -131,8 +130,7 @@ settled_file false false (errand ∷ errands) is settled = absurd (cc)
 pub in_file : (memory : Memory) (work : Option HostWork) (failed : Bool) → IsInStep (hosted memory work)
     → settlement_with work failed ≡ Settled → IsInFile (hosted memory work)
 in_file memory None failed is settled = absurd (cc)
-in_file memory (Some work) failed is settled =
-    settled_file work.lost failed work.errands is settled
+in_file memory (Some work) failed is settled = settled_file work.lost failed work.errands is settled
 
 -- a host that owes errands lost none
 owed_kept : (lost failed : Bool) (errands : List Errand) → settlement_by (lost || failed) errands ≡ Owed → lost ≡ false
@@ -141,8 +139,8 @@ owed_kept false failed errands owed = refl
 
 -- Where none is left of them, the code says so, and else it says something else.
 told_code : (errands : List Errand) (at_before at : ℕ) (before after : List ℕ) (needed_before needed : ℕ) {code : ℕ}
-    (told : Bool)
-    → WritesOldest errands at_before at before after needed_before needed code told → code ≡ ok → errands ≡ []
+    (told : Bool) → WritesOldest errands at_before at before after needed_before needed code told → code ≡ ok
+    → errands ≡ []
 told_code [] at_before at before after needed_before needed told tells is = refl
 told_code (Sync ∷ errands) at_before at before after needed_before needed told (tells, rest) is =
     absurd (omega (arith, tells.0, is))

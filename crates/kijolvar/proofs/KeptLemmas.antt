@@ -23,9 +23,8 @@ tells_next {old} {mid} {new} at_before at before after needed_before needed code
     let done : DoesTold old.told (disk_of old) (disk_of new) =
     subst (DoesTold old.told (disk_of old)) (sym here) does in
     let told : WritesOldest (errands_of (disk_of new).work) at_before at before after needed_before needed code
-    new.told =
-    subst (λ (d : HostedDisk). WritesOldest
-    (errands_of d.work) at_before at before after needed_before needed code new.told) (sym here) tells in
+    new.told = subst (λ (d : HostedDisk). WritesOldest (errands_of d.work) at_before
+    at before after needed_before needed code new.told) (sym here) tells in
     record {
       done = done;
       tells = told;
@@ -53,8 +52,7 @@ next_keeps Owed peripherals at_before at before after needed_before needed code 
     subst (IsTillSound peripherals) (sym told.stays) (record {
       counter = sound_over (disk_of new) sound.counter;
       spares = sound.spares;
-      held =
-          sound.held;
+      held = sound.held;
     })
 next_keeps Failed peripherals at_before at before after needed_before needed code told sound =
     subst (IsTillSound peripherals) (sym told.stays) sound

@@ -16,8 +16,7 @@ pub is_moved : {bytes : List ℕ} {old : HostedDisk} (new : HostedDisk) (result 
     → old ≡ hosted (fresh bytes) (Some (no_work bytes)) → MovesAny (hosted_state old) (hosted_state new) (Ok tt)
     → KeepsFirstLayout (hosted_state old).reading (hosted_state new).reading → file_of new ≡ file_of old
     → MatchResult result (λ same. (same ≡ new) × IsInStep new × (settlement_with new.work false ≡ Owed))
-    (λ code. code ≡ no_memory)
-    → MatchResult result (IsMovedOf bytes) (RefusesMove bytes)
+    (λ code. code ≡ no_memory) → MatchResult result (IsMovedOf bytes) (RefusesMove bytes)
 is_moved new (Ok it) same moves rest file (is, in_step, owed) = rw is (record {
   moves = subst (λ (d : HostedDisk). MovesAny (hosted_state d) (hosted_state new) (Ok tt)) same moves;
   rest = subst (λ (d : HostedDisk). KeepsFirstLayout (hosted_state d).reading (hosted_state new).reading) same rest;
@@ -29,12 +28,11 @@ is_moved new (Err code) same moves rest file none = inl none
 
 -- a file that isn't moved is refused for what it holds
 pub isnt_moved : {bytes : List ℕ} {old : HostedDisk} (new : HostedDisk) {why : StoreFault} {code : ℕ}
-    → old ≡ hosted (fresh bytes) (Some (no_work bytes))
-    → MovesAny (hosted_state old) (hosted_state new) (Err why) → code ≡ move_code why → RefusesMove bytes code
-isnt_moved new {why} same moves told =
-    inr (inr (
-      why,
-      new,
-      subst (λ (d : HostedDisk). MovesAny (hosted_state d) (hosted_state new) (Err why)) same moves,
-      told,
-    ))
+    → old ≡ hosted (fresh bytes) (Some (no_work bytes)) → MovesAny (hosted_state old) (hosted_state new) (Err why)
+    → code ≡ move_code why → RefusesMove bytes code
+isnt_moved new {why} same moves told = inr (inr (
+  why,
+  new,
+  subst (λ (d : HostedDisk). MovesAny (hosted_state d) (hosted_state new) (Err why)) same moves,
+  told,
+))

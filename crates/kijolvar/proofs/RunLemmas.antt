@@ -21,14 +21,12 @@ module _ {D P : Type 0} (bound : DiskGhosts D) (peripherals : Ghosts P) where
       {before after : Given} {left : Session}
       → Finishes (IsRun bound peripherals) old session lines before after left new
       → bound.fixed new.totals.disk ≡ bound.fixed old.totals.disk
-  finish_fixed old {new} done =
-      run_fixed old new done.transcript.steps done.transcript.run
+  finish_fixed old {new} done = run_fixed old new done.transcript.steps done.transcript.run
 
   pub lines_fixed : {E : Type 0} (old new : Counter D P) (session : Session) (lines : List (List ℕ))
-      (before after : Given) (result : Result (Unit {0}) E)
-      (left : Session) → RunsGivenLines bound peripherals old session lines before after result left new
+      (before after : Given) (result : Result (Unit {0}) E) (left : Session)
+      → RunsGivenLines bound peripherals old session lines before after result left new
       → bound.fixed new.totals.disk ≡ bound.fixed old.totals.disk
-  lines_fixed old new session lines before after (Ok u) left done =
-      finish_fixed old done
+  lines_fixed old new session lines before after (Ok u) left done = finish_fixed old done
   lines_fixed old new session lines before after (Err fault) left stops =
       run_fixed stops.mid new stops.failed.carried.steps stops.failed.carried.run ∙ finish_fixed old stops.done

@@ -22,8 +22,8 @@ pub tells_no_order : (hosts : Device → Course) (till : TillState) (settings : 
     (before : List ℕ) (needed : ℕ) {name : List ℕ} {device : Device} {given : Order}
     → Some (name, device) ≡ pending_peripheral hosts (slots_in till.counter.devices)
     → Some given ≡ order_in (hosts device) → settings_fit (wrapped_state device.driven.twin).kind settings ≡ true
-    → (order_fits (wrapped_state device.driven.twin).kind given ≡ true → HasNoBytes (not (is_new == 0))
-    (wrapped_state device.driven.twin) given)
+    → (order_fits (wrapped_state device.driven.twin).kind given ≡ true
+    → HasNoBytes (not (is_new == 0)) (wrapped_state device.driven.twin) given)
     → AnswersOrderBytes hosts till settings is_new behind before before needed needed no_order
 tells_no_order hosts till settings is_new behind before needed found waits fit none =
     rw (← found) (rw (← waits) (inr (record {

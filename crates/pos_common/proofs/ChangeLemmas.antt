@@ -5,8 +5,7 @@ use Rattle.pos_common.proofs.KeptLemmas.{control_at}
 
 -- a held control that has changed is a change of the machine's control there
 pub changed_at : (f : Control → Control) (hs : List KeptControl) (i : ℕ) (d g : KeptControl) → i < length hs
-    → g.control ≡ f (get_or hs i d).control
-    → MatchOption (slice_get (controls_of hs) i) ⊥
+    → g.control ≡ f (get_or hs i d).control → MatchOption (slice_get (controls_of hs) i) ⊥
     (λ control. controls_of (set hs i g) ≡ slice_set (controls_of hs) i (f control))
 changed_at f hs i d g lt s =
     let within : i < length (controls_of hs) = omega (arith, length-map hs (λ (h : KeptControl). h.control)) in

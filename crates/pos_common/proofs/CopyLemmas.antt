@@ -20,16 +20,15 @@ Reads cs (copy ∷ copies) hs = ReadsFirst copy hs (Reads cs copies)
 
 -- the copies for held controls, which have others before them, can be read, and then each that listens has read it
 pub all_read : (scan : Scan) (place n : ℕ) (front hs : List KeptControl) → length front ≡ n
-    → All (HasRoom place scan_events) hs
-    → Reads (controls_of front ++ all_listening place (read scan) (controls_of hs))
+    → All (HasRoom place scan_events) hs → Reads (controls_of front ++ all_listening place (read scan) (controls_of hs))
     (copies_from n scan place (controls_of hs)) (front ++ hs)
 all_read scan place n front [] is room = map-append (λ (h : KeptControl). h.control) front []
 all_read scan place n front (h ∷ hs) is room =
     let P = HasRoom place scan_events in
     let behind = all_listening place (read scan) (controls_of hs) in
     let copies = copies_from (n + 1) scan place (controls_of hs) in
-    let next : (g : KeptControl) (c : Control) → g.control ≡ c → Reads (controls_of front ++ c ∷ behind) copies
-    (front ++ g ∷ hs) = λ g c same. rw (← same) (rw (
+    let next : (g : KeptControl) (c : Control) → g.control ≡ c
+    → Reads (controls_of front ++ c ∷ behind) copies (front ++ g ∷ hs) = λ g c same. rw (← same) (rw (
       map-append (λ (x : KeptControl). x.control) front (g ∷ []),
       append_assoc front (g ∷ []) hs,
       append_assoc (controls_of front) (g.control ∷ []) behind,

@@ -15,8 +15,8 @@ scans other p q h = absurd (grind arith)
 
 -- each control that listens has read it
 pub scan_taken : (before after : PeripheralState) {i : Input} (place : ℕ) {old : List Control} (mid new : List Control)
-    {copies : List ScanCopy}
-    → input_fits before.kind i ≡ true → Fed before i (Ok taken.Scan) after → mid ≡ old → HasCopies i place mid copies
+    {copies : List ScanCopy} → input_fits before.kind i ≡ true → Fed before i (Ok taken.Scan) after → mid ≡ old
+    → HasCopies i place mid copies
     → ((scan : Scan) → copies ≡ copies_from 0 scan place mid → new ≡ all_listening place (read scan) mid)
     → TakesIn i place old (hardware_of before) new (hardware_of after)
 scan_taken before after {i} place mid new fits fed same has all =

@@ -13,21 +13,19 @@ control_at hs i d c lt = sym (get_or-map (λ (g : KeptControl). g.control) hs i 
 -- a held control that is still the same control changes nothing of the machine
 pub same_control : (hs : List KeptControl) (i : ℕ) (d g : KeptControl) → i < length hs
     → g.control ≡ (get_or hs i d).control → controls_of (set hs i g) ≡ controls_of hs
-same_control hs i d g lt s =
-    grind (
-      arith,
-      map-set (λ (f : KeptControl). f.control) hs i g,
-      control_at hs i d g.control,
-      set-get_or (controls_of hs) i g.control,
-    )
+same_control hs i d g lt s = grind (
+  arith,
+  map-set (λ (f : KeptControl). f.control) hs i g,
+  control_at hs i d g.control,
+  set-get_or (controls_of hs) i g.control,
+)
 
 -- one more control is mapped
 pub mapped_more : (f : Control → Control) (olds hs : List KeptControl) (i : ℕ) (d g : KeptControl) → i < length hs
     → g.control ≡ f (get_or hs i d).control
     → controls_of hs ≡ map f (take i (controls_of olds)) ++ drop i (controls_of olds) → length olds ≡ length hs
     → controls_of (set hs i g) ≡ map f (take (i + 1) (controls_of olds)) ++ drop (i + 1) (controls_of olds)
-mapped_more f olds hs i d g lt s m n =
-    rw (map-set (λ (x : KeptControl). x.control) hs i g, s)
+mapped_more f olds hs i d g lt s m n = rw (map-set (λ (x : KeptControl). x.control) hs i g, s)
     (map_over_more f (controls_of olds) (controls_of hs) i (get_or hs i d).control
     (omega (arith, length-map olds (λ (x : KeptControl). x.control))) m (control_at hs i d (get_or hs i d).control lt))
 
@@ -39,8 +37,7 @@ first_of_rest P hs i d lt a = All-head P (get_or hs i d) (drop (i + 1) hs) (rw (
 -- what each element from a place on has, those behind it have when it is changed
 pub rest_after_set : (P : KeptControl → Type 0) (hs : List KeptControl) (i : ℕ) (g : KeptControl) → i < length hs
     → All P (drop i hs) → All P (drop (i + 1) (set hs i g))
-rest_after_set P hs i g lt a =
-    rw (drop-set-lt (i + 1) hs i g (omega arith))
+rest_after_set P hs i g lt a = rw (drop-set-lt (i + 1) hs i g (omega arith))
     (All-tail P (get_or hs i g) (drop (i + 1) hs) (rw (drop_more hs i g lt) at a))
 
 -- of two lists that are the same from a place on, the elements behind the place stay when it is changed

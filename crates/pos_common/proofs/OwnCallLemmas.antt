@@ -43,15 +43,13 @@ module _ (k : Category) (n : ℕ) (claims : List (Option ℕ)) (asked : Call) (o
 
   -- it comes to an action
   pub done_call : (d : Action) (place : ℕ) (outcome : Result Answer NoMemory) (new : List Control)
-      (before after : Hardware)
-      → open_place one.device ≡ Some place → first_refusal refusals ≡ None → comes_to one ≡ Some d → MayWantFor asked d
+      (before after : Hardware) → open_place one.device ≡ Some place → first_refusal refusals ≡ None
+      → comes_to one ≡ Some d → MayWantFor asked d
       → MatchResult outcome (λ result. Does d n place result olds before new after)
-      (λ want. IsTrue (may_want d) × SameHardware olds before new after)
-      → Called outcome before new after
+      (λ want. IsTrue (may_want d) × SameHardware olds before new after) → Called outcome before new after
   done_call d place (Ok result) new before after there none comes wants does =
       rw found (record { outcome = rw (none, comes, there) does })
-  done_call d place (Err want) new before after there none comes wants does =
-      rw found (wants does.0, none, does.1)
+  done_call d place (Err want) new before after there none comes wants does = rw found (wants does.0, none, does.1)
 
   -- and gives its orders
   pub done_orders : (d : Action) (outcome : Result Answer NoMemory) (old new : ℕ) → first_refusal refusals ≡ None

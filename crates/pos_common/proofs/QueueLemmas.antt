@@ -16,10 +16,8 @@ weaker (Some x) P R Q S f g h = g x h
 
 -- what a held control says of a request is what the machine's control does
 pub says_at : (given : Order) (hs : List KeptControl) (i : ℕ) (d g : KeptControl) (outcome : Result Answer NoMemory)
-    (at : Hardware) → i < length hs
-    → MatchResult outcome (λ result. TurnsInto (id_rows (get_or hs i d).control) result (get_or hs i d) g
-    (queued given (get_or hs i d).control))
-    (λ want. g ≡ get_or hs i d)
+    (at : Hardware) → i < length hs → MatchResult outcome (λ result. TurnsInto (id_rows (get_or hs i d).control) result
+    (get_or hs i d) g (queued given (get_or hs i d).control)) (λ want. g ≡ get_or hs i d)
     → MatchResult outcome (λ result. QueuesOrder given i result (controls_of hs) at (controls_of (set hs i g)) at)
     (λ want. SameHardware (controls_of hs) at (controls_of (set hs i g)) at)
 says_at given hs i d g (Ok result) at lt turns =

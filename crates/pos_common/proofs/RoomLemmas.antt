@@ -5,6 +5,6 @@ use Rattle.pos_service.specs.declared.signs.Signs.{Signs}
 
 -- what is left of the room of a control that has heard a change of signs
 pub room_left : (place : ℕ) {count : ℕ} (was is : Signs) (old : KeptControl) {new : KeptControl}
-    → new.control ≡ if_listening place (heard_signs was is) old.control
-    → old.spare ≤ new.spare + sign_events → HasRoom place (sign_events + count) old → HasRoom place count new
+    → new.control ≡ if_listening place (heard_signs was is) old.control → old.spare ≤ new.spare + sign_events
+    → HasRoom place (sign_events + count) old → HasRoom place count new
 room_left place was is old heard spare room = λ l. grind (arith, room)

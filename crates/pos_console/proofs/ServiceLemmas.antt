@@ -20,9 +20,8 @@ use Rattle.pos_console.specs.Service.{Serves, start, start_spares}
 
 -- a disk that was formatted leaves no files, with sequence 1
 pub new_disk_leaves : (disk : DiskState) → HasNoFiles disk → LeavesOneOf (Stands Layout1 [] 1 ∷ []) disk
-new_disk_leaves disk new bytes may =
-    subst (StandsForOneOf (Stands Layout1 [] 1 ∷ [])) (sym (rest_leaves disk bytes new.at_rest may))
-    (inl (new_standing disk.reading new.image))
+new_disk_leaves disk new bytes may = subst (StandsForOneOf (Stands Layout1 [] 1 ∷ []))
+    (sym (rest_leaves disk bytes new.at_rest may)) (inl (new_standing disk.reading new.image))
 
 -- where there was no memory, the program leaves what it leaves then, wherever it began
 pub served_nothing : (streams : Streams) (result : Result (Unit {0}) RunFault) → FindsNoMemory streams result
@@ -40,9 +39,8 @@ served_nothing streams result (same, (reader, writer)) =
 
 -- over the built profile and a new disk the program begins at the start
 pub serves_built : {D : Type 0} (bound : DiskGhosts D) (contents : Contents) (disk after : D) (streams : Streams)
-    (result : Result (Unit {0}) RunFault)
-    → contents ≡ built → bound.honest disk → HasNoFiles (bound.state disk) → (bound.state disk).failures ≡ 0
-    → ProfileLeaves bound contents disk streams result after → Serves streams result
+    (result : Result (Unit {0}) RunFault) → contents ≡ built → bound.honest disk → HasNoFiles (bound.state disk)
+    → (bound.state disk).failures ≡ 0 → ProfileLeaves bound contents disk streams result after → Serves streams result
 serves_built {D} bound contents disk after streams result is honest new none leaves =
     from_start (subst (λ (c : Contents). ProfileLeaves bound c disk streams result after) is leaves)
   where

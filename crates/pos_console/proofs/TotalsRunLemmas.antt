@@ -15,10 +15,9 @@ use Rattle.pos_store.specs.Standing.{Standing, LeavesOneOf}
 use Rattle.pos_console.specs.TotalsRuns.{RunsOverTotals, TotalsLeave}
 
 module _ {B : Type 0} (below : FileGhosts B) (contents : Contents) (totals : Mirror (FileDisk B))
-    (new : IsNewMirror totals) (streams : Streams)
-    (result : Result (Unit {0}) RunFault) (after : Mirror (FileDisk B)) (mirrored : IsMirrored below.calls after)
-    (cuts : (is : IsMirrored below.calls after) (bytes : List ℕ) → CutMayLeave is bytes
-    → (mirror_state after).left_since 0 bytes) where
+    (new : IsNewMirror totals) (streams : Streams) (result : Result (Unit {0}) RunFault) (after : Mirror (FileDisk B))
+    (mirrored : IsMirrored below.calls after) (cuts : (is : IsMirrored below.calls after) (bytes : List ℕ)
+    → CutMayLeave is bytes → (mirror_state after).left_since 0 bytes) where
   -- a new mirror begins time
   begins : (mirror_state totals).moment ≡ 0
   begins = ap (λ (m : Mirror (FileDisk B)). length m.memory.past) new

@@ -22,9 +22,8 @@ NoneApplies rows = AllByRecursion (λ (row : Row). row.applies ≡ false) rows
 -- where a table refuses nothing, no row applies
 pub none_applies : (rows : List Row) → first_refusal rows ≡ None → NoneApplies rows
 none_applies [] none = tt
-none_applies (row ∷ rows) none =
-    (elim row.applies as (λ b. cond b (Some (Refused row.code row.extended)) (first_refusal rows) ≡ None
-    → (b ≡ false) × NoneApplies rows) [
+none_applies (row ∷ rows) none = (elim row.applies as
+    (λ b. cond b (Some (Refused row.code row.extended)) (first_refusal rows) ≡ None → (b ≡ false) × NoneApplies rows) [
       | true ↦ λ same. cc
       | false ↦ λ same. (refl, none_applies rows same)
     ]) none
@@ -126,8 +125,8 @@ module _ (rows columns : ℕ) (cursor : Cursor) (tall : 1 ≤ rows) (wide : 1 �
       text_stays cursor.place text (attribute_of attribute) (λ i. i) is
   display_stays (DisplayTextAt row column text attribute) d allowed is =
       let (row_allowed, others) = allowed in
-      let first = with_row rows columns origin row (unless_not (is_index rows row) row_allowed)
-      (first_place columns tall) in
+      let first =
+      with_row rows columns origin row (unless_not (is_index rows row) row_allowed) (first_place columns tall) in
       let start = with_column rows columns (record { row = nat_abs row; column = 0 }) column
       (unless_not (is_up_to columns column) others.0) first in
       text_stays (record { row = nat_abs row; column = nat_abs column }) text (attribute_of attribute) (λ i. start) is

@@ -42,9 +42,8 @@ registered_there list place at = slice_get-map device_of list place ∙ ap (opti
 
 -- another peripheral, or none, at a device is other hardware, or none
 pub devices_with : (list : List Registered) (place : ℕ) (d : Registered) (x : Option PeripheralState)
-    → slice_get list place ≡ Some d
-    → devices_of (with_peripheral list place x) ≡ set (devices_of list) place
-    (record (device_of d) { hardware = option_map hardware_of x })
+    → slice_get list place ≡ Some d → devices_of (with_peripheral list place x)
+    ≡ set (devices_of list) place (record (device_of d) { hardware = option_map hardware_of x })
 devices_with [] place d x at = cc
 devices_with (y ∷ list) zero d x at = search rules
 devices_with (y ∷ list) (suc place) d x at = ap (λ ds. device_of y ∷ ds) (devices_with list place d x at)
@@ -62,8 +61,8 @@ served_at (d ∷ list) (suc place) served is = served_at list place served.1 is
 
 -- what is done with what serves a device
 pub done_there : {hs gs : List KeptControl} (list : List Registered) {new : List Registered} (place : ℕ)
-    (was now : PeripheralState) (Does : Effect)
-    → AllByRecursion IsServed list → standing_at list place ≡ Some was → new ≡ with_peripheral list place (Some now)
+    (was now : PeripheralState) (Does : Effect) → AllByRecursion IsServed list → standing_at list place ≡ Some was
+    → new ≡ with_peripheral list place (Some now)
     → Does (controls_of hs) (hardware_of was) (controls_of gs) (hardware_of now)
     → IsDoneAt (devices_of list) place Does hs gs (devices_of new)
 done_there list place was now Does served stands is does =
@@ -99,8 +98,7 @@ devices_stay (d ∷ list) = search (rules, parked_device, (devices_stay list))
 
 -- there is a device for each entry that has a peripheral
 pub count_devices : (entries : List Entry) → length (profile_devices entries) ≡ length (planned_of entries)
-count_devices entries =
-    length-map (vacant_devices entries) device_of ∙ length-map (planned_of entries) vacant
+count_devices entries = length-map (vacant_devices entries) device_of ∙ length-map (planned_of entries) vacant
 
 -- a device of a sound registry is of a kind in range, and so is its peripheral
 has_its_kind : (d : Registered) → HasKindInRange d → IsServed d → HasItsKind (device_of d)
@@ -132,20 +130,19 @@ module _ (hs : List KeptControl) (list new : List Registered) (name : List ℕ) 
       option_and_then_some (λ d. d.peripheral) (slice_get list place) was stood (λ d at is. (d, at, is))
 
   pub attach_step : {B : Type 0} (state : B → PeripheralState) (peripheral : B)
-      (result : Result (Unit {0}) (AttachFault × B))
-      → IfErr result (λ refusal. refusal.1 ≡ peripheral) → Attaches list name (state peripheral) result new
+      (result : Result (Unit {0}) (AttachFault × B)) → IfErr result (λ refusal. refusal.1 ≡ peripheral)
+      → Attaches list name (state peripheral) result new
       → Step (machine_with hs cl (devices_of list) tn part) (Attach name (hardware_of (state peripheral)))
       (attached state result) (machine_with hs cl (devices_of new) tn part)
-  attach_step state peripheral (Ok u) back h =
-      record {
-        place = h.place;
-        device = device_of h.may.device;
-        is_at = found_first name list h.found;
-        is_device = registered_there list h.place h.may.at;
-        is_vacant = ap (option_map hardware_of) h.may.vacant;
-        kind = sym h.may.kind;
-        machine = rw (h.served, devices_with list h.place h.may.device (Some (state peripheral)) h.may.at);
-      }
+  attach_step state peripheral (Ok u) back h = record {
+    place = h.place;
+    device = device_of h.may.device;
+    is_at = found_first name list h.found;
+    is_device = registered_there list h.place h.may.at;
+    is_vacant = ap (option_map hardware_of) h.may.vacant;
+    kind = sym h.may.kind;
+    machine = rw (h.served, devices_with list h.place h.may.device (Some (state peripheral)) h.may.at);
+  }
   attach_step state peripheral (Err (attach.Unknown, given)) back h = search (rules, kind_unnamed, same_machine)
   attach_step state peripheral (Err (attach.InUse, given)) back h = (
     rw (named_device list name h.0.device h.0.named, h.0.served),
@@ -161,9 +158,8 @@ module _ (hs : List KeptControl) (list new : List Registered) (name : List ℕ) 
 
   pub detach_step : {B : Type 0} (state : B → PeripheralState) (is_open : Bool) (result : Result B DetachFault)
       → ((place : ℕ) → registered_place (names_of list) name ≡ Some place → is_open ≡ is_open_at place (controls_of hs))
-      → Detaches state list name is_open result new
-      → Step (machine_with hs cl (devices_of list) tn part) (Detach name) (detached state result)
-      (machine_with hs cl (devices_of new) tn part)
+      → Detaches state list name is_open result new → Step (machine_with hs cl (devices_of list) tn part) (Detach name)
+      (detached state result) (machine_with hs cl (devices_of new) tn part)
   detach_step state is_open (Ok peripheral) told h =
       let d = registered_at h.0.place h.0.was h.0.stood in
       record {

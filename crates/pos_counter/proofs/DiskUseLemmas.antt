@@ -13,9 +13,8 @@ alone_over old q new part alone = grind (arith, match_weaker)
 
 -- a run of a counter is one of the machine as far as its requests spare the disk
 pub runs_anyhow : {D P : Type 0} (bound : DiskGhosts D) (peripherals : Ghosts P) (failures : ℕ) (a c : Counter D P)
-    (steps : List (Request × Response))
-    (left : List Standing) → IsSettled a.totals.totals left → IsRun bound peripherals a steps c
-    → RunsAnyhow peripherals left failures a steps c
+    (steps : List (Request × Response)) (left : List Standing) → IsSettled a.totals.totals left
+    → IsRun bound peripherals a steps c → RunsAnyhow peripherals left failures a steps c
 runs_anyhow bound peripherals failures a c [] left is run = search rules
 runs_anyhow bound peripherals failures a c (s ∷ steps) left is run =
     let b = run.0 in
@@ -24,15 +23,13 @@ runs_anyhow bound peripherals failures a c (s ∷ steps) left is run =
     let rest = runs_anyhow bound peripherals failures b c steps next (settled_twice now.layout left now.mode) run.2 in
     let A = machine_of_counter peripherals a (part_with a.totals.totals left failures) in
     let B = machine_of_counter peripherals b (part_with now next failures) in
-    let as_step =
-    λ (spared : Spared left failures (machine_of_counter peripherals a) a.totals s.0 s.1
+    let as_step = λ (spared : Spared left failures (machine_of_counter peripherals a) a.totals s.0 s.1
     (machine_of_counter peripherals b) b.totals). subst (λ l. Step A s.0 s.1
     (machine_of_counter peripherals b (part_with now l failures))) (spared.is_settled is) (spared.step is) in
     let first : StepSparing A s.0 s.1 B = (
       λ spares. as_step (run.1.spared left failures spares),
-      ⊎_elim (λ spared. inl (as_step spared))
-          (λ alone. inr (alone_over A s.0 (machine_of_counter peripherals b (part_with now left failures))
-          (part_with now next failures) alone)) (run.1.otherwise left failures),
+      ⊎_elim (λ spared. inl (as_step spared)) (λ alone. inr (alone_over A s.0 (machine_of_counter peripherals b
+          (part_with now left failures)) (part_with now next failures) alone)) (run.1.otherwise left failures),
     ) in
     record {
       after = rest.after;

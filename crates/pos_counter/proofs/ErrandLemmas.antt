@@ -30,9 +30,8 @@ module _ {D P : Type 0} (bound : DiskGhosts D) (peripherals : Ghosts P) (old : C
   }
 
   -- the machine is the same
-  over_machine : bound.honest old.totals.disk → (left : List Standing)
-      → machine peripherals over (part_of bound over.totals left) ≡ machine peripherals old
-      (part_of bound old.totals left)
+  over_machine : bound.honest old.totals.disk → (left : List Standing) → machine peripherals over
+      (part_of bound over.totals left) ≡ machine peripherals old (part_of bound old.totals left)
   over_machine honest left = ap (λ (n : ℕ). machine peripherals old (part_with old.totals.totals left n))
       (keeps.same honest).failures
 
@@ -56,8 +55,8 @@ module _ {D P : Type 0} (bound : DiskGhosts D) (peripherals : Ghosts P) (old : C
 
   -- a run after it
   over_after : (last : Counter D P) (left : List Standing) (steps : List (Request × Response))
-      → Leaves bound old.totals left
-      → RunsFrom bound peripherals left over steps last → RunsFrom bound peripherals left old steps last
+      → Leaves bound old.totals left → RunsFrom bound peripherals left over steps last
+      → RunsFrom bound peripherals left old steps last
   over_after last left steps leaves runs =
       let B = machine peripherals last (part_of bound last.totals runs.after) in
       let P : Machine → Type 0 = λ M. (run : Run M steps B)
@@ -80,8 +79,8 @@ module _ {D P : Type 0} (bound : DiskGhosts D) (peripherals : Ghosts P) (old : C
   over_run layout start sequence steps past =
       let A = machine peripherals past.first (part_of bound past.first.totals _) in
       let e = over_machine past.leaves.honest past.left in
-      let P : Machine → Type 0 = λ M. (run : Run A steps M)
-      × (history_of layout start A steps M run ≡ history_until past) in
+      let P : Machine → Type 0 =
+      λ M. (run : Run A steps M) × (history_of layout start A steps M run ≡ history_until past) in
       let moved : P (machine peripherals over (part_of bound over.totals past.left)) =
       subst P (sym e) (past.run, refl) in
       record {
@@ -89,8 +88,7 @@ module _ {D P : Type 0} (bound : DiskGhosts D) (peripherals : Ghosts P) (old : C
           first = past.first;
           begins = past.begins;
           left = past.left;
-          leaves =
-              over_leaves past.left past.leaves;
+          leaves = over_leaves past.left past.leaves;
           run = moved.0;
         };
         machine = e;
@@ -106,22 +104,19 @@ module _ {D P : Type 0} (bound : DiskGhosts D) (peripherals : Ghosts P) {old new
       (over_sound bound peripherals old new.totals.disk is.disk sound)
 
   pub same_leaves : (left : List Standing) → Leaves bound old.totals left → Leaves bound new.totals left
-  same_leaves left leaves =
-      subst (λ (c : Counter D P). Leaves bound c.totals left) (sym is.same)
+  same_leaves left leaves = subst (λ (c : Counter D P). Leaves bound c.totals left) (sym is.same)
       (over_leaves bound peripherals old new.totals.disk is.disk left leaves)
 
   pub same_before : (first : Counter D P) (left : List Standing) (steps : List (Request × Response))
       → RunsFrom bound peripherals left first steps old → RunsFrom bound peripherals left first steps new
-  same_before first left steps runs =
-      subst (λ (c : Counter D P). RunsFrom bound peripherals left first steps c) (sym is.same)
-      (over_before bound peripherals old new.totals.disk is.disk first left steps runs)
+  same_before first left steps runs = subst (λ (c : Counter D P). RunsFrom bound peripherals left first steps c)
+      (sym is.same) (over_before bound peripherals old new.totals.disk is.disk first left steps runs)
 
   pub same_after : (last : Counter D P) (left : List Standing) (steps : List (Request × Response))
-      → Leaves bound old.totals left
-      → RunsFrom bound peripherals left new steps last → RunsFrom bound peripherals left old steps last
-  same_after last left steps leaves runs =
-      over_after bound peripherals old new.totals.disk is.disk last left steps leaves
-      (subst (λ (c : Counter D P). RunsFrom bound peripherals left c steps last) is.same runs)
+      → Leaves bound old.totals left → RunsFrom bound peripherals left new steps last
+      → RunsFrom bound peripherals left old steps last
+  same_after last left steps leaves runs = over_after bound peripherals old new.totals.disk is.disk last left steps
+      leaves (subst (λ (c : Counter D P). RunsFrom bound peripherals left c steps last) is.same runs)
 
   pub same_run : (layout : Layout) (start : List PlainFile) (sequence : ℕ) (steps : List (Request × Response))
       (past : HasRun bound peripherals layout start sequence steps old)
@@ -134,16 +129,16 @@ module _ {D P : Type 0} (bound : DiskGhosts D) (peripherals : Ghosts P) {old new
 
 -- what is left during a run is left during it and one more
 front_left : (a b c : Machine) (steps more : List (Request × Response)) (run : Run a steps b) (rest : Run b more c)
-    (bytes : List ℕ)
-    → IsLeftDuring a steps b run bytes → IsLeftDuring a (steps ++ more) c (run_append a b c steps more run rest) bytes
+    (bytes : List ℕ) → IsLeftDuring a steps b run bytes
+    → IsLeftDuring a (steps ++ more) c (run_append a b c steps more run rest) bytes
 unfolding run_append
 front_left a b c [] more run rest bytes h = left_first a c more (subst (λ m. Run m more c) run rest) bytes h
 front_left a b c (s ∷ steps) more run rest bytes (inl h) = inl h
 front_left a b c (s ∷ steps) more run rest bytes (inr h) = inr (front_left run.0 b c steps more run.2 rest bytes h)
 
 back_left : (a b c : Machine) (steps more : List (Request × Response)) (run : Run a steps b) (rest : Run b more c)
-    (bytes : List ℕ)
-    → IsLeftDuring b more c rest bytes → IsLeftDuring a (steps ++ more) c (run_append a b c steps more run rest) bytes
+    (bytes : List ℕ) → IsLeftDuring b more c rest bytes
+    → IsLeftDuring a (steps ++ more) c (run_append a b c steps more run rest) bytes
 unfolding run_append
 back_left a b c [] more run rest bytes h =
     path_j (λ m e. IsLeftDuring m more c (subst (λ n. Run n more c) e rest) bytes)
@@ -152,8 +147,8 @@ back_left a b c (s ∷ steps) more run rest bytes h = inr (back_left run.0 b c s
 
 pub runs_on : {D P : Type 0} (bound : DiskGhosts D) (peripherals : Ghosts P) (first mid : Counter D P)
     {last : Counter D P} (left : List Standing) (steps more : List (Request × Response))
-    (runs : RunsFrom bound peripherals left first steps mid)
-    → RunsFrom bound peripherals runs.after mid more last → RunsFrom bound peripherals left first (steps ++ more) last
+    (runs : RunsFrom bound peripherals left first steps mid) → RunsFrom bound peripherals runs.after mid more last
+    → RunsFrom bound peripherals left first (steps ++ more) last
 runs_on bound peripherals first mid {last} left steps more runs rest =
     let A = machine peripherals first (part_of bound first.totals left) in
     let B = machine peripherals mid (part_of bound mid.totals runs.after) in

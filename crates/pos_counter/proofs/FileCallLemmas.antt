@@ -25,19 +25,16 @@ Puts other P old n result new = ⊥
 -- what comes of its changes: transactions alone may change, where it isn't done or has no changes; or they are done as
 -- one group, or the disk fails in them
 pub data Comes (P : Type 0) (old : Totals) (result : Answer) (new : Totals) : List TotalsChange → Type 0 where
-  Stays : {changes : List TotalsChange} (transactions : List (Option (List TotalsChange)))
-      → ((changes ≡ [] → ⊥) → IsUndone (Answered result))
-      → new ≡ record old { transactions = transactions } → Comes P old result new changes
+  Stays : {changes : List TotalsChange} (transactions : List (Option (List TotalsChange))) → ((changes ≡ [] → ⊥)
+      → IsUndone (Answered result)) → new ≡ record old { transactions = transactions } → Comes P old result new changes
   Groups : (change : TotalsChange) (others : List TotalsChange) (transactions : List (Option (List TotalsChange)))
-      (given : Value)
-      → GroupDone P (record old { transactions = transactions }) (change ∷ others) given result new
+      (given : Value) → GroupDone P (record old { transactions = transactions }) (change ∷ others) given result new
       → Comes P old result new (change ∷ others)
 
 grouped : (P : Type 0) (old : Totals) (transactions : List (Option (List TotalsChange))) (change : TotalsChange)
     (others : List TotalsChange) (given : Value) (result : Answer) (new : Totals)
     → RunsOut old (change ∷ others) result new ⊎ GroupDone P (record old { transactions = transactions })
-    (change ∷ others) given result new
-    → Comes P old result new (change ∷ others)
+    (change ∷ others) given result new → Comes P old result new (change ∷ others)
 grouped P old transactions change others given result new (inl out) = Stays old.transactions (λ some. rw out.2 tt) out.3
 grouped P old transactions change others given result new (inr done) = Groups change others transactions given done
 
@@ -68,8 +65,7 @@ puts_so asked P Q old n result new to does = grind (arith, match_cases, decided_
 -- the totals do so
 totals_do : (asked : FileCall) {old : TotalsPart} (n : ℕ) {result : Answer} {new : TotalsPart}
     → PutsChanges (λ answer totals. Puts asked (Rises old.failures new.failures) old.totals n answer totals) old
-    (changes_asked old.totals n asked)
-    result new → TotalsDo asked old n result new
+    (changes_asked old.totals n asked) result new → TotalsDo asked old n result new
 totals_do asked n puts = grind arith
 
 -- it keeps the layout, and without changes the mode
@@ -132,8 +128,8 @@ module _ {D : Type 0} (bound : DiskGhosts D) (old new : TotalsView D) (n : ℕ) 
           leaves = record {
             honest = puts.kept.honest.0 leaves.honest;
             leaves = passes.now;
-            is_settled = rw layout (settled_twice old.totals.layout (in_doubt old.totals.layout old.totals.next left
-                changes old.totals.mode) new.totals.mode);
+            is_settled = rw layout (settled_twice old.totals.layout
+                (in_doubt old.totals.layout old.totals.next left changes old.totals.mode) new.totals.mode);
           };
           answer = answers left after (bound.state old.disk).failures (bound.state new.disk).failures
               (λ some failed. failed leaves.honest) refl (puts.counts leaves.honest) (puts.kept.later leaves.honest);
@@ -155,8 +151,8 @@ module _ {D : Type 0} (bound : DiskGhosts D) (old new : TotalsView D) (n : ℕ) 
       × PutsGroup bound old (cond (is_none (first_refusal rows)) (changes_asked old.totals n asks) []) outcome new
 
   group_calls : (outcome : Result Answer NoMemory) → OnErr outcome (own_takes_memory asked ≡ true)
-      → GroupCalls (file_call asked) outcome
-      → (o : Option Answer) → first_refusal rows ≡ o → CallsFiles bound old n asked outcome new
+      → GroupCalls (file_call asked) outcome → (o : Option Answer) → first_refusal rows ≡ o
+      → CallsFiles bound old n asked outcome new
   group_calls (Ok result) takes (told, puts) (Some refusal) e = search (rules, same_settled, decided_some, same_part)
   group_calls (Ok result) takes (told, puts) None e =
       unrefused result e (rw e at puts) (rw e at told.outcome) changes refl
@@ -165,8 +161,8 @@ module _ {D : Type 0} (bound : DiskGhosts D) (old new : TotalsView D) (n : ℕ) 
 
   -- what it does that asks this
   pub calls_files : (outcome : Result Answer NoMemory) (asks : FileCall) → file_call asked ≡ asks
-      → OnErr outcome (own_takes_memory asked ≡ true)
-      → Calls bound old n asks outcome new → CallsFiles bound old n asked outcome new
+      → OnErr outcome (own_takes_memory asked ≡ true) → Calls bound old n asks outcome new
+      → CallsFiles bound old n asked outcome new
   calls_files (Ok result) (Asks question) is takes (tells, same) =
       search (rules, same_settled, decided_weaker, same_part)
   calls_files (Err want) (Asks question) is takes (tells, same) = search (rules, same_settled, same_part)

@@ -29,8 +29,8 @@ same_device ds place d before after at is same =
 pub served_there : {m : Machine} {n : ℕ} {c : Control} (place : ℕ) → IsSound m → slice_get m.controls n ≡ Some c
     → c.device ≡ Some (At place) → MayBeCalled m.devices place m.controls n
 served_there {m} {n} {c} place sound found is =
-    let (device, there, served) = matched (slice_get m.devices place) (IsServedFor c.category c.cursor.place)
-    (rw is at (seated m n c sound found)) in
+    let (device, there, served) =
+    matched (slice_get m.devices place) (IsServedFor c.category c.cursor.place) (rw is at (seated m n c sound found)) in
     let (fits, attached, on_it) = served in
     record {
       attached = rw there attached;
@@ -39,8 +39,8 @@ served_there {m} {n} {c} place sound found is =
 
 -- A call of a category's own: what it is answered first, what it does, and that it may want memory.
 pub record OwnCall (m : Machine) (n : ℕ) (c : Control) (asked : Call) : Type 0 where
-  pub rows : refusals m n c asked ≡ table n (holder_of m c) c (needs_of c.category asked)
-      (own_rows c.device m n c asked)
+  pub rows : refusals m n c asked
+      ≡ table n (holder_of m c) c (needs_of c.category asked) (own_rows c.device m n c asked)
   pub does : (r : Answer) (m' : Machine) → DoesOwn c.device m n c asked r m' → Does m n c asked r m'
   pub takes : IsTrue (own_takes_memory asked) → IsTrue (takes_memory m c asked)
 
@@ -87,9 +87,8 @@ module _ (hs gs : List KeptControl) (ds es : List Device) (cl : List (Option ℕ
   pub want_finds_work : (name : List ℕ) (want : NoMemory) → Some place ≡ place_of ds name
       → IsDoneAt ds place (WorksAt (holder_at cl (Some place)) place (Err want)) hs gs es
       → FindsWork old name × (new ≡ old)
-  want_finds_work name want finds done =
-      elim (match_cases (due_request_at done.before.kind place (holder_at cl (Some place)) (controls_of hs)) _ _
-      done.does) [
+  want_finds_work name want finds done = elim (match_cases (due_request_at done.before.kind place
+      (holder_at cl (Some place)) (controls_of hs)) _ _ done.does) [
         | inl x ↦ absurd (let (_, idle) = x in let no : Err want ≡ Ok worked.Idle = idle.0 in cc)
         | inr x ↦ (
           record {
@@ -108,10 +107,9 @@ module _ (hs gs : List KeptControl) (ds es : List Device) (cl : List (Option ℕ
       → slice_get (controls_of hs) n ≡ Some c → c.device ≡ Some (At place)
       → IsDoneAt ds place (CallsAt n cl asked r) hs gs es → Step old (CallOf n asked) (answered r) new
   device_step n c asked r own found device done =
-      by_outcome r (MatchOption-at_some ⊥
-      (λ control. OwnCalled control.category (device_rows control.category (Some done.before.kind) control asked)
-      (device_action control.category (Some done.before.kind) control asked) n cl asked r control (controls_of hs)
-      done.before (controls_of gs) done.after) c found done.does)
+      by_outcome r (MatchOption-at_some ⊥ (λ control. OwnCalled control.category (device_rows control.category
+      (Some done.before.kind) control asked) (device_action control.category (Some done.before.kind) control asked) n cl
+      asked r control (controls_of hs) done.before (controls_of gs) done.after) c found done.does)
     where
       kind : kind_of old c ≡ Some done.before.kind
       kind = rw (device, done.is_device, done.kind)
@@ -127,27 +125,22 @@ module _ (hs gs : List KeptControl) (ds es : List Device) (cl : List (Option ℕ
       does_own (Some (At at)) result is h = h
       does_own (Some TheTotals) result is h = absurd cc
 
-      at_hardware : (result : Answer)
-          → OwnDoes (device_action c.category (Some done.before.kind) c asked) n result c (controls_of hs) done.before
-          (controls_of gs) done.after
+      at_hardware : (result : Answer) → OwnDoes (device_action c.category (Some done.before.kind) c asked) n result c
+          (controls_of hs) done.before (controls_of gs) done.after
           → OnHardware old (open_place c.device) (DeviceDoes c.category (kind_of old c) n c asked result) new
       at_hardware result does =
           let there = ap open_place device in
-          let here = MatchOption-at_some ⊥
-          (λ place'. DeviceDoes c.category (Some done.before.kind) n c asked result place' (controls_of hs) done.before
-          (controls_of gs) done.after) place there does in
+          let here = MatchOption-at_some ⊥ (λ place'. DeviceDoes c.category (Some done.before.kind) n c asked result
+          place' (controls_of hs) done.before (controls_of gs) done.after) place there does in
           on_hardware (open_place c.device) (DeviceDoes c.category (kind_of old c) n c asked result) there
           (let there = rw (← kind) at here in search (done.is_device, done.is_attached, done.kind, there, done.changed))
 
       by_outcome : (o : Result Answer NoMemory)
           → OwnCalled c.category (device_rows c.category (Some done.before.kind) c asked)
           (device_action c.category (Some done.before.kind) c asked) n cl asked o c (controls_of hs) done.before
-          (controls_of gs) done.after
-          → Step old (CallOf n asked) (answered o) new
-      by_outcome (Ok result) h =
-          decided_step old new n c asked result _ _ _ found unrefused (unchanged done)
-          (λ does. (own_call old n c asked own).does result new
-          (does_own c.device result device (at_hardware result does))) h
+          (controls_of gs) done.after → Step old (CallOf n asked) (answered o) new
+      by_outcome (Ok result) h = decided_step old new n c asked result _ _ _ found unrefused (unchanged done) (λ does.
+          (own_call old n c asked own).does result new (does_own c.device result device (at_hardware result does))) h
       by_outcome (Err want) h = rw found ((own_call old n c asked own).takes h.0, unrefused ∙ h.1, unchanged done h.2)
 
 -- a call of a category's own on a closed control is refused
@@ -162,9 +155,8 @@ closed_refuses m n c asked own closed = ap first_refusal (own_call m n c asked o
 
 -- what the check of a control of Hard Totals refuses, the table of its call refuses
 pub totals_refuse : (m : Machine) (n : ℕ) (c : Control) (asked : Call) {refusal : Answer} → c.category ≡ HardTotals
-    → c.device ≡ Some TheTotals
-    → ((rest : List Row) → first_refusal (table n m.totals.totals.area c (needs_of HardTotals asked) rest)
-    ≡ Some refusal)
+    → c.device ≡ Some TheTotals → ((rest : List Row)
+    → first_refusal (table n m.totals.totals.area c (needs_of HardTotals asked) rest) ≡ Some refusal)
     → first_refusal (table n (holder_of m c) c (needs_of c.category asked) (own_rows c.device m n c asked))
     ≡ Some refusal
 totals_refuse m n c asked is opens refuses =
@@ -173,9 +165,9 @@ totals_refuse m n c asked is opens refuses =
 
 -- what its check lets through, the rest of the table decides
 pub totals_let : (m : Machine) (n : ℕ) (c : Control) (asked : Call) → c.category ≡ HardTotals
-    → c.device ≡ Some TheTotals
-    → ((rest : List Row) → first_refusal (table n m.totals.totals.area c (needs_of HardTotals asked) rest)
-    ≡ first_refusal rest) → IsLet m n c asked
+    → c.device ≡ Some TheTotals → ((rest : List Row)
+    → first_refusal (table n m.totals.totals.area c (needs_of HardTotals asked) rest) ≡ first_refusal rest)
+    → IsLet m n c asked
 totals_let m n c asked is opens lets rest =
     ap₂ (λ k d. first_refusal (table n (holder_in m.claims m.totals.totals.area d) c (needs_of k asked) rest)) is opens
     ∙ lets rest

@@ -28,8 +28,7 @@ pub same_peripheral : (devices : List Registered) (place : ℕ) {state : Periphe
     → standing_at devices place ≡ Some state → with_peripheral devices place (Some state) ≡ devices
 same_peripheral [] place is = refl
 same_peripheral (device ∷ devices) zero is = ap (λ p. record device { peripheral = p } ∷ devices) (sym is)
-same_peripheral (device ∷ devices) (suc place) is =
-    ap (λ ds. device ∷ ds) (same_peripheral devices place is)
+same_peripheral (device ∷ devices) (suc place) is = ap (λ ds. device ∷ ds) (same_peripheral devices place is)
 
 -- a counter whose devices are to it as they were is sound
 pub same_sound : {D P : Type 0} {peripherals : Ghosts P} {old : Counter D P} {devices : Devices P}
@@ -68,16 +67,14 @@ module _ {P : Type 0} (course_of : P → Course) where
       → hosts_of course_of (slots_with slots place o after).items ≡ changed_at change place
       (hosts_of course_of slots.items)
   with_there slots place None change at is same = grind (arith, is)
-  with_there slots place (Some slot) change at is same =
-      set_there slots.items place change at is same
+  with_there slots place (Some slot) change at is same = set_there slots.items place change at is same
 
   -- another peripheral serves the device at a place
   pub hosts_with : (slots : Vec (Slot P) Global) (place : ℕ) {before after : P} (change : Course → Course)
       → peripheral_at slots.items place ≡ Some before → course_of after ≡ change (course_of before)
       → hosts_of course_of (slots_with slots place (slice_get slots.items place) after).items ≡ changed_at change place
       (hosts_of course_of slots.items)
-  hosts_with slots place change is same =
-      with_there slots place (slice_get slots.items place) change refl is same
+  hosts_with slots place change is same = with_there slots place (slice_get slots.items place) change refl is same
 
   vacant_here : (change : Course → Course) (name : List ℕ) (o : Option P) → is_some o ≡ false
       → changed_host change (name, option_map course_of o) ≡ (name, option_map course_of o)
@@ -136,8 +133,7 @@ pub first_changed : (change : Course → Course) (hosts : List Host) (place : �
     → changed_pending change hosts ≡ changed_at change place hosts
 first_changed change [] place first = refl
 first_changed change (host ∷ hosts) zero first = rw first.pends refl
-first_changed change (host ∷ hosts) (suc place) first =
-    rw (first.none_before zero (omega arith))
+first_changed change (host ∷ hosts) (suc place) first = rw (first.none_before zero (omega arith))
     (ap (λ hs. host ∷ hs) (first_changed change hosts place (tail_first first)))
 
 -- no device has an order
@@ -161,21 +157,19 @@ none_found (host ∷ hosts) none = passed_over host hosts (none zero) ∙ none_f
 
 -- the first device with an order is found
 pub first_found : {P : Type 0} (course_of : P → Course) (slots : List (Slot P)) (place : ℕ) {slot : Slot P}
-    {peripheral : P}
-    → IsFirstPending (hosts_of course_of slots) place → slice_get slots place ≡ Some slot
+    {peripheral : P} → IsFirstPending (hosts_of course_of slots) place → slice_get slots place ≡ Some slot
     → slot.peripheral ≡ Some peripheral → pending_of (hosts_of course_of slots) ≡ Some (slot.name, course_of peripheral)
 first_found course_of [] place first at is = grind (arith, at)
 first_found course_of (s ∷ slots) zero {slot} {peripheral} first at is =
     let same = same_Some s slot at in
-    let pends : is_pending (course_of peripheral) ≡ true =
-    subst (λ o. has_pending (slot.name, option_map course_of o) ≡ true) is
-    (subst (λ x. has_pending (host_of course_of x) ≡ true) same first.pends) in
+    let pends : is_pending (course_of peripheral) ≡ true = subst (λ o. has_pending (slot.name, option_map course_of o)
+    ≡ true) is (subst (λ x. has_pending (host_of course_of x) ≡ true) same first.pends) in
     subst (λ x. pending_of (host_of course_of x ∷ hosts_of course_of slots) ≡ Some (slot.name, course_of peripheral))
     (sym same) (subst (λ o. pending_of ((slot.name, option_map course_of o) ∷ hosts_of course_of slots) ≡ Some
     (slot.name, course_of peripheral)) (sym is) (rw pends refl))
 first_found course_of (s ∷ slots) (suc place) first at is =
-    passed_over (host_of course_of s) (hosts_of course_of slots) (first.none_before zero (omega arith)) ∙ first_found
-    course_of slots place (tail_first first) at is
+    passed_over (host_of course_of s) (hosts_of course_of slots) (first.none_before zero (omega arith))
+    ∙ first_found course_of slots place (tail_first first) at is
 
 module _ {P : Type 0} (course_of : P → Course) (slots : List (Slot P)) (place : ℕ)
     (first : IsFirstPending (hosts_of course_of slots) place) where
@@ -184,8 +178,8 @@ module _ {P : Type 0} (course_of : P → Course) (slots : List (Slot P)) (place 
   is_there none = false≢true (sym (none_pends course_of slots place none) ∙ first.pends)
 
   pub has_peripheral : (slot : Slot P) → slice_get slots place ≡ Some slot → slot.peripheral ≡ None → ⊥
-  has_peripheral slot at none = false≢true
-      (sym (slot_pends course_of slots place at ∙ vacant_pends course_of slot none) ∙ first.pends)
+  has_peripheral slot at none =
+      false≢true (sym (slot_pends course_of slots place at ∙ vacant_pends course_of slot none) ∙ first.pends)
 
 -- no device from a place on has an order
 pub pends_past : (hosts : List Host) (place : ℕ) → length hosts ≤ place → pends_at hosts place ≡ false
@@ -306,8 +300,8 @@ then_reported done (Some (name, course.Reported asked is_done)) = refl
 
 -- the place of a name, in a list that begins at a place
 abbrev pub NamedFrom : {P : Type 0} → (P → Course) → List (Slot P) → ℕ → List ℕ → ℕ → Type 0
-NamedFrom course_of slots at name place = (k : ℕ) × (place ≡ at + k) × ((change : Course → Course) → changed_named
-    change name (hosts_of course_of slots) ≡ changed_at change k (hosts_of course_of slots))
+NamedFrom course_of slots at name place = (k : ℕ) × (place ≡ at + k) × ((change : Course → Course)
+    → changed_named change name (hosts_of course_of slots) ≡ changed_at change k (hosts_of course_of slots))
     × (course_named name (hosts_of course_of slots) ≡ option_map course_of (peripheral_at slots k))
 
 module _ {P : Type 0} (peripherals : Ghosts P) (course_of : P → Course) where
@@ -331,8 +325,7 @@ module _ {P : Type 0} (peripherals : Ghosts P) (course_of : P → Course) where
       → registered_from at name (names_of (registered_of peripherals slots)) ≡ Some place
       → NamedFrom course_of slots at name place
   named_from [] at name found = grind (arith, found)
-  named_from (slot ∷ slots) at {place} name found =
-      named_or (bytes_eq name slot.name) slot slots at place name refl
+  named_from (slot ∷ slots) at {place} name found = named_or (bytes_eq name slot.name) slot slots at place name refl
       (λ later. named_from slots (at + 1) name later) found
 
   unnamed_or : (b : Bool) (slot : Slot P) (slots : List (Slot P)) (at : ℕ) (name : List ℕ) → bytes_eq name slot.name ≡ b
@@ -348,8 +341,7 @@ module _ {P : Type 0} (peripherals : Ghosts P) (course_of : P → Course) where
       → registered_from at name (names_of (registered_of peripherals slots)) ≡ None
       → course_named name (hosts_of course_of slots) ≡ None
   unnamed_from [] at name found = refl
-  unnamed_from (slot ∷ slots) at name found =
-      unnamed_or (bytes_eq name slot.name) slot slots at name refl
+  unnamed_from (slot ∷ slots) at name found = unnamed_or (bytes_eq name slot.name) slot slots at name refl
       (λ later. unnamed_from slots (at + 1) name later) found
 
   -- the device that the registry finds
@@ -360,8 +352,8 @@ module _ {P : Type 0} (peripherals : Ghosts P) (course_of : P → Course) where
   named_there slots {place} name found =
       let (k, same, changes, course) = named_from slots 0 name found in
       let is : k ≡ place = omega (arith, same) in (
-        λ change. subst (λ n. changed_named change name (hosts_of course_of slots) ≡ changed_at change n
-            (hosts_of course_of slots)) is (changes change),
+        λ change. subst (λ n. changed_named change name (hosts_of course_of slots)
+            ≡ changed_at change n (hosts_of course_of slots)) is (changes change),
         subst (λ n. course_named name (hosts_of course_of slots) ≡ option_map course_of (peripheral_at slots n)) is
             course,
       )

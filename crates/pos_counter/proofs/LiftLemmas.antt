@@ -70,22 +70,22 @@ kept_same hs {n} {h} k lt is also = is ∙ get_or_default hs n h k lt ∙ sym al
 
 -- the machine with one control in the place of another
 pub set_machine : (hs : List KeptControl) (cl : List (Option ℕ)) (ds : List Device) (tn : Option (List ℕ))
-    (part : TotalsPart) (n : ℕ) (g : KeptControl) {c : Control}
-    → g.control ≡ c → machine_with (set hs n g) cl ds tn part ≡ with_control (machine_with hs cl ds tn part) n c
+    (part : TotalsPart) (n : ℕ) (g : KeptControl) {c : Control} → g.control ≡ c
+    → machine_with (set hs n g) cl ds tn part ≡ with_control (machine_with hs cl ds tn part) n c
 set_machine hs cl ds tn part n g e = search (rules, map-set)
 
 -- the machine whose control is as it was
 pub kept_machine : (hs : List KeptControl) (cl : List (Option ℕ)) (ds : List Device) (tn : Option (List ℕ))
-    (part : TotalsPart) (n : ℕ) {g h : KeptControl}
-    → g ≡ h → h ≡ get_or hs n h → machine_with (set hs n g) cl ds tn part ≡ machine_with hs cl ds tn part
+    (part : TotalsPart) (n : ℕ) {g h : KeptControl} → g ≡ h → h ≡ get_or hs n h
+    → machine_with (set hs n g) cl ds tn part ≡ machine_with hs cl ds tn part
 kept_machine hs cl ds tn part n {h} same is =
     ap (λ (ks : List KeptControl). machine_with ks cl ds tn part) (ap (set hs n) (same ∙ is) ∙ set-get_or hs n h)
 
 -- a call that other rows decide, with the same refusal, is a step
 pub decided_step : (m m' : Machine) (n : ℕ) (c : Control) (asked : Call) (r : Answer) (rows : List Row)
-    (Same Done : Type 0)
-    → slice_get m.controls n ≡ Some c → first_refusal (refusals m n c asked) ≡ first_refusal rows → (Same → m' ≡ m)
-    → (Done → Does m n c asked r m') → Decided rows r Same Done → Step m (CallOf n asked) (Answered r) m'
+    (Same Done : Type 0) → slice_get m.controls n ≡ Some c → first_refusal (refusals m n c asked) ≡ first_refusal rows
+    → (Same → m' ≡ m) → (Done → Does m n c asked r m') → Decided rows r Same Done
+    → Step m (CallOf n asked) (Answered r) m'
 decided_step m m' n c asked r rows Same Done found refused same does d =
     rw found (record { outcome = rw refused (decided_weaker does same d).outcome })
 

@@ -39,8 +39,8 @@ moved_through history is = record {
 
 -- bytes that stand for one of the standings that were moved
 some_moved : (P : Standing → Type 0) (left : List Standing) {bytes : List ℕ}
-    → ((standing : Standing) → IsOneOf left standing → P (moved standing))
-    → StandsForOneOf (map moved left) bytes → StandsForSome P bytes
+    → ((standing : Standing) → IsOneOf left standing → P (moved standing)) → StandsForOneOf (map moved left) bytes
+    → StandsForSome P bytes
 some_moved P [] each is = absurd is
 some_moved P (standing ∷ left) each (inl is) =
     record { standing = moved standing; stands = is; has = each standing (inl refl) }
@@ -48,10 +48,8 @@ some_moved P (standing ∷ left) each (inr is) = some_moved P left (λ other one
 
 -- what a move leaves
 pub through : (history : History) (left : List Standing)
-    → ((standing : Standing) → IsOneOf left standing → IsPrefixOf history standing)
-    → (bytes : List ℕ) → StandsForEither left (map moved left) bytes → StandsForSome (IsPrefixThrough history) bytes
-through history left each bytes either = ⊎_elim
-    (λ was. some_left (IsPrefixThrough history) left
-    (λ standing one. kept_through history (each standing one)) was)
-    (λ is. some_moved (IsPrefixThrough history) left
+    → ((standing : Standing) → IsOneOf left standing → IsPrefixOf history standing) → (bytes : List ℕ)
+    → StandsForEither left (map moved left) bytes → StandsForSome (IsPrefixThrough history) bytes
+through history left each bytes either = ⊎_elim (λ was. some_left (IsPrefixThrough history) left
+    (λ standing one. kept_through history (each standing one)) was) (λ is. some_moved (IsPrefixThrough history) left
     (λ standing one. moved_through history (each standing one)) is) either

@@ -28,25 +28,21 @@ past_none : (machine : Machine) (number : ℕ) → slice_get machine.controls nu
 past_none machine number is reply event after step = let given = rw is at step in given.0
 
 pub kept_none : (hs : List KeptControl) (cl : List (Option ℕ)) (ds : List Device) (tn : Option (List ℕ))
-    (part : TotalsPart) (number : ℕ) {h : KeptControl}
-    → number < length hs → h ≡ get_or hs number h → is_some (deliverable h.control) ≡ false
-    → GivesNone (machine_with hs cl ds tn part) number
+    (part : TotalsPart) (number : ℕ) {h : KeptControl} → number < length hs → h ≡ get_or hs number h
+    → is_some (deliverable h.control) ≡ false → GivesNone (machine_with hs cl ds tn part) number
 kept_none hs cl ds tn part number {h} within is none =
     gives_none (machine_with hs cl ds tn part) number h.control (kept_at hs number h within is) none
 
 pub none_past : (hs : List KeptControl) (cl : List (Option ℕ)) (ds : List Device) (tn : Option (List ℕ))
-    (part : TotalsPart) (number : ℕ)
-    → length hs ≤ number → GivesNone (machine_with hs cl ds tn part) number
-none_past hs cl ds tn part number past =
-    past_none (machine_with hs cl ds tn part) number
+    (part : TotalsPart) (number : ℕ) → length hs ≤ number → GivesNone (machine_with hs cl ds tn part) number
+none_past hs cl ds tn part number past = past_none (machine_with hs cl ds tn part) number
     (slice_get_past (controls_of hs) number (rw (length-map hs (λ (held : KeptControl). held.control)) past))
 
 -- what is so of each number before one, and of that one, is so of each before the next
 pub each_more : (P : ℕ → Type 0) {from : ℕ} (number : ℕ) → ((lower : ℕ) → from ≤ lower → lower < number → P lower)
     → P number → (lower : ℕ) → from ≤ lower → lower < number + 1 → P lower
-each_more P number before here lower above below =
-    ⊎_elim (λ less. before lower above less) (λ reached. subst P (omega (arith, below, reached)) here)
-    (cases_lt lower number)
+each_more P number before here lower above below = ⊎_elim (λ less. before lower above less)
+    (λ reached. subst P (omega (arith, below, reached)) here) (cases_lt lower number)
 
 -- what is so of each number before one, and of each from an earlier one on, is so of all
 pub each_all : (P : ℕ → Type 0) {from number end : ℕ} → ((lower : ℕ) → from ≤ lower → lower < number → P lower)

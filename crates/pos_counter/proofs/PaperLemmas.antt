@@ -24,9 +24,9 @@ stays_in_service (Err want) unparked same = rw same (record { unparked = unparke
 
 -- what becomes of the devices
 pub torn_there : (list : List Registered) {new : List Registered} (place : ℕ) {was : PeripheralState}
-    (now : PeripheralState) (outcome : Result (Unit {0}) NoMemory)
-    → AllByRecursion IsServed list → standing_at list place ≡ Some was → new ≡ with_peripheral list place (Some now)
-    → TearsOff was outcome now → (helds : List KeptControl)
+    (now : PeripheralState) (outcome : Result (Unit {0}) NoMemory) → AllByRecursion IsServed list
+    → standing_at list place ≡ Some was → new ≡ with_peripheral list place (Some now) → TearsOff was outcome now
+    → (helds : List KeptControl)
     → MatchResult outcome (λ done. IsDoneAt (devices_of list) place IsTorn helds helds (devices_of new))
     (λ want. devices_of new ≡ devices_of list)
 torn_there list place {was} now (Ok done) served stands is torn helds =

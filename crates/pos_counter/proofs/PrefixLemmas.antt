@@ -81,8 +81,8 @@ pub record Accepts (group : Group) (old new : TotalsPart) : Type 0 where
   pub was : IsReady old.totals.mode
   pub is : IsReady new.totals.mode
   pub layout : new.totals.layout ≡ old.totals.layout
-  pub made : outcome_of_all (limits_of old.totals.layout) (plain (files_of old.totals.mode)) group ≡ Ok
-      (plain (files_of new.totals.mode))
+  pub made : outcome_of_all (limits_of old.totals.layout) (plain (files_of old.totals.mode)) group
+      ≡ Ok (plain (files_of new.totals.mode))
 
 -- The disk failed in a group.
 pub record Doubts (group : Group) (old new : TotalsPart) : Type 0 where
@@ -111,9 +111,8 @@ pub record Fits (history : History) (totals : TotalsPart) : Type 0 where
   pub before : List PlainFile
   pub made : files_after history history.settled ≡ Ok before
   pub around : AreAround history.layout before history.doubt totals.left
-  pub ready : IsReady totals.totals.mode
-      → (totals.totals.layout ≡ history.layout) × (plain (files_of totals.totals.mode) ≡ before)
-      × (history.doubt ≡ None)
+  pub ready : IsReady totals.totals.mode → (totals.totals.layout ≡ history.layout)
+      × (plain (files_of totals.totals.mode) ≡ before) × (history.doubt ≡ None)
   pub is_settled : IsSettled totals.totals totals.left
 
 pub same_stands : {layout other : Layout} {files others : List PlainFile} {m n : ℕ}
@@ -172,8 +171,8 @@ fits_next event fits h settles =
 
 -- a history fits totals that start with the files after its settled groups
 pub fits_start : {history : History} {start : List PlainFile} {sequence : ℕ} {totals : TotalsPart}
-    → files_after history history.settled ≡ Ok start
-    → StartsWith history.layout start sequence totals → Fits history totals
+    → files_after history history.settled ≡ Ok start → StartsWith history.layout start sequence totals
+    → Fits history totals
 fits_start made is = search rules
 
 -- ---- a crash
@@ -271,8 +270,8 @@ module _ (history : History) (held : List Group) (files : List PlainFile) (seque
 
 -- whatever a machine runs through, the settled groups stay
 pub held_along : (history : History) (held : List Group) (old : Machine) (steps : List (Request × Response))
-    (new : Machine) (run : Run old steps new)
-    → BeginsWith history.settled held → BeginsWith (history_along history old steps new run).settled held
+    (new : Machine) (run : Run old steps new) → BeginsWith history.settled held
+    → BeginsWith (history_along history old steps new run).settled held
 held_along history held old [] new run begins = begins
 held_along history held old (s ∷ steps) new run begins =
     let next = history_with history old s.0 s.1 run.0 in

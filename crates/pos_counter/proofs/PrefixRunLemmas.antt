@@ -15,8 +15,7 @@ use Rattle.pos_disk.proofs.MomentLemmas.{rest_leaves}
 
 -- where a history fits, it goes on fitting along a run
 pub run_fits : (history : History) (old : Machine) (steps : List (Request × Response)) (new : Machine)
-    (run : Run old steps new)
-    → Fits history old.totals → Fits (history_along history old steps new run) new.totals
+    (run : Run old steps new) → Fits history old.totals → Fits (history_along history old steps new run) new.totals
 run_fits history old [] new run fits = subst (λ (m : Machine). Fits history m.totals) (sym run) fits
 run_fits history old (s ∷ steps) new run fits =
     run_fits (history_with history old s.0 s.1 run.0) run.0 steps new run.2 (step_fits old s.0 s.1 run.0 fits run.1)
@@ -32,18 +31,15 @@ some_left P (standing ∷ left) each (inr is) = some_left P left (λ other one. 
 -- what bytes that are left stand for is a prefix
 pub bytes_after : {history : History} {totals : TotalsPart} {bytes : List ℕ} → Fits history totals
     → StandsForOneOf totals.left bytes → StandsForSome (IsPrefixOf history) bytes
-bytes_after {history} {totals} fits is =
-    some_left (IsPrefixOf history) totals.left (fits_leaves fits) is
+bytes_after {history} {totals} fits is = some_left (IsPrefixOf history) totals.left (fits_leaves fits) is
 
 -- each moment of a run lies in one step
 pub bytes_along : (history : History) (old : Machine) (steps : List (Request × Response)) (new : Machine)
-    (run : Run old steps new)
-    → Fits history old.totals → {bytes : List ℕ} → IsLeftDuring old steps new run bytes
+    (run : Run old steps new) → Fits history old.totals → {bytes : List ℕ} → IsLeftDuring old steps new run bytes
     → StandsForSome (IsPrefixAlong history old steps new run) bytes
 bytes_along history old [] new run fits is = bytes_after fits is
-bytes_along history old (s ∷ steps) new run fits (inl is) =
-    some_left (IsPrefixAlong history old (s ∷ steps) new run) old.totals.left
-    (λ standing one. inl (inl (fits_leaves fits standing one))) is
+bytes_along history old (s ∷ steps) new run fits (inl is) = some_left (IsPrefixAlong history old (s ∷ steps) new run)
+    old.totals.left (λ standing one. inl (inl (fits_leaves fits standing one))) is
 bytes_along history old (s ∷ steps) new run fits (inr is) =
     let next = history_with history old s.0 s.1 run.0 in
     let later = bytes_along next run.0 steps new run.2 (step_fits old s.0 s.1 run.0 fits run.1) is in
@@ -64,9 +60,8 @@ bytes_inside {history} old q r new fits step h =
 
 -- ---- the law
 
-module _ (layout : Layout) (start : List PlainFile) (sequence : ℕ) (first last : Machine)
-    (steps : List (Request × Response)) (run : Run first steps last)
-    (is : StartsWith layout start sequence first.totals) where
+module _ (layout : Layout) (start : List PlainFile) (sequence : ℕ) (first last : Machine) (steps : List
+    (Request × Response)) (run : Run first steps last) (is : StartsWith layout start sequence first.totals) where
   pub fits_last : Fits (history_of layout start first steps last run) last.totals
   fits_last = run_fits (begun layout start) first steps last run (fits_start refl is)
 
@@ -82,13 +77,12 @@ module _ (layout : Layout) (start : List PlainFile) (sequence : ℕ) (first last
 
 -- the history of one run after another
 pub history_append : (history : History) (a b c : Machine) (steps more : List (Request × Response))
-    (run : Run a steps b) (rest : Run b more c)
-    → history_along history a (steps ++ more) c (run_append a b c steps more run rest) ≡ history_along
-    (history_along history a steps b run) b more c rest
+    (run : Run a steps b) (rest : Run b more c) → history_along history a (steps ++ more) c
+    (run_append a b c steps more run rest) ≡ history_along (history_along history a steps b run) b more c rest
 unfolding run_append
-history_append history a b c [] more run rest =
-    path_j (λ m e. history_along history m more c (subst (λ n. Run n more c) e rest) ≡ history_along history b more c
-    rest) (ap (λ r. history_along history b more c r) (subst_refl (λ m. Run m more c) rest)) run
+history_append history a b c [] more run rest = path_j
+    (λ m e. history_along history m more c (subst (λ n. Run n more c) e rest) ≡ history_along history b more c rest)
+    (ap (λ r. history_along history b more c r) (subst_refl (λ m. Run m more c) rest)) run
 history_append history a b c (s ∷ steps) more run rest =
     history_append (history_with history a s.0 s.1 run.0) run.0 b c steps more run.2 rest
 
@@ -114,8 +108,8 @@ module _ {D P : Type 0} (bound : DiskGhosts D) (peripherals : Ghosts P) (layout 
 
   -- one more request
   pub keeps_prefix : (steps : List (Request × Response)) (old new : Counter D P)
-      (past : HasRun bound peripherals layout start sequence steps old)
-      (q : Request) (r : Response) → IsStep bound peripherals old q r new
+      (past : HasRun bound peripherals layout start sequence steps old) (q : Request) (r : Response)
+      → IsStep bound peripherals old q r new
       → KeepsPrefix bound peripherals layout start sequence steps old past q r new
   keeps_prefix steps old new past q r next =
       let s = next.steps past.left past.leaves in
@@ -136,8 +130,7 @@ module _ {D P : Type 0} (bound : DiskGhosts D) (peripherals : Ghosts P) (layout 
         history = same;
         any_moment = λ bytes left. subst (λ (h : History). StandsForSome (IsPrefixInside (history_until past) h) bytes)
             (sym same) (bytes_inside B q r C fits s.step (s.any_moment.each bytes left));
-        now = λ bytes may. subst (λ (h : History). StandsForSome (IsPrefixOf h) bytes) (sym same)
-            (bytes_after
+        now = λ bytes may. subst (λ (h : History). StandsForSome (IsPrefixOf h) bytes) (sym same) (bytes_after
             (run_fits (history_until past) B ((q, r) ∷ []) C (C, s.step, refl) fits) (s.leaves.leaves bytes may));
       }
 

@@ -24,12 +24,12 @@ use Rattle.pos_counter.proofs.SoundnessLemmas.{seated, set_seat, totals_category
 pub plain_set : (hs : List KeptControl) (cl : List (Option ℕ)) (ds : List Device) (tn : Option (List ℕ))
     (part : TotalsPart) (n : ℕ) (g h : KeptControl) (p : Property) (v : Value) (r : Result Answer NoMemory)
     → n < length hs → h ≡ get_or hs n h → recovers part h.control p v ≡ false
-    → SetsTo (set_rows n (holder_in cl part.totals.area h.control.device) (kind_in
-    (device_at ds (open_place h.control.device))) h.control p v) (tells_power h.control p v) r h g
+    → SetsTo (set_rows n (holder_in cl part.totals.area h.control.device)
+    (kind_in (device_at ds (open_place h.control.device))) h.control p v) (tells_power h.control p v) r h g
     (after_set (signs_in (hardware_in (device_at ds (open_place h.control.device)))) h.control p v)
     → Step (machine_with hs cl ds tn part) (CallOf n (Set p v)) (answered r) (machine_with (set hs n g) cl ds tn part)
-plain_set hs cl ds tn part n g h p v (Ok r) lt is plain turns = rw (kept_at hs n h lt is) (decided_weaker
-    (λ done. rw plain (done.0, set_machine hs cl ds tn part n g done.1))
+plain_set hs cl ds tn part n g h p v (Ok r) lt is plain turns = rw (kept_at hs n h lt is)
+    (decided_weaker (λ done. rw plain (done.0, set_machine hs cl ds tn part n g done.1))
     (λ same. kept_machine hs cl ds tn part n same is) turns)
 plain_set hs cl ds tn part n g h p v (Err want) lt is plain wants = rw (kept_at hs n h lt is) (
   or_right _ _ wants.0,
@@ -63,8 +63,8 @@ module _ (c : Control) (totals : c.category ≡ HardTotals) where
 
   -- so it is enabled, without memory
   pub done_set : (n : ℕ) (holder : Option ℕ) (kind : Option Kind) (s : Signs) (h g : KeptControl) {p : Property}
-      {v : Value} {r : Result Answer NoMemory}
-      → is_none c.device ≡ false → h.control ≡ c → p ≡ DeviceEnabled → v ≡ Truth true
+      {v : Value} {r : Result Answer NoMemory} → is_none c.device ≡ false → h.control ≡ c → p ≡ DeviceEnabled
+      → v ≡ Truth true
       → SetsTo (set_rows n holder kind h.control p v) (tells_power h.control p v) r h g (after_set s h.control p v)
       → (r ≡ Ok (Done Empty)) × (g.control ≡ after_set s c DeviceEnabled (Truth true))
   done_set n holder kind s h g opened same names gives wants = grind (arith, unrefused, and_right)
@@ -72,8 +72,8 @@ module _ (c : Control) (totals : c.category ≡ HardTotals) where
 -- ---- a recovery
 
 module _ {D : Type 0} (bound : DiskGhosts D) (old new : TotalsView D) (off : old.totals.mode ≡ Off)
-    (r : Result (Unit {0}) RecoveryFault)
-    (recovers : DiskRecovers bound old r new) (left : List Standing) (leaves : Leaves bound old left) where
+    (r : Result (Unit {0}) RecoveryFault) (recovers : DiskRecovers bound old r new) (left : List Standing)
+    (leaves : Leaves bound old left) where
   -- for all that the disk may leave, one of it is found
   found_one : RecoversOneOf left (bound.state old.disk) (bound.state new.disk) old.totals r new.totals
   found_one =
@@ -132,10 +132,9 @@ module _ {D P : Type 0} (bound : DiskGhosts D) (peripherals : Ghosts P) (old new
   -- it is a step for all that the disk may leave, and changes the totals alone, and its control
   serves : (r : Result (Unit {0}) RecoveryFault) (response : Response) → DiskRecovers bound old.totals r new.totals
       → ((left : List Standing) → Leaves bound old.totals left → Step (before left) (CallOf n enabling) response
-      (now (settled new.totals.totals.layout new.totals.totals.mode left)))
-      → ((part other : TotalsPart) → (machine peripherals new other ≡ record (machine peripherals old part)
-      { totals = other }) ⊎ (machine peripherals new other ≡ record (with_control (machine peripherals old part) n
-      enabled) { totals = other }))
+      (now (settled new.totals.totals.layout new.totals.totals.mode left))) → ((part other : TotalsPart)
+      → (machine peripherals new other ≡ record (machine peripherals old part) { totals = other }) ⊎ (machine
+      peripherals new other ≡ record (with_control (machine peripherals old part) n enabled) { totals = other }))
       → IsCounterSound peripherals new → Serves bound peripherals old (CallOf n (Set p v)) response new
   serves r response recovers step alone sound = rw (there.names, there.gives) (record {
     step = record {
@@ -194,17 +193,15 @@ module _ {D P : Type 0} (bound : DiskGhosts D) (peripherals : Ghosts P) (old new
         (leaves.is_settled ∙ ap (λ (t : Totals). settled t.layout t.mode left) (sym kept)) (step left leaves))
         (λ part other. inl (same other)) (same_sound same sound devices)
 
-    same_part : (left : List Standing) → Leaves bound old.totals left
-        → (IsErrOf {T = Unit {0}} (Err x) fault.Device → ⊥)
-        → part_of bound new.totals left ≡ part_of bound old.totals left
+    same_part : (left : List Standing) → Leaves bound old.totals left → (IsErrOf {T = Unit {0}} (Err x) fault.Device
+        → ⊥) → part_of bound new.totals left ≡ part_of bound old.totals left
     same_part left leaves other = search (rules, kept, never_failed)
 
     -- why it has failed
     why : (left : List Standing) (k : Code) → Leaves bound old.totals left → Some k ≡ code_of x
         → Recovers (part_of bound old.totals left) (Refused k 0) (part_of bound new.totals left)
-    why left k leaves is =
-        by x recovers is (found_one bound old.totals new.totals there.off (Err x) recovers left leaves).found
-        (same_part left leaves)
+    why left k leaves is = by x recovers is
+        (found_one bound old.totals new.totals there.off (Err x) recovers left leaves).found (same_part left leaves)
       where
         by : (x : RecoveryFault) → DiskRecovers bound old.totals (Err x) new.totals → Some k ≡ code_of x
             → FindsFiles (IsOneOf left) old.totals.totals (Err x) new.totals.totals

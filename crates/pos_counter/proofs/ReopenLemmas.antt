@@ -47,8 +47,7 @@ few_applied limits base files (text ∷ texts) few is =
 
 few_groups : (limits : Limits) (files : List PlainFile) {next : List PlainFile} (groups : List Group)
     → length files ≤ limits.files → after_groups limits files groups ≡ Ok next → length next ≤ limits.files
-few_groups limits files [] few made =
-    subst (λ (fs : List PlainFile). length fs ≤ limits.files) (same_Ok made) few
+few_groups limits files [] few made = subst (λ (fs : List PlainFile). length fs ≤ limits.files) (same_Ok made) few
 few_groups limits files {next} (group ∷ groups) few made =
     let there = made_then (outcome_of_all limits files group) (λ mid. after_groups limits mid groups) next made in
     few_groups limits there.0 groups (few_after_all limits files there.0 group few there.1) there.2
@@ -58,8 +57,7 @@ abbrev HasStart : Layout → List PlainFile → History → Type 0
 HasStart layout files history = (history.layout ≡ layout) × (history.start ≡ files)
 
 along_start : (history : History) (old : Machine) (steps : List (Request × Response)) (new : Machine)
-    (run : Run old steps new)
-    → HasStart history.layout history.start (history_along history old steps new run)
+    (run : Run old steps new) → HasStart history.layout history.start (history_along history old steps new run)
 along_start history old [] new run = (refl, refl)
 along_start history old (s ∷ steps) new run =
     let first = told_grows history (event_of old s.0 s.1 run.0) in
@@ -71,10 +69,9 @@ few_for_all : (layout : Layout) → (limits_of layout).files ≤ 250
 few_for_all layout = grind arith
 
 -- E_FAILURE of a recovery in a counter that has given no handle
-module _ (layout : Layout) (start : List PlainFile) (sequence : ℕ) (first last : Machine)
-    (steps : List (Request × Response)) (run : Run first steps last)
-    (is : StartsWith layout start sequence first.totals) (few : length start ≤ (limits_of layout).files)
-    (next : last.totals.totals.next ≡ 1) where
+module _ (layout : Layout) (start : List PlainFile) (sequence : ℕ) (first last : Machine) (steps : List
+    (Request × Response)) (run : Run first steps last) (is : StartsWith layout start sequence first.totals)
+    (few : length start ≤ (limits_of layout).files) (next : last.totals.totals.next ≡ 1) where
   few_left : (other : Layout) (files : List PlainFile) (q : ℕ) → IsOneOf last.totals.left (Stands other files q)
       → length files ≤ (limits_of layout).files
   few_left other files q one =

@@ -11,10 +11,8 @@ use Rattle.pos_counter.proofs.ServiceLemmas.{OnlyNow, beside_is_step}
 
 -- one more request and its response are one more step
 pub steps_push : {P : Type 0} (peripherals : Ghosts P) (qs : List (Request (Unit {0}) ℕ P)) (rs : List (Response P))
-    (q : Request (Unit {0}) ℕ P)
-    (r : Response P) → length rs ≡ length qs
-    → steps_of peripherals (qs ++ q ∷ []) (rs ++ r ∷ []) ≡ steps_of peripherals qs rs
-    ++ (request_of peripherals q, response_of peripherals r) ∷ []
+    (q : Request (Unit {0}) ℕ P) (r : Response P) → length rs ≡ length qs → steps_of peripherals (qs ++ q ∷ [])
+    (rs ++ r ∷ []) ≡ steps_of peripherals qs rs ++ (request_of peripherals q, response_of peripherals r) ∷ []
 steps_push peripherals [] [] q r same = refl
 steps_push peripherals (p ∷ qs) (s ∷ rs) q r same = search (rules, (steps_push peripherals qs rs q r (omega arith)))
 steps_push peripherals qs rs q r same = cc
@@ -27,23 +25,21 @@ run_append a b c (s ∷ steps) more run rest = (run.0, run.1, run_append run.0 b
 
 -- what is left before a run is left during it
 pub left_first : (a c : Machine) (more : List (machine.Request × machine.Response)) (run : Run a more c)
-    (bytes : List ℕ)
-    → StandsForOneOf a.totals.left bytes → IsLeftDuring a more c run bytes
+    (bytes : List ℕ) → StandsForOneOf a.totals.left bytes → IsLeftDuring a more c run bytes
 left_first a c [] run bytes h = h
 left_first a c (s ∷ more) run bytes h = inl h
 
 -- and so is what is left before or after its first step
-left_beside : (a b c : Machine) (s : machine.Request × machine.Response) (more : List
-    (machine.Request × machine.Response)) (step : Step a s.0 s.1 b) (run : Run b more c) (bytes : List ℕ)
+left_beside : (a b c : Machine) (s : machine.Request × machine.Response)
+    (more : List (machine.Request × machine.Response)) (step : Step a s.0 s.1 b) (run : Run b more c) (bytes : List ℕ)
     → StandsForEither a.totals.left b.totals.left bytes → IsLeftDuring a (s ∷ more) c (b, step, run) bytes
 left_beside a b c s more step run bytes h = grind (arith, left_first)
 
 module _ {D P : Type 0} (bound : DiskGhosts D) (peripherals : Ghosts P) where
   -- a run with one step more
   pub runs_more : (a : Counter D P) {b c : Counter D P} (steps : List (machine.Request × machine.Response))
-      {q : machine.Request} {r : machine.Response}
-      → IsRun bound peripherals a steps b → IsStep bound peripherals b q r c
-      → IsRun bound peripherals a (steps ++ (q, r) ∷ []) c
+      {q : machine.Request} {r : machine.Response} → IsRun bound peripherals a steps b
+      → IsStep bound peripherals b q r c → IsRun bound peripherals a (steps ++ (q, r) ∷ []) c
   runs_more a {c} [] {q} {r} run next = (c, subst (λ m. IsStep bound peripherals m q r c) run next, refl)
   runs_more a (s ∷ steps) run next = (run.0, run.1, runs_more run.0 steps run.2 next)
 
@@ -54,8 +50,8 @@ module _ {D P : Type 0} (bound : DiskGhosts D) (peripherals : Ghosts P) where
 
   -- one run after another is a run
   pub runs_join : (a b c : Counter D P) (steps more : List (machine.Request × machine.Response))
-      → IsRun bound peripherals a steps b
-      → IsRun bound peripherals b more c → IsRun bound peripherals a (steps ++ more) c
+      → IsRun bound peripherals a steps b → IsRun bound peripherals b more c
+      → IsRun bound peripherals a (steps ++ more) c
   runs_join a b c [] more first second = subst (λ m. IsRun bound peripherals m more c) first second
   runs_join a b c (s ∷ steps) more first second = (first.0, first.1, runs_join first.0 b c steps more first.2 second)
 
@@ -101,12 +97,11 @@ module _ {D P : Type 0} (bound : DiskGhosts D) (peripherals : Ghosts P) where
         run = (B, first.step, rest.run);
         any_moment = followed_by (bound.state a.totals.disk) (bound.state b.totals.disk) (bound.state c.totals.disk) P
             (weaker (bound.state a.totals.disk) (bound.state b.totals.disk) (StandsForEither left first.after) P
-            (left_beside A B C s steps first.step rest.run) first.any_moment)
-            (weaker (bound.state b.totals.disk) (bound.state c.totals.disk) (IsLeftDuring B steps C rest.run) P
-            (λ bytes h. inr h) rest.any_moment);
+            (left_beside A B C s steps first.step rest.run) first.any_moment) (weaker (bound.state b.totals.disk)
+            (bound.state c.totals.disk) (IsLeftDuring B steps C rest.run) P (λ bytes h. inr h) rest.any_moment);
       }
 
   -- so is one in which the totals have no part
-  pub one_beside : (a b : Counter D P) (q : machine.Request) (r : machine.Response)
-      → OnlyNow bound a.totals.disk → IsStepBeside peripherals a q r b → IsRun bound peripherals a ((q, r) ∷ []) b
+  pub one_beside : (a b : Counter D P) (q : machine.Request) (r : machine.Response) → OnlyNow bound a.totals.disk
+      → IsStepBeside peripherals a q r b → IsRun bound peripherals a ((q, r) ∷ []) b
   one_beside a b q r only beside = one_step a b q r (beside_is_step bound peripherals a b q r only beside)

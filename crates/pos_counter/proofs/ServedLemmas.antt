@@ -55,8 +55,7 @@ module _ {P : Type 0} (peripherals : Ghosts P) where
       → registered_from at name (names_of (registered_of peripherals slots)) ≡ Some place
       → (k : ℕ) × (place ≡ at + k) × (served_named name slots ≡ peripheral_at slots k)
   served_from [] at name found = grind (arith, found)
-  served_from (slot ∷ slots) at {place} name found =
-      served_or (bytes_eq name slot.name) slots at place name refl
+  served_from (slot ∷ slots) at {place} name found = served_or (bytes_eq name slot.name) slots at place name refl
       (λ later. served_from slots (at + 1) name later) found
 
   -- what serves the device that the registry finds
@@ -68,8 +67,7 @@ module _ {P : Type 0} (peripherals : Ghosts P) where
       let is : k ≡ place = omega (arith, same) in subst (λ n. served_named name slots ≡ peripheral_at slots n) is serves
 
   unserved_or : (b : Bool) (slot : Slot P) (slots : List (Slot P)) (at : ℕ) (name : List ℕ)
-      → bytes_eq name slot.name ≡ b
-      → (registered_from (at + 1) name (names_of (registered_of peripherals slots)) ≡ None
+      → bytes_eq name slot.name ≡ b → (registered_from (at + 1) name (names_of (registered_of peripherals slots)) ≡ None
       → served_named name slots ≡ None)
       → registered_from at name (names_of (registered_of peripherals (slot ∷ slots))) ≡ None
       → served_named name (slot ∷ slots) ≡ None
@@ -80,6 +78,5 @@ module _ {P : Type 0} (peripherals : Ghosts P) where
   pub unserved_from : (slots : List (Slot P)) (at : ℕ) (name : List ℕ)
       → registered_from at name (names_of (registered_of peripherals slots)) ≡ None → served_named name slots ≡ None
   unserved_from [] at name found = refl
-  unserved_from (slot ∷ slots) at name found =
-      unserved_or (bytes_eq name slot.name) slot slots at name refl
+  unserved_from (slot ∷ slots) at name found = unserved_or (bytes_eq name slot.name) slot slots at name refl
       (λ later. unserved_from slots (at + 1) name later) found

@@ -20,8 +20,8 @@ module _ {D P : Type 0} {peripherals : Ghosts P} {old new : Counter D P} where
 
   -- a counter is sound behind a step of its machine, whatever its totals
   pub still_sound : (q : Request) (r : Response) (one other : TotalsPart) → IsCounterSound peripherals old
-      → AreDevicesSound peripherals new.devices
-      → Step (machine peripherals old one) q r (machine peripherals new other) → IsCounterSound peripherals new
+      → AreDevicesSound peripherals new.devices → Step (machine peripherals old one) q r (machine peripherals new other)
+      → IsCounterSound peripherals new
   still_sound q r one other sound devices step = record {
     machine = λ part.
         let there = step_sound q r step (sound.machine one) in
@@ -38,21 +38,18 @@ module _ {D P : Type 0} {peripherals : Ghosts P} {old new : Counter D P} where
       let part = part_with old.totals.totals [] 0 in
       record {
         step = record { step = step; totals = totals };
-        sound =
-            still_sound q r part part sound devices (step part);
+        sound = still_sound q r part part sound devices (step part);
       }
 
 module _ {D P : Type 0} (bound : DiskGhosts D) (peripherals : Ghosts P) (old new : Counter D P) (q : Request)
     (r : Response) where
   module _ (totals : Totals) (only : OnlyNow bound old.totals.disk) (disk : new.totals.disk ≡ old.totals.disk)
-      (is : new.totals.totals ≡ totals)
-      (same : (left : List Standing)
+      (is : new.totals.totals ≡ totals) (same : (left : List Standing)
       → settled totals.layout totals.mode left ≡ settled old.totals.totals.layout old.totals.totals.mode left) where
     -- the step is one for whatever the machine has of the disk
     abbrev pub StepsAnyhow : Type 0
-    StepsAnyhow = (left : List Standing) (failures : ℕ) → IsSettled old.totals.totals left
-        → Step (machine peripherals old (part_with old.totals.totals left failures)) q r
-        (machine peripherals new (part_with totals left failures))
+    StepsAnyhow = (left : List Standing) (failures : ℕ) → IsSettled old.totals.totals left → Step (machine peripherals
+        old (part_with old.totals.totals left failures)) q r (machine peripherals new (part_with totals left failures))
 
     -- a step in which the disk has no part, over totals that know the same files, is one for all that the disk may
     -- leave

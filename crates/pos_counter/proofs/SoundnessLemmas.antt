@@ -34,9 +34,9 @@ moved_at category was now (Some device) moves h = (h.0, h.1, moves h.2)
 
 -- the cursor has moved to another place of the device that is open
 moved_seat : (ds : List Device) (category : Category) (was now : Place) (device : Option OpenDevice)
-    → (IsPlaceOn (kind_in (device_at ds (open_place device))) was → IsPlaceOn
-    (kind_in (device_at ds (open_place device))) now)
-    → IsOpenFor ds category was device → IsOpenFor ds category now device
+    → (IsPlaceOn (kind_in (device_at ds (open_place device))) was
+    → IsPlaceOn (kind_in (device_at ds (open_place device))) now) → IsOpenFor ds category was device
+    → IsOpenFor ds category now device
 moved_seat ds category was now None moves h = h
 moved_seat ds category was now (Some (At place)) moves h = moved_at category was now (slice_get ds place) moves h
 moved_seat ds category was now (Some TheTotals) moves h = h
@@ -75,20 +75,16 @@ found_seat ds category (Some i) kinds = there (slice_get ds i) refl
 
     there : (o : Option Device) → slice_get ds i ≡ o → seat (found_at category (Some i) o)
     there None e = tt
-    there (Some d) e =
-        cond_both (serves category d.kind) _ _ seat
-        (λ serves. cond_both (is_some d.hardware) _ _ seat
+    there (Some d) e = cond_both (serves category d.kind) _ _ seat (λ serves. cond_both (is_some d.hardware) _ _ seat
         (λ attached. rw e (serves, attached, place_opened (Some d.kind) (all_at HasItsKind ds i d e kinds).0))
-        (λ vacant. tt))
-        (λ other. tt)
+        (λ vacant. tt)) (λ other. tt)
 
 -- so is what a control of Hard Totals finds
 found_totals : (ds : List Device) (totals : Option (List ℕ)) (name : List ℕ)
     → IsOpenFor ds HardTotals origin (device_found (totals_under totals name))
 found_totals ds None name = tt
-found_totals ds (Some totals) name =
-    cond_both (bytes_eq name totals) _ _ (λ found. IsOpenFor ds HardTotals origin (device_found found))
-    (λ yes. refl) (λ no. tt)
+found_totals ds (Some totals) name = cond_both (bytes_eq name totals) _ _
+    (λ found. IsOpenFor ds HardTotals origin (device_found found)) (λ yes. refl) (λ no. tt)
 
 -- what a control finds to open serves it
 pub found_open : (m : Machine) (category : Category) (name : List ℕ) → All HasItsKind m.devices
@@ -102,8 +98,7 @@ KeepsSeats ds change = (c : Control) → HasItsDevice ds c → HasItsDevice ds (
 
 all_listening_keep : (ds : List Device) (place : ℕ) (change : Control → Control) (cs : List Control)
     → KeepsSeats ds change → All (HasItsDevice ds) cs → All (HasItsDevice ds) (all_listening place change cs)
-all_listening_keep ds place change cs keeps all =
-    All-map (HasItsDevice ds) (if_listening place change) cs (λ k e lt.
+all_listening_keep ds place change cs keeps all = All-map (HasItsDevice ds) (if_listening place change) cs (λ k e lt.
     let c = get_or cs k e in
     cond_both (listens place c) (change c) c (HasItsDevice ds) (λ on. keeps c (all k e lt)) (λ off. all k e lt))
 
@@ -156,8 +151,8 @@ pub record Keeps (ds : List Device) (before : Hardware) (old : List Control) (af
 
 pub on_hardware_sound : (m : Machine) {m' : Machine} {at : Option ℕ} (Does : ℕ → Effect)
     → ((place : ℕ) (before : Hardware) (new : List Control) (after : Hardware) → StandsAt m.devices at before
-    → Does place m.controls before new after
-    → Keeps m.devices before m.controls after new) → OnHardware m at Does m' → IsSound m → IsSound m'
+    → Does place m.controls before new after → Keeps m.devices before m.controls after new) → OnHardware m at Does m'
+    → IsSound m → IsSound m'
 on_hardware_sound m {at} Does keeps o s =
     let here : HasItsKind o.device = all_at HasItsKind m.devices o.place o.device o.is_device s.kinds in
     let kind : o.device.kind ≡ o.before.kind = rw o.is_attached at here.1 in
@@ -226,8 +221,8 @@ changes_keep ds what number {c} old new at stays h all =
 
 -- what a call comes to keeps each control's device
 deed_keeps : (ds : List Device) (d : Action) (r : Answer) (number place : ℕ) (c : Control) (old : List Control)
-    (before : Hardware) (new : List Control) (after : Hardware)
-    → slice_get old number ≡ Some c → DeedStaysOn (kind_in (device_at ds (open_place c.device))) c.cursor.place d
+    (before : Hardware) (new : List Control) (after : Hardware) → slice_get old number ≡ Some c
+    → DeedStaysOn (kind_in (device_at ds (open_place c.device))) c.cursor.place d
     → CarriesOut d number place r old before new after → Keeps ds before old after new
 deed_keeps ds (Gives given what) r number place c old before new after at stays h =
     let told = ordered_keeps ds given place h.said old before h.heard after h.ordered in
@@ -279,15 +274,15 @@ works_keep ds holder place outcome old before new after h =
       | inr x ↦ let (work, due, works) = x in by work outcome works
     ]
   where
-    by : (work : DueRequest) (outcome : Result WorkResult NoMemory)
-        → MatchResult outcome (λ r. WorksOn work place r old before new after)
-        (λ want. SameHardware old before new after) → Keeps ds before old after new
+    by : (work : DueRequest) (outcome : Result WorkResult NoMemory) → MatchResult outcome
+        (λ r. WorksOn work place r old before new after) (λ want. SameHardware old before new after)
+        → Keeps ds before old after new
     by work (Ok r) h = worked_keeps ds work place r old before new after h
     by work (Err want) h = same_keeps ds old before new after h
 
 pub device_keeps : (k : Category) (m : Machine) (asked : Call) (r : Answer) (n place : ℕ) (c : Control)
-    (before : Hardware) (new : List Control) (after : Hardware)
-    → slice_get m.controls n ≡ Some c → serves k before.kind ≡ true → NoneApplies (device_rows k (kind_of m c) c asked)
+    (before : Hardware) (new : List Control) (after : Hardware) → slice_get m.controls n ≡ Some c
+    → serves k before.kind ≡ true → NoneApplies (device_rows k (kind_of m c) c asked)
     → StandsAt m.devices (open_place c.device) before
     → DeviceDoes k (kind_of m c) n c asked r place m.controls before new after
     → Keeps m.devices before m.controls after new
@@ -300,9 +295,8 @@ device_keeps k m asked r n place c before new after at served allowed stands h =
 
 -- an open control's category serves its device
 pub served_by : (ds : List Device) (category : Category) (cursor : Place) (device : Option OpenDevice)
-    (before : Hardware)
-    → kind_in (device_at ds (open_place device)) ≡ Some before.kind → IsOpenFor ds category cursor device
-    → serves category before.kind ≡ true
+    (before : Hardware) → kind_in (device_at ds (open_place device)) ≡ Some before.kind
+    → IsOpenFor ds category cursor device → serves category before.kind ≡ true
 served_by ds category cursor None before kind h = absurd cc
 served_by ds category cursor (Some TheTotals) before kind h = absurd cc
 served_by ds category cursor (Some (At place)) before kind h =
@@ -311,8 +305,8 @@ served_by ds category cursor (Some (At place)) before kind h =
 
 -- a control with a property set to what it takes has its device
 pub set_seat : (ds : List Device) (s : Signs) (c : Control) (p : Property) (v : Value)
-    → takes (kind_in (device_at ds (open_place c.device))) p v ≡ true
-    → HasItsDevice ds c → HasItsDevice ds (after_set s c p v)
+    → takes (kind_in (device_at ds (open_place c.device))) p v ≡ true → HasItsDevice ds c
+    → HasItsDevice ds (after_set s c p v)
 set_seat ds s c p v may h = search (rules, moved_seat, place_set)
 
 -- a control that has released its device still has it open
@@ -336,6 +330,5 @@ opens_at (Some TheTotals) opens = absurd cc
 pub detached_sound : (m : Machine) {m' : Machine} {name : List ℕ} {hardware : Hardware} → IsDetached m name hardware m'
     → IsSound m → IsSound m'
 detached_sound m o s =
-    rw o.machine (hardware_sound m None o.is_device tt
-    (λ k e lt opens. absurd (false≢true (sym o.is_closed ∙ list_any_at (has_open o.place) m.controls k e lt
-    (opens_at (get_or m.controls k e).device opens)))) s.places s)
+    rw o.machine (hardware_sound m None o.is_device tt (λ k e lt opens. absurd (false≢true (sym o.is_closed
+    ∙ list_any_at (has_open o.place) m.controls k e lt (opens_at (get_or m.controls k e).device opens)))) s.places s)

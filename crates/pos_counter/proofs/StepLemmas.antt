@@ -37,8 +37,8 @@ Told changes old response new =
     Happens old (event_between changes old.totals.mode response new.totals.mode) new × IsSettled new.totals new.left
 
 rests : {changes : List TotalsChange} {old new : TotalsPart} (response : Response)
-    → ((changes ≡ [] → ⊥) → IsUndone response)
-    → IsSettled old.totals old.left → Rest old new → Told changes old response new
+    → ((changes ≡ [] → ⊥) → IsUndone response) → IsSettled old.totals old.left → Rest old new
+    → Told changes old response new
 rests response undone is h = grind (arith, rest_settled)
 
 -- files with one of the sequences
@@ -58,8 +58,8 @@ module _ (old new : TotalsPart) (is : IsSettled old.totals old.left) where
 
     -- what the group makes of the files
     made_at : (files : List File) (sequence : ℕ) → old.totals.mode ≡ Ready files sequence
-        → outcome_of_all (limits_of old.totals.layout) (plain files) (group_of files all) ≡ Ok
-        (plain (files_after_all old.totals.next files all))
+        → outcome_of_all (limits_of old.totals.layout) (plain files)
+        (group_of files all) ≡ Ok (plain (files_after_all old.totals.next files all))
     made_at files sequence ready = search rules
 
     done_told : (given : Value) → DoesTogether (record old.totals { transactions = transactions }) all new.totals
@@ -75,9 +75,8 @@ module _ (old new : TotalsPart) (is : IsSettled old.totals old.left) where
             let made = made_at files sequence ready in
             (rw (ready, still) (record { was = tt; is = tt; layout = layout; made = made }), search (rules, settles))
 
-    failed_told : (result : Answer) → result ≡ Refused Failure 0
-        → new.totals ≡ after_disk_fault (record old.totals { transactions = transactions })
-        → Told all old (Answered result) new
+    failed_told : (result : Answer) → result ≡ Refused Failure 0 → new.totals
+        ≡ after_disk_fault (record old.totals { transactions = transactions }) → Told all old (Answered result) new
     failed_told result failed same = by old.totals.mode refl
       where
         off : new.totals.mode ≡ Off
@@ -114,8 +113,7 @@ module _ (old new : TotalsPart) (is : IsSettled old.totals old.left) where
   comes_told P group left (Stays transactions undone same) = search (rules, rests, kept_left)
   comes_told P group left (Groups change others transactions given (inl done)) =
       rw done.0 (done_told change others transactions group left given done.1)
-  comes_told P group left (Groups change others transactions given (inr failed)) =
-      search (rules, failed_told)
+  comes_told P group left (Groups change others transactions given (inr failed)) = search (rules, failed_told)
 
 files_told : (asked : FileCall) (old new : TotalsPart) (n : ℕ) (result : Answer) → IsSettled old.totals old.left
     → TotalsDo asked old n result new → Told (changes_asked old.totals n asked) old (Answered result) new
@@ -182,22 +180,19 @@ claims_beside m same = search (rules, same_rest)
 
 hardware_beside : {old new : Machine} {at : Option ℕ} (Does : ℕ → Effect) → OnHardware old at Does new
     → ((place : ℕ) (before : Hardware) (cs : List Control) (after : Hardware) → StandsAt old.devices at before
-    → Does place old.controls before cs after
-    → Keeps old.devices before old.controls after cs) → Beside old new
+    → Does place old.controls before cs after → Keeps old.devices before old.controls after cs) → Beside old new
 hardware_beside Does o keeps = search (rules, on_hardware_sound, same_rest)
 
 -- ---- requests that are no calls
 
 made_beside : (old : Machine) {new : Machine} (category : Category)
     → new ≡ record (with_totals old (with_place old.totals.totals)) {
-      controls =
-          old.controls ++ new_control category ∷ [];
+      controls = old.controls ++ new_control category ∷ [];
     } → Beside old new
 made_beside old category h = rw h (record {
   sound = λ s. record {
     kinds = s.kinds;
-    places =
-        All-push (HasItsDevice old.devices) old.controls (new_control category) s.places tt;
+    places = All-push (HasItsDevice old.devices) old.controls (new_control category) s.places tt;
     covers = s.covers;
   };
   rest = record { layout = refl; mode = refl; left = refl };
@@ -210,8 +205,7 @@ attached_beside old {hardware} h =
 
 detached_beside : (old : Machine) {new : Machine} {name : List ℕ} {hardware : Hardware}
     → IsDetached old name hardware new → Beside old new
-detached_beside old h =
-    record { sound = detached_sound old h; rest = rw h.machine (same_rest old.totals) }
+detached_beside old h = record { sound = detached_sound old h; rest = rw h.machine (same_rest old.totals) }
 
 -- ---- calls
 
@@ -261,23 +255,20 @@ module _ (m m' : Machine) (n : ℕ) (c : Control) (r : Answer) (at : slice_get m
       by false plain h = unasked (rw h.1 there)
       by true off (inl h) = record {
         sound = λ s. subst IsSound (sym h.2) (other_totals m'.totals (there.sound s));
-        told = λ is. found_told (Answered r) (recovers_off (and_parts (asks_recovery c p v)
-            (not (is_ready m.totals.totals.mode)) off).1) h.1;
+        told = λ is. found_told (Answered r)
+            (recovers_off (and_parts (asks_recovery c p v) (not (is_ready m.totals.totals.mode)) off).1) h.1;
       }
-      by true off (inr h) =
-          unasked (subst (Beside m) (sym h.1) (totals_beside m'.totals (unrecovered h.0)))
+      by true off (inr h) = unasked (subst (Beside m) (sym h.1) (totals_beside m'.totals (unrecovered h.0)))
 
-  own_leaves : (device : Option OpenDevice) (own : Call) → device ≡ c.device
-      → NoneApplies (own_rows device m n c own) → has_call c.category own ≡ true → DoesOwn device m n c own r m'
+  own_leaves : (device : Option OpenDevice) (own : Call) → device ≡ c.device → NoneApplies (own_rows device m n c own)
+      → has_call c.category own ≡ true → DoesOwn device m n c own r m'
       → StepLeaves (changes_asked m.totals.totals n (file_call own)) m (Answered r) m'
   own_leaves (Some TheTotals) own is allowed has h = record {
     sound = λ s. subst IsSound (sym h.1) (other_totals m'.totals s);
     told = λ is. files_told (file_call own) m.totals m'.totals n r is h.0;
   }
-  own_leaves device own is allowed has h =
-      beside_leaves _ m m' (Answered r)
-      (λ some. absurd (some (ap (changes_asked m.totals.totals n) (none_at_devices c.category (kind_of m c) c own _ has
-      h.does)))) (record {
+  own_leaves device own is allowed has h = beside_leaves _ m m' (Answered r) (λ some. absurd (some
+      (ap (changes_asked m.totals.totals n) (none_at_devices c.category (kind_of m c) c own _ has h.does)))) (record {
         sound = λ s. on_hardware_sound m _ (λ place before new after stands.
             let here = subst (λ o. StandsAt m.devices (open_place o) before) is stands in
             device_keeps c.category m own r n place c before new after at (served_by m.devices c.category c.cursor.place
@@ -290,9 +281,8 @@ module _ (m m' : Machine) (n : ℕ) (c : Control) (r : Answer) (at : slice_get m
       → Does m n c q r m' → StepLeaves (changes_asked m.totals.totals n (file_call q)) m (Answered r) m'
   does_leaves (Open name) none has h =
       unasked (rw h.1 (control_beside m n _ (λ s. found_open m c.category name s.kinds)))
-  does_leaves Close none has h =
-      unasked (rw h.1 (beside_then (control_beside m n (closed c) (λ s. tt))
-      (dropped_beside c.device (with_control m n (closed c)) n)))
+  does_leaves Close none has h = unasked (rw h.1
+      (beside_then (control_beside m n (closed c) (λ s. tt)) (dropped_beside c.device (with_control m n (closed c)) n)))
   does_leaves (Claim timeout) none has h = unasked (rw h.1 (claimed_beside c.device m n))
   does_leaves Release none has h =
       let after = after_release c.category c in
@@ -300,8 +290,7 @@ module _ (m m' : Machine) (n : ℕ) (c : Control) (r : Answer) (at : slice_get m
       (seated m n c s at))) (released_beside c.device (with_control m n after) n)))
   does_leaves (Set p v) none has h = search (rules, set_leaves, unless_not)
   does_leaves (Get p) none has h = unasked (same_beside m m' h.1)
-  does_leaves own none has h =
-      own_leaves c.device own refl (none_dropped 5 (refusals m n c own) none) (has refl) h
+  does_leaves own none has h = own_leaves c.device own refl (none_dropped 5 (refusals m n c own) none) (has refl) h
 
 -- ---- steps
 
@@ -315,26 +304,24 @@ step_leaves old new r (CallOf n asked) h = absurd h
 step_leaves old new (Worked result) (WorkOn name) h =
     beside_leaves [] old new (Worked result) (λ some. absurd (some refl)) (hardware_beside _ h
     (λ place before cs after stands does. works_keep old.devices _ place (Ok result) old.controls before cs after does))
-step_leaves old new (Delivered event) (Deliver n reply) h =
-    beside_leaves [] old new (Delivered event) (λ some. absurd (some refl))
-    (elim (match_cases (slice_get old.controls n) _ _ h) [
+step_leaves old new (Delivered event) (Deliver n reply) h = beside_leaves [] old new (Delivered event)
+    (λ some. absurd (some refl)) (elim (match_cases (slice_get old.controls n) _ _ h) [
       | inl x ↦ let (absent, left) = x in let (nothing, same) = left in same_beside old new same
       | inr x ↦
           let (control, found, delivers) = x in
           let (event, taken) = delivers in
           rw taken (control_beside old n (delivered reply control) (λ s. seated old n control s found))
     ])
-step_leaves old new r q h =
-    search (
-      rules,
-      beside_leaves,
-      same_beside,
-      made_beside,
-      attached_beside,
-      detached_beside,
-      hardware_beside,
-      takes_keeps,
-    )
+step_leaves old new r q h = search (
+  rules,
+  beside_leaves,
+  same_beside,
+  made_beside,
+  attached_beside,
+  detached_beside,
+  hardware_beside,
+  takes_keeps,
+)
 
 pub step_sound : {old new : Machine} (q : Request) (r : Response) → Step old q r new → IsSound old → IsSound new
 step_sound {old} {new} q r step = (step_leaves old new r q step).sound

@@ -36,13 +36,13 @@ still_ready old new turns ready = grind arith
 pub files_serve : {D P : Type 0} (bound : DiskGhosts D) (peripherals : Ghosts P) (old : Counter D P)
     {now : TotalsView D} (n : ℕ) (c : Control) (asked : Call) (outcome : Result Answer NoMemory)
     → is_common asked ≡ false → slice_get (controls_of old.controls.items) n ≡ Some c → c.device ≡ Some TheTotals
-    → ((left : List Standing) (failures : ℕ) → IsLet (machine peripherals old
-    (part_with old.totals.totals left failures)) n c asked)
+    → ((left : List Standing) (failures : ℕ)
+    → IsLet (machine peripherals old (part_with old.totals.totals left failures)) n c asked)
     → OnlyNow bound old.totals.disk → CallsFiles bound old.totals n asked outcome now → IsCounterSound peripherals old
     → Serves bound peripherals old (CallOf n asked) (answered outcome) (record old { totals = now })
 files_serve bound peripherals old {now} n c asked outcome own at is lets only (inl quiet) sound =
-    quiet_serves bound peripherals old (record old { totals = now }) (CallOf n asked) (answered outcome) now.totals only
-    quiet.disk refl quiet.is_settled sound sound.devices
+    quiet_serves bound peripherals old (record old { totals = now }) (CallOf n asked)
+    (answered outcome) now.totals only quiet.disk refl quiet.is_settled sound sound.devices
     (λ left failures so. called_step (machine peripherals old (part_with old.totals.totals left failures)) n c asked own
     at is (lets left failures) (part_with now.totals left failures) outcome (quiet.answer left failures so))
 files_serve bound peripherals old {now} n c asked outcome own found is lets only (inr puts) sound = record {

@@ -45,41 +45,38 @@ differs a b h = grind (arith, nat_tests, bytes_eq-Decides a b, bytes_eq-Decides 
 pub are_distinct-append : (files : List File) (file : File) → are_distinct files ≡ true
     → has_name files file.name ≡ false → are_distinct (files ++ file ∷ []) ≡ true
 are_distinct-append [] file distinct new = refl
-are_distinct-append (f ∷ files) file distinct new =
-    grind (
-      arith,
-      nat_tests,
-      are_distinct-append files file,
-      list_any-append (λ (x : File). bytes_eq x.name f.name) files,
-      differs f.name file.name,
-    )
+are_distinct-append (f ∷ files) file distinct new = grind (
+  arith,
+  nat_tests,
+  are_distinct-append files file,
+  list_any-append (λ (x : File). bytes_eq x.name f.name) files,
+  differs f.name file.name,
+)
 
 are_distinct-remove : (files : List File) (i : ℕ) → are_distinct files ≡ true → are_distinct (remove files i) ≡ true
 are_distinct-remove [] i distinct = simp (take-nil, drop-nil)
 are_distinct-remove (f ∷ files) zero distinct = grind (arith, nat_tests)
-are_distinct-remove (f ∷ files) (suc i) distinct =
-    grind (
-      arith,
-      nat_tests,
-      free,
-      list_all-remove (λ x. not (bytes_eq x.name f.name)) files i,
-      are_distinct-remove files i,
-    )
+are_distinct-remove (f ∷ files) (suc i) distinct = grind (
+  arith,
+  nat_tests,
+  free,
+  list_all-remove (λ x. not (bytes_eq x.name f.name)) files i,
+  are_distinct-remove files i,
+)
 
 -- a file with a new name
 are_distinct-set : (files : List File) (i : ℕ) (file : File) → are_distinct files ≡ true
     → has_name files file.name ≡ false → are_distinct (set files i file) ≡ true
 are_distinct-set [] i file distinct new = refl
 are_distinct-set (f ∷ files) zero file distinct new = grind (arith, nat_tests)
-are_distinct-set (f ∷ files) (suc i) file distinct new =
-    grind (
-      arith,
-      nat_tests,
-      free,
-      list_all-set (λ x. not (bytes_eq x.name f.name)) files i file,
-      are_distinct-set files i file,
-      differs f.name file.name,
-    )
+are_distinct-set (f ∷ files) (suc i) file distinct new = grind (
+  arith,
+  nat_tests,
+  free,
+  list_all-set (λ x. not (bytes_eq x.name f.name)) files i file,
+  are_distinct-set files i file,
+  differs f.name file.name,
+)
 
 -- a file with the name that it had
 has_name-same : (files : List File) (i : ℕ) (old new : File) (name : List ℕ) → slice_get files i ≡ Some old
@@ -146,12 +143,10 @@ made_directory files was takes (Rewrites i old file at shape e) = rw (← e) (re
 -- A change that a group takes and that is applicable leaves the files of a directory.
 pub changed : {limits : Limits} {files next : List File} {change : Change} → IsDirectory limits files → IsChange change
     → outcome limits files change ≡ Ok next → IsDirectory limits next
-changed {files} {change} was takes h =
-    made_directory files was takes (makes change h)
+changed {files} {change} was takes h = made_directory files was takes (makes change h)
 
 went_on : (r : Result (List File) DirectoryFault) {step : List File → Result (List File) DirectoryFault}
-    {next : List File}
-    → and_then r step ≡ Ok next → (mid : List File) × (r ≡ Ok mid) × (step mid ≡ Ok next)
+    {next : List File} → and_then r step ≡ Ok next → (mid : List File) × (r ≡ Ok mid) × (step mid ≡ Ok next)
 went_on (Ok mid) h = (mid, refl, h)
 went_on (Err fault) h = absurd cc
 

@@ -70,12 +70,11 @@ directory_again limits files writable h =
 -- No two directories are spelled alike.
 pub one_spelling : (limits : Limits) (files others : List File) → AreWritable limits → IsDirectory limits files
     → IsDirectory limits others → spelling files ≡ spelling others → files ≡ others
-one_spelling limits files others writable h g same =
-    cc (
-      directory_again limits files writable h,
-      ap (directory_at limits) same,
-      directory_again limits others writable g,
-    )
+one_spelling limits files others writable h g same = cc (
+  directory_again limits files writable h,
+  ap (directory_at limits) same,
+  directory_again limits others writable g,
+)
 
 -- ---- how long a spelling is
 

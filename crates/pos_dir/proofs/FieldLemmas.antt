@@ -15,11 +15,10 @@ pub IsBytes-drop : (n : ℕ) (bytes : List ℕ) → IsBytes bytes → IsBytes (d
 IsBytes-drop n bytes h i = rw get_or-drop (h (n + i))
 
 pub IsBytes-take : (n : ℕ) (bytes : List ℕ) → IsBytes bytes → IsBytes (take n bytes)
-IsBytes-take n bytes h i =
-    elim (cases_lt i n) [
-      | inl lt ↦ rw (get_or-take n bytes i 0 lt) (h i)
-      | inr le ↦ rw (get_or_past (take n bytes) i 0 (omega (arith, length-take n bytes))) (omega arith)
-    ]
+IsBytes-take n bytes h i = elim (cases_lt i n) [
+  | inl lt ↦ rw (get_or-take n bytes i 0 lt) (h i)
+  | inr le ↦ rw (get_or_past (take n bytes) i 0 (omega (arith, length-take n bytes))) (omega arith)
+]
 
 -- the value of a step that read something
 pub bind_some : {A B : Type 0} (o : Option A) {f : A → Option B} {y : B} → (o >>= f) ≡ Some y
@@ -53,10 +52,9 @@ pub record Step {A B : Type 0} (spell : A → List ℕ) (Fits : A → Type 0) (b
   pub on : next (x, rest) ≡ Some y
 
 -- what is read behind it is proved of its value and of the bytes that it left
-pub step : {A B G : Type 0} {read : List ℕ → Option (A × List ℕ)} {spell : A → List ℕ} {Fits : A
-    → Type 0} {next : A × List ℕ → Option B} {y : B}
-    → IsReader read spell Fits → {bytes : List ℕ} → IsBytes bytes → (read bytes >>= next) ≡ Some y
-    → (Step spell Fits bytes next y → G) → G
+pub step : {A B G : Type 0} {read : List ℕ → Option (A × List ℕ)} {spell : A → List ℕ} {Fits : A → Type 0}
+    {next : A × List ℕ → Option B} {y : B} → IsReader read spell Fits → {bytes : List ℕ} → IsBytes bytes
+    → (read bytes >>= next) ≡ Some y → (Step spell Fits bytes next y → G) → G
 step {spell} reads {bytes} fits e proved =
     let (found, is_read, on) = bind_some _ e in
     let (x, rest) = found in
@@ -161,8 +159,7 @@ pub name_reads : IsReader name_at name_spelling (λ name. is_name name ≡ true)
 unfolding name_at
 name_reads = record {
   takes = name_takes;
-  again =
-      λ x rest good. rw ((part_reads (length x)).again x rest refl, good) refl;
+  again = λ x rest good. rw ((part_reads (length x)).again x rest refl, good) refl;
 }
 
 text_takes : (bytes x rest : List ℕ) → IsBytes bytes → text_at bytes ≡ Some (x, rest)
@@ -174,8 +171,7 @@ text_takes bytes x rest fits e = step u32_reads fits e (λ size.
 
 text_again : (x rest : List ℕ) → length x < 2 ^ 32 → text_at (text_spelling x ++ rest) ≡ Some (x, rest)
 unfolding text_at
-text_again x rest lt =
-    ap text_at (append_assoc (to_be_bytes w32 (length x)) x rest)
+text_again x rest lt = ap text_at (append_assoc (to_be_bytes w32 (length x)) x rest)
     ∙ rw (u32_reads.again (length x) (x ++ rest) lt, (part_reads (length x)).again x rest refl) refl
 
 -- a text is read as it is spelled
@@ -213,9 +209,8 @@ module _ {A B C : Type 0} {read_a : List ℕ → Option (A × List ℕ)} {spell_
   -- two things that are spelled one behind the other are read
   pub both_again : (a : A) (b : B) (rest : List ℕ) → FitsA a → FitsB b
       → both read_a read_b make ((spell_a a ++ spell_b b) ++ rest) ≡ Some (make a b, rest)
-  both_again a b rest fits_a fits_b =
-      rw (
-        append_assoc (spell_a a) (spell_b b) rest,
-        reads_a.again a (spell_b b ++ rest) fits_a,
-        reads_b.again b rest fits_b,
-      ) refl
+  both_again a b rest fits_a fits_b = rw (
+    append_assoc (spell_a a) (spell_b b) rest,
+    reads_a.again a (spell_b b ++ rest) fits_a,
+    reads_b.again b rest fits_b,
+  ) refl

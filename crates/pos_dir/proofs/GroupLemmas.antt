@@ -24,9 +24,9 @@ create_takes = both_take Create name_reads u32_reads (1 ∷ []) change_spelling 
 delete_takes : (bytes : List ℕ) (x : Change) (rest : List ℕ) → IsBytes bytes → delete_at bytes ≡ Some (x, rest)
     → IsFound 2 bytes x rest
 unfolding delete_at
-delete_takes bytes x rest fits e = step u16_reads fits e (λ index.
-    subst (λ (y : Change × List ℕ). IsFound 2 bytes y.0 y.1) (some_is (Delete index.x, index.rest) (x, rest) index.on)
-    (cc (index.parts), record { widths = index.fits; flawless = refl }))
+delete_takes bytes x rest fits e = step u16_reads fits e
+    (λ index. subst (λ (y : Change × List ℕ). IsFound 2 bytes y.0 y.1) (some_is (Delete index.x, index.rest)
+    (x, rest) index.on) (cc (index.parts), record { widths = index.fits; flawless = refl }))
 
 rename_takes : (bytes : List ℕ) (x : Change) (rest : List ℕ) → IsBytes bytes → rename_at bytes ≡ Some (x, rest)
     → IsFound 3 bytes x rest
@@ -37,9 +37,8 @@ rename_takes = both_take Rename u16_reads name_reads (3 ∷ []) change_spelling 
 write_takes : (bytes : List ℕ) (x : Change) (rest : List ℕ) → IsBytes bytes → write_at bytes ≡ Some (x, rest)
     → IsFound 4 bytes x rest
 unfolding write_at
-write_takes bytes x rest fits e =
-    step u16_reads fits e (λ index. step u32_reads index.bytes_left index.on (λ offset.
-    step text_reads offset.bytes_left offset.on (λ text.
+write_takes bytes x rest fits e = step u16_reads fits e
+    (λ index. step u32_reads index.bytes_left index.on (λ offset. step text_reads offset.bytes_left offset.on (λ text.
     let g = passed text.on in
     let inner = append_assoc (to_be_bytes w32 offset.x) (text_spelling text.x) text.rest in
     let outer = append_assoc (to_be_bytes w16 index.x) (to_be_bytes w32 offset.x ++ text_spelling text.x) text.rest in
@@ -80,8 +79,8 @@ change_takes (tag ∷ bytes) {x} {rest} fits e = fields_take bytes x rest (λ i.
 -- a Write, from its three fields
 write_again : (index offset : ℕ) (text rest : List ℕ) → index < 2 ^ 16 → offset < 2 ^ 32
     → nat_le (length text) write_limit ≡ true
-    → write_at ((to_be_bytes w16 index ++ (to_be_bytes w32 offset ++ text_spelling text)) ++ rest) ≡ Some
-    (Write index offset text, rest)
+    → write_at ((to_be_bytes w16 index ++ (to_be_bytes w32 offset ++ text_spelling text)) ++ rest)
+    ≡ Some (Write index offset text, rest)
 unfolding write_at
 write_again index offset text rest low_index low_offset short =
     let regrouped : (to_be_bytes w16 index ++ (to_be_bytes w32 offset ++ text_spelling text)) ++ rest

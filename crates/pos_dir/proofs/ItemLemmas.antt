@@ -56,16 +56,15 @@ ended (byte ∷ bytes) test = absurd cc
 
 -- a count and as many items, which a test lets through
 abbrev pub counted : {A : Type 0} → (List ℕ → Option (A × List ℕ)) → (List A × List ℕ → Bool) → List ℕ → Option (List A)
-counted read keeps bytes = number_at w16 bytes >>= λ count. items_at read count.0 count.1 >>= λ x. cond (keeps x)
-    (Some x.0) None
+counted read keeps bytes = number_at w16 bytes >>= λ count. items_at read count.0 count.1 >>=
+    λ x. cond (keeps x) (Some x.0) None
 
 module _ {A : Type 0} {read : List ℕ → Option (A × List ℕ)} {spell : A → List ℕ} {Fits : A → Type 0}
     (reads : IsReader read spell Fits) (keeps : List A × List ℕ → Bool) where
   -- are spelled so, where the test wants no bytes behind them
   pub counted_take : ((x : List A × List ℕ) → keeps x ≡ true → is_end x.1 ≡ true) → (bytes : List ℕ) (xs : List A)
-      → IsBytes bytes → counted read keeps bytes ≡ Some xs
-      → (keeps (xs, []) ≡ true) × AllByRecursion Fits xs × (length xs < 2 ^ 16)
-      × (bytes ≡ to_be_bytes w16 (length xs) ++ flat_map spell xs)
+      → IsBytes bytes → counted read keeps bytes ≡ Some xs → (keeps (xs, []) ≡ true) × AllByRecursion Fits xs
+      × (length xs < 2 ^ 16) × (bytes ≡ to_be_bytes w16 (length xs) ++ flat_map spell xs)
   counted_take ends bytes xs fits e = step u16_reads fits e (λ count.
       let (items, is_read, tested) = bind_some (items_at read count.x count.rest) count.on in
       let (found, left) = items in
@@ -95,8 +94,7 @@ length_items read (suc count) bytes e = grind (arith, length_items read count)
 
 -- one more item behind those that were read
 pub items_push : {A : Type 0} (read : List ℕ → Option (A × List ℕ)) (count : ℕ) (bytes : List ℕ) {xs : List A}
-    {rest : List ℕ} {x : A} {after : List ℕ}
-    → items_at read count bytes ≡ Some (xs, rest) → read rest ≡ Some (x, after)
+    {rest : List ℕ} {x : A} {after : List ℕ} → items_at read count bytes ≡ Some (xs, rest) → read rest ≡ Some (x, after)
     → items_at read (suc count) bytes ≡ Some (xs ++ x ∷ [], after)
 unfolding items_at
 items_push read zero bytes e more = grind arith
@@ -112,8 +110,8 @@ some_read (Some x) end at = (x.0, grind arith)
 
 -- the next item is the first of those to come
 pub items_next : {A : Type 0} (read : List ℕ → Option (A × List ℕ)) (count i : ℕ) (bytes : List ℕ) → i < count
-    → items_at read (count - i) bytes
-    ≡ (read bytes >>= λ first. with_first first.0 (items_at read (count - (i + 1)) first.1))
+    → items_at read
+    (count - i) bytes ≡ (read bytes >>= λ first. with_first first.0 (items_at read (count - (i + 1)) first.1))
 unfolding items_at
 items_next read count i bytes lt =
     let k : count - i ≡ suc (count - (i + 1)) = omega arith in
@@ -134,9 +132,8 @@ front_first front x None = refl
 front_first {A} front x (Some others) = ap (λ (xs : List A). Some (xs, others.1)) (simp append_assoc)
 
 -- a file takes room from those behind it
-pub end_first : (room : ℕ) (file : File) (read : Option (List File × List ℕ))
-    → end_within room (with_first file read) ≡ cond (leb (length file.bytes) room)
-    (end_within (room - length file.bytes) read) None
+pub end_first : (room : ℕ) (file : File) (read : Option (List File × List ℕ)) → end_within room
+    (with_first file read) ≡ cond (leb (length file.bytes) room) (end_within (room - length file.bytes) read) None
 end_first room file None = grind (arith, nat_tests)
 end_first room file (Some x) = grind (arith, nat_tests, sum_by-cons (λ (f : File). length f.bytes) file x.0)
 

@@ -79,8 +79,8 @@ answered limits files change place e =
 
 pub data Makes (limits : Limits) (files : List File) (change : Change) (next : List File) : Type 0 where
   Adds : (file : File) → (flaw_of change ≡ None → is_name file.name ≡ true) → has_name files file.name ≡ false
-      → length files < limits.files
-      → total_size files + length file.bytes ≤ limits.bytes → files ++ file ∷ [] ≡ next → Makes limits files change next
+      → length files < limits.files → total_size files + length file.bytes ≤ limits.bytes → files ++ file ∷ [] ≡ next
+      → Makes limits files change next
   Removes : (i : ℕ) (old : File) → slice_get files i ≡ Some old → remove files i ≡ next → Makes limits files change next
   Renames : (i : ℕ) (old new : File) → slice_get files i ≡ Some old → (flaw_of change ≡ None → is_name new.name ≡ true)
       → has_name files new.name ≡ false → length new.bytes ≡ length old.bytes → set files i new ≡ next
@@ -98,9 +98,8 @@ rewrites limits files change place e h =
 
 pub makes : {limits : Limits} {files next : List File} (change : Change) → outcome limits files change ≡ Ok next
     → Makes limits files change next
-makes (Create name size) h =
-    Adds (record { name = name; bytes = replicate size 0 }) (λ flawless. grind (arith, nat_tests))
-    (grind (arith, nat_tests)) (grind (arith, nat_tests))
+makes (Create name size) h = Adds (record { name = name; bytes = replicate size 0 })
+    (λ flawless. grind (arith, nat_tests)) (grind (arith, nat_tests)) (grind (arith, nat_tests))
     (grind (arith, nat_tests, length-replicate {A = ℕ} size 0)) (grind (arith, nat_tests))
 makes {files} (Delete index) h =
     let at = found (slice_get files index) h in

@@ -42,13 +42,12 @@ same_name outlines files name same =
 
 pub same_count : (outlines : List Outline) (files : List File) → AreOutlines outlines files
     → length files ≡ length outlines
-same_count outlines files same =
-    omega (
-      arith,
-      length-map outlines shape_of,
-      length-map files shape_of_file,
-      ap (λ (shapes : List Shape). length shapes) same,
-    )
+same_count outlines files same = omega (
+  arith,
+  length-map outlines shape_of,
+  length-map files shape_of_file,
+  ap (λ (shapes : List Shape). length shapes) same,
+)
 
 -- the sizes are the same in sum
 pub same_total : (outlines : List Outline) (files : List File) → AreOutlines outlines files
@@ -62,8 +61,8 @@ pub file_at : (outlines : List Outline) (files : List File) (i : ℕ) (o : Outli
     → (file : File) × (slice_get files i ≡ Some file) × (shape_of_file file ≡ shape_of o)
 file_at outlines files i o same at =
     let none : File = record { name = []; bytes = [] } in
-    let here = slice_get-get_or files i none
-    (omega (arith, slice_get_within outlines i o at, same_count outlines files same)) in
+    let here =
+    slice_get-get_or files i none (omega (arith, slice_get_within outlines i o at, same_count outlines files same)) in
     (get_or files i none, here, cc (slice_get-map shape_of_file files i, slice_get-map shape_of outlines i))
 
 -- ---- a change of a file
@@ -77,8 +76,7 @@ same_size outlines files i same = grind (arith, slice_get-map shape_of outlines 
 
 -- the outlines are those of files of which the rest of the group makes what the whole makes
 abbrev pub IsStage : Limits → List Outline → List Change → Result (List File) DirectoryFault → Type 0
-IsStage limits outlines rest total =
-    (files : List File) × IsDirectory limits files × AreOutlines outlines files
+IsStage limits outlines rest total = (files : List File) × IsDirectory limits files × AreOutlines outlines files
     × (outcome_of_all limits files rest ≡ total)
 
 module _ (limits : Limits) (outlines : List Outline) (changes : List Change) (i : ℕ) (change : Change)
@@ -104,8 +102,8 @@ module _ (limits : Limits) (outlines : List Outline) (changes : List Change) (i 
 
 -- at each stage the sizes fit
 pub stage_room : {limits : Limits} (outlines : List Outline) (rest : List Change)
-    {total : Result (List File) DirectoryFault}
-    → IsStage limits outlines rest total → sum_by (λ outline. outline.size) outlines ≤ limits.bytes
+    {total : Result (List File) DirectoryFault} → IsStage limits outlines rest total
+    → sum_by (λ outline. outline.size) outlines ≤ limits.bytes
 stage_room outlines rest stage = omega (arith, same_total outlines stage.0 stage.2, stage.1.size)
 
 -- what outlines tell of the files

@@ -27,9 +27,8 @@ module _ (past : List Moment) (present next : Moment) where
   nothing_else left = grind (arith, cases_lt, length, earlier, longer, latest)
 
 -- a disk in memory keeps its moment before each change
-pub elapsed : (disk : Memory) (next : Moment) (settled : List ℕ)
-    → Elapses (state_of disk) (state_of
-    (record { present = next; settled = settled; past = disk.past ++ disk.present ∷ [] }))
+pub elapsed : (disk : Memory) (next : Moment) (settled : List ℕ) → Elapses (state_of disk)
+    (state_of (record { present = next; settled = settled; past = disk.past ++ disk.present ∷ [] }))
 elapsed disk next settled = record {
   later = omega (arith, longer disk.past disk.present next);
   keeps = keeps disk.past disk.present next;
@@ -50,8 +49,8 @@ writes disk at bytes long fits =
     let hit : (i : ℕ) → InRange at (length bytes) i → get_or (splice disk.present.loose at marks) i false ≡ true =
     λ i inside. grind (arith, common_steps, spliced_within false disk.present.loose marks at i room) in
     let missed : (i : ℕ) → ¬ (InRange at (length bytes) i)
-    → get_or (splice disk.present.loose at marks) i false ≡ get_or disk.present.loose i false = λ i outside.
-    grind (arith, marked, spliced_elsewhere false disk.present.loose marks at i room) in
+    → get_or (splice disk.present.loose at marks) i false ≡ get_or disk.present.loose i false =
+    λ i outside. grind (arith, marked, spliced_elsewhere false disk.present.loose marks at i room) in
     record {
       written = refl;
       same_length = length-splice disk.present.reading bytes at fits;

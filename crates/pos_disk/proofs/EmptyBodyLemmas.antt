@@ -121,24 +121,21 @@ module _ {n : ℕ} where
         → let y : (walk_of 𝓛 T (stays ps) c).Ghost = ((κs, qs, bounds, a, values ps κs a), g) in
         ent 𝓤 (Ending 𝓛 T (stays ps) c y (vstruct vnil) result (lasts κs ps a))
         ((walk_of 𝓛 T (stays ps) c).post y (vstruct vnil))
-    ends κs qs bounds a g result =
-        ends_at 𝓛 T (stays ps) c ((κs, qs, bounds, a, values ps κs a), g) (vstruct vnil) result (lasts κs ps a)
-        (fit κs ps a)
+    ends κs qs bounds a g result = ends_at 𝓛 T (stays ps) c ((κs, qs, bounds, a, values ps κs a), g)
+        (vstruct vnil) result (lasts κs ps a) (fit κs ps a)
 
     -- from the walk of its code to what is stated of it
-    pub stated : (𝓜 : Model 𝓤 𝓛.H) (𝓡 : Running 𝓤 𝓛.H 𝓜) (key : Callee) (function : Fn)
-        → let t = tables 𝓤 𝓛.H 𝓜 𝓡 𝓡.env in Closed 𝓤 𝓛.H t.C t.Λ key function
-        → ((κs : Lfts n) (qs : Shares n) (bounds : AllOutlive n [] κs) (a : Denots (types_at (slots ps) κs))
-        (g : (c κs a).ghost) → AreTyped κs ps a → ent 𝓤 (on_entry 𝓛 T.signature κs qs a (values ps κs a))
-        (WpFn 𝓤 𝓛.H t.C t.Λ function (flat (types_at (slots ps) κs) (values ps κs a))
+    pub stated : (𝓜 : Model 𝓤 𝓛.H) (𝓡 : Running 𝓤 𝓛.H 𝓜) (key : Callee) (function : Fn) → let t = tables 𝓤 𝓛.H 𝓜 𝓡 𝓡.env
+        in Closed 𝓤 𝓛.H t.C t.Λ key function → ((κs : Lfts n) (qs : Shares n) (bounds : AllOutlive n [] κs) (a : Denots
+        (types_at (slots ps) κs)) (g : (c κs a).ghost) → AreTyped κs ps a → ent 𝓤 (on_entry 𝓛 T.signature κs qs a
+        (values ps κs a)) (WpFn 𝓤 𝓛.H t.C t.Λ function (flat (types_at (slots ps) κs) (values ps κs a))
         ((walk_of 𝓛 T (stays ps) c).post ((κs, qs, bounds, a, values ps κs a), g))))
         → Triple 𝓤 (t.C key) (triple_of 𝓛 T.signature (closing 𝓛 T c))
     unfolding tables_of
     stated 𝓜 𝓡 key function closed walk =
         let t = tables 𝓤 𝓛.H 𝓜 𝓡 𝓡.env in
         let run = WpFn 𝓤 𝓛.H t.C t.Λ function in
-        let walks : Walks 𝓛 T (stays ps) run c =
-        walked 𝓛 T (stays ps) c run (λ κs. spelled κs ps) (λ κs. tells κs ps)
+        let walks : Walks 𝓛 T (stays ps) run c = walked 𝓛 T (stays ps) c run (λ κs. spelled κs ps) (λ κs. tells κs ps)
         (λ κs qs bounds a g are. via 𝓤 _ (fst∗ 𝓤 _ ((c κs a).requires g)) (walk κs qs bounds a g (typed κs ps a are)))
         in
         entered 𝓤 𝓛.H (triple_of 𝓛 T.signature (closing 𝓛 T c)) t.C t.Λ key function closed

@@ -13,8 +13,7 @@ pub wider : {was bytes : List ℕ} {at n place m : ℕ} → place ≤ at → at 
     → SameBut place m was bytes
 wider low high same = record {
   same_length = same.same_length;
-  elsewhere =
-      λ i outside. same.elsewhere i (λ hit. outside (omega arith));
+  elsewhere = λ i outside. same.elsewhere i (λ hit. outside (omega arith));
 }
 
 -- one change after another

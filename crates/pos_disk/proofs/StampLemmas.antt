@@ -34,9 +34,8 @@ module _ (bytes saved stamps : List ℕ) (stamp : ℕ) (long : length stamps ≡
   pub length_settled : length (choose (loose_by stamp stamps) saved bytes) ≡ length bytes
   length_settled = length-choose (loose_by stamp stamps) saved bytes (length-map stamps (λ s. s == stamp) ∙ long) same
 
-  pub settled_at : (i : ℕ) → i < length bytes
-      → get_or (choose (loose_by stamp stamps) saved bytes) i 0 ≡ cond (get_or stamps i 0 == stamp) (get_or saved i 0)
-      (get_or bytes i 0)
+  pub settled_at : (i : ℕ) → i < length bytes → get_or (choose (loose_by stamp stamps) saved bytes) i 0
+      ≡ cond (get_or stamps i 0 == stamp) (get_or saved i 0) (get_or bytes i 0)
   settled_at i inside = grind (arith, loose_is, choose_at, loose_by, length-map)
 
 -- a crash may leave whatever is chosen at the loose places

@@ -20,8 +20,8 @@ loose_splice stamp at n stamps =
     simp (map-append, length-replicate, take-map (λ s. s == stamp) at stamps, drop-map, all_bear stamp n)
 
 module _ (bytes saved stamps : List ℕ) (stamp at n : ℕ) (kept : IsKept bytes saved stamps stamp)
-    (fits : at + n ≤ length bytes)
-    (new saved' : List ℕ) (long : length new ≡ n) (save : IsSaved stamps stamp bytes at n saved saved') where
+    (fits : at + n ≤ length bytes) (new saved' : List ℕ) (long : length new ≡ n)
+    (save : IsSaved stamps stamp bytes at n saved saved') where
   room : at + length (replicate n stamp) ≤ length stamps
   room = omega (arith, length-replicate n stamp, kept.stamps_length)
 
@@ -40,14 +40,14 @@ module _ (bytes saved stamps : List ℕ) (stamp at n : ℕ) (kept : IsKept bytes
   still_kept = grind (arith, length-splice, replicate, room, in_range, inside_bears, outside_same)
 
   -- the bytes of the last sync stay
-  stays_settled : choose (loose_by stamp (splice stamps at (replicate n stamp))) saved' (splice bytes at new) ≡ choose
-      (loose_by stamp stamps) saved bytes
+  stays_settled : choose (loose_by stamp (splice stamps at (replicate n stamp))) saved' (splice bytes at new)
+      ≡ choose (loose_by stamp stamps) saved bytes
   stays_settled =
       let now = splice bytes at new in
       let after = still_kept in
       let size = length-splice bytes new at (omega (arith, long)) in
-      let settled = settled_at now saved'
-      (splice stamps at (replicate n stamp)) stamp after.stamps_length after.saved_length in
+      let settled =
+      settled_at now saved' (splice stamps at (replicate n stamp)) stamp after.stamps_length after.saved_length in
       let length_now = length_settled now saved' _ stamp after.stamps_length after.saved_length in
       let was = settled_at bytes saved stamps stamp kept.stamps_length kept.saved_length in
       ext_get_or 0 _ _ (length_now ∙ size
@@ -71,9 +71,8 @@ module _ (bytes saved stamps : List ℕ) (stamp at n : ℕ) (kept : IsKept bytes
       ))
 
   -- and the disk is the one that was written to
-  pub is_written : (past : List Moment)
-      → memory_of (splice bytes at new) saved' (splice stamps at (replicate n stamp)) stamp
-      (past ++ moment_of bytes stamps stamp ∷ []) ≡ written at new (memory_of bytes saved stamps stamp past)
+  pub is_written : (past : List Moment) → memory_of (splice bytes at new) saved' (splice stamps at (replicate n stamp))
+      stamp (past ++ moment_of bytes stamps stamp ∷ []) ≡ written at new (memory_of bytes saved stamps stamp past)
   is_written past = rw (stays_settled, loose_splice stamp at n stamps, long)
 
 -- where no place of a range bears the stamp, the bytes of the range are saved all at once

@@ -11,6 +11,6 @@ use Rattle.pos_drive.specs.Previews.{Foretells}
 pub done_foretold : (old new : PeripheralState) (asked : Order) (outcome : Result Reply NoMemory) (foretold : Reply)
     → Asked old asked outcome new → Foretells old.plant asked foretold → outcome ≡ Ok reply.Done → foretold ≡ reply.Done
 done_foretold old new asked outcome foretold did foretells is =
-    let answer = subst (λ r. MatchResult r (λ said. Replies old asked said new) (λ want. IsUntouched old new)) is
-    did.answer in
+    let answer =
+    subst (λ r. MatchResult r (λ said. Replies old asked said new) (λ want. IsUntouched old new)) is did.answer in
     sym (foretells reply.Done new.plant answer.0)

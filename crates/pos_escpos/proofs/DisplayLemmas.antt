@@ -21,8 +21,7 @@ use Rattle.pos_escpos.specs.Screens.{IsShowing, Make, Screen, screen_after, take
 
 -- a row is written, and the rows behind it are left
 pub row_written : (is : DisplayProtocol) (columns y : ℕ) {n left : ℕ} (old new : List DisplayCell) (out : List ℕ)
-    {next whole : List ℕ}
-    → n ≡ suc left → next ≡ out ++ row_bytes is y (take columns old) (take columns new)
+    {next whole : List ℕ} → n ≡ suc left → next ≡ out ++ row_bytes is y (take columns old) (take columns new)
     → out ++ rows_bytes is columns y n old new ≡ whole
     → next ++ rows_bytes is columns (y + 1) left (drop columns old) (drop columns new) ≡ whole
 row_written is columns y {left} old new out more wrote h =
@@ -48,9 +47,8 @@ abbrev cursor_in : ℕ → ℕ → ℕ → Option Place
 cursor_in columns row column = if column == columns then None else Some (record { row = row; column = column })
 
 -- the cursor is at the start of a row
-takes_start : (is : DisplayProtocol) (rows columns row : ℕ) (characters : List ℕ) (cursor : Option Place)
-    → 1 ≤ columns → row < rows
-    → screen_after (make_by is rows columns) (shown characters cursor) (row_start is (row + 1))
+takes_start : (is : DisplayProtocol) (rows columns row : ℕ) (characters : List ℕ) (cursor : Option Place) → 1 ≤ columns
+    → row < rows → screen_after (make_by is rows columns) (shown characters cursor) (row_start is (row + 1))
     ≡ shown characters (Some (record { row = row; column = 0 }))
 takes_start protocol.Cd5220 rows columns row characters cursor some within =
     rw (le-leb 1 columns some, le-leb 1 (row + 1) (omega arith), le-leb (row + 1) rows (omega arith))
@@ -63,22 +61,20 @@ takes_start protocol.EscPos rows columns row characters cursor some within =
 takes_character : (is : DisplayProtocol) (rows columns row column b : ℕ) (characters : List ℕ) → 32 ≤ b
     → takes (make_by is rows columns) (shown characters (Some (record { row = row; column = column }))) b
     ≡ shown (slice_set characters (row * columns + column) b) (cursor_in columns row (column + 1))
-takes_character protocol.Cd5220 rows columns row column b characters le =
-    rw (
-      ne_eqb b 27 (λ e. omega arith),
-      ne_eqb b 31 (λ e. omega arith),
-      ne_eqb b 12 (λ e. omega arith),
-      ne_eqb b 11 (λ e. omega arith),
-      le-leb 32 b le,
-    ) refl
-takes_character protocol.EscPos rows columns row column b characters le =
-    rw (
-      ne_eqb b 27 (λ e. omega arith),
-      ne_eqb b 31 (λ e. omega arith),
-      ne_eqb b 12 (λ e. omega arith),
-      ne_eqb b 11 (λ e. omega arith),
-      le-leb 32 b le,
-    ) refl
+takes_character protocol.Cd5220 rows columns row column b characters le = rw (
+  ne_eqb b 27 (λ e. omega arith),
+  ne_eqb b 31 (λ e. omega arith),
+  ne_eqb b 12 (λ e. omega arith),
+  ne_eqb b 11 (λ e. omega arith),
+  le-leb 32 b le,
+) refl
+takes_character protocol.EscPos rows columns row column b characters le = rw (
+  ne_eqb b 27 (λ e. omega arith),
+  ne_eqb b 31 (λ e. omega arith),
+  ne_eqb b 12 (λ e. omega arith),
+  ne_eqb b 11 (λ e. omega arith),
+  le-leb 32 b le,
+) refl
 
 -- bytes that are characters
 abbrev are_characters : List ℕ → Bool
@@ -115,13 +111,12 @@ pub record Shows (make : Make) (from : Screen) (bytes : List ℕ) (characters : 
 
 -- one row is shown
 takes_one : (is : DisplayProtocol) (rows columns row : ℕ) (front back : List ℕ) (old new : List DisplayCell)
-    (cursor : Option Place)
-    → 1 ≤ columns → row < rows → length front ≡ row * columns → length old ≡ columns → length new ≡ columns
-    → list_all is_character new ≡ true
+    (cursor : Option Place) → 1 ≤ columns → row < rows → length front ≡ row * columns → length old ≡ columns
+    → length new ≡ columns → list_all is_character new ≡ true
     → Shows (make_by is rows columns) (shown (front ++ (characters_of old ++ back)) cursor)
     (row_bytes is (row + 1) old new) (front ++ (characters_of new ++ back))
-takes_one is rows columns row front back old new cursor some within at old_size new_size fit = ⊎_elim
-    (λ (alike : bytes_eq (characters_of old) (characters_of new) ≡ true).
+takes_one is rows columns row front back old new cursor some within at old_size new_size fit =
+    ⊎_elim (λ (alike : bytes_eq (characters_of old) (characters_of new) ≡ true).
     let same = (bytes_eq-Decides (characters_of old) (characters_of new)).0 alike in
     record { cursor = cursor; is = rw alike (ap (λ cs. shown (front ++ (cs ++ back)) cursor) same) })
     (λ (changed : bytes_eq (characters_of old) (characters_of new) ≡ false).
@@ -131,28 +126,25 @@ takes_one is rows columns row front back old new cursor some within at old_size 
     rw (ne_eqb 0 columns (λ e. omega arith)) refl in
     record {
       cursor = cursor_in columns row columns;
-      is = rw changed (fold-append (takes make) (shown was cursor) (row_start is (row + 1)) (characters_of new) ∙ ap
-          (λ s. fold (takes make) s (characters_of new)) (takes_start is rows columns row was cursor some within) ∙ ap
-          (λ c. fold (takes make) (shown was c) (characters_of new)) (sym zero_column) ∙ takes_row is rows row 0 front
-          (characters_of old) (characters_of new) back (simp length-map (old_size ∙ sym new_size))
-          (simp length-map (omega arith)) (omega arith) (list_all-map (λ b. nat_le 32 b && nat_le b 126)
-          (λ (cell : DisplayCell). cell.character) new ∙ fit));
+      is = rw changed (fold-append (takes make) (shown was cursor) (row_start is (row + 1)) (characters_of new)
+          ∙ ap (λ s. fold (takes make) s (characters_of new)) (takes_start is rows columns row was cursor some within)
+          ∙ ap (λ c. fold (takes make) (shown was c) (characters_of new)) (sym zero_column)
+          ∙ takes_row is rows row 0 front (characters_of old) (characters_of new) back
+          (simp length-map (old_size ∙ sym new_size)) (simp length-map (omega arith)) (omega arith)
+          (list_all-map (λ b. nat_le 32 b && nat_le b 126) (λ (cell : DisplayCell). cell.character) new ∙ fit));
     }) (cases_Bool (bytes_eq (characters_of old) (characters_of new)))
 
 -- cells in two parts
 in_parts : (columns : ℕ) (cells : List DisplayCell)
     → characters_of cells ≡ characters_of (take columns cells) ++ characters_of (drop columns cells)
-in_parts columns cells =
-    ap characters_of (sym (take-append-drop columns cells))
+in_parts columns cells = ap characters_of (sym (take-append-drop columns cells))
     ∙ map-append (λ (cell : DisplayCell). cell.character) (take columns cells) (drop columns cells)
 
 -- all rows are shown
 takes_rows : (is : DisplayProtocol) (rows columns n row : ℕ) (front : List ℕ) (old new : List DisplayCell)
-    (cursor : Option Place)
-    → 1 ≤ columns → row + n ≤ rows → length front ≡ row * columns → length old ≡ n * columns → length new ≡ n * columns
-    → list_all is_character new ≡ true
-    → Shows (make_by is rows columns) (shown (front ++ characters_of old) cursor)
-    (rows_bytes is columns (row + 1) n old new) (front ++ characters_of new)
+    (cursor : Option Place) → 1 ≤ columns → row + n ≤ rows → length front ≡ row * columns → length old ≡ n * columns
+    → length new ≡ n * columns → list_all is_character new ≡ true → Shows (make_by is rows columns)
+    (shown (front ++ characters_of old) cursor) (rows_bytes is columns (row + 1) n old new) (front ++ characters_of new)
 takes_rows is rows columns zero row front [] [] cursor some within at old_size new_size fit =
     record { cursor = cursor; is = refl }
 takes_rows is rows columns zero row front (o ∷ old) new cursor some within at old_size new_size fit = let bad : ⊥ =
@@ -166,29 +158,27 @@ takes_rows is rows columns (suc n) row front old new cursor some within at old_s
     let fits = and_parts (list_all is_character first_new) (list_all is_character rest_new)
     (sym (list_all-append is_character first_new rest_new) ∙ ap (list_all is_character) (take-append-drop columns new)
     ∙ fit) in
-    let one = takes_one is rows columns row front (characters_of rest_old) first_old first_new cursor some (omega arith)
-    at (length-take-le columns old (omega arith)) (length-take-le columns new (omega arith)) fits.0 in
+    let one = takes_one is rows columns row front (characters_of rest_old) first_old first_new cursor some
+    (omega arith) at (length-take-le columns old (omega arith)) (length-take-le columns new (omega arith)) fits.0 in
     let next = takes_rows is rows columns n (row + 1) (front ++ characters_of first_new) rest_old rest_new one.cursor
     some (omega arith) (simp (length-append, length-map) (omega (arith, length-take-le columns new (omega arith))))
     (simp length-drop (omega arith)) (simp length-drop (omega arith)) fits.1 in
     let rest_bytes = rows_bytes is columns (row + 1 + 1) n rest_old rest_new in
     record {
       cursor = next.cursor;
-      is =
-          ap (λ cs. screen_after make (shown (front ++ cs) cursor) (row_bytes is (row + 1) first_old first_new
-          ++ rest_bytes)) (in_parts columns old) ∙ fold-append (takes make)
-          (shown (front ++ (characters_of first_old ++ characters_of rest_old)) cursor)
-          (row_bytes is (row + 1) first_old first_new) rest_bytes ∙ ap (λ s. fold (takes make) s rest_bytes) one.is ∙ ap
-          (λ cs. fold (takes make) (shown cs one.cursor) rest_bytes) (sym (append_assoc front (characters_of first_new)
-          (characters_of rest_old))) ∙ next.is ∙ ap (λ cs. shown cs next.cursor)
-          (append_assoc front (characters_of first_new) (characters_of rest_new) ∙ ap (λ cs. front ++ cs)
-          (sym (in_parts columns new)));
+      is = ap (λ cs. screen_after make (shown (front ++ cs) cursor)
+          (row_bytes is (row + 1) first_old first_new ++ rest_bytes)) (in_parts columns old)
+          ∙ fold-append (takes make) (shown (front ++ (characters_of first_old ++ characters_of rest_old)) cursor)
+          (row_bytes is (row + 1) first_old first_new) rest_bytes ∙ ap (λ s. fold (takes make) s rest_bytes) one.is
+          ∙ ap (λ cs. fold (takes make) (shown cs one.cursor) rest_bytes)
+          (sym (append_assoc front (characters_of first_new) (characters_of rest_old))) ∙ next.is
+          ∙ ap (λ cs. shown cs next.cursor) (append_assoc front (characters_of first_new) (characters_of rest_new)
+          ∙ ap (λ cs. front ++ cs) (sym (in_parts columns new)));
     }
 
 -- what a whole display has
-whole_count : (display : Display) → is_whole display ≡ true
-    → (1 ≤ display.columns) × (length display.cells ≡ display.rows * display.columns)
-    × (list_all is_character display.cells ≡ true)
+whole_count : (display : Display) → is_whole display ≡ true → (1 ≤ display.columns)
+    × (length display.cells ≡ display.rows * display.columns) × (list_all is_character display.cells ≡ true)
 whole_count display whole =
     let count = length display.cells == display.rows * display.columns in
     let parts = and_parts (nat_le 1 display.columns && nat_le display.rows 255 && count)
@@ -201,9 +191,8 @@ whole_count display whole =
     )
 
 -- a display that shows the old cells shows the new ones then
-pub becomes : (is : DisplayProtocol) (old new : Display) → can_become old new ≡ true
-    → (screen : Screen) → IsShowing (characters_of old.cells) screen
-    → IsShowing (characters_of new.cells)
+pub becomes : (is : DisplayProtocol) (old new : Display) → can_become old new ≡ true → (screen : Screen)
+    → IsShowing (characters_of old.cells) screen → IsShowing (characters_of new.cells)
     (screen_after (make_of is new) screen (rows_bytes is new.columns 1 new.rows old.cells new.cells))
 becomes is old new can screen showing =
     let parts = and_parts (same_size old new && is_whole old) (is_whole new) can in
@@ -214,22 +203,20 @@ becomes is old new can screen showing =
     let old_size : length old.cells ≡ new.rows * new.columns =
     old_count.1 ∙ ap (λ k. k * old.columns) (eqb-true old.rows new.rows same.0)
     ∙ ap (λ k. new.rows * k) (eqb-true old.columns new.columns same.1) in
-    let all = takes_rows is new.rows new.columns new.rows 0 [] old.cells new.cells screen.cursor
-    new_count.0 (omega arith) (omega arith) old_size new_count.1 new_count.2 in
+    let all = takes_rows is new.rows new.columns new.rows 0 [] old.cells new.cells screen.cursor new_count.0
+    (omega arith) (omega arith) old_size new_count.1 new_count.2 in
     let begins : screen ≡ shown (characters_of old.cells) screen.cursor =
     ap (λ cs. record { characters = cs; cursor = screen.cursor; is_known = screen.is_known; begun = screen.begun })
     showing.shown ∙ ap (λ known. record {
       characters = characters_of old.cells;
       cursor = screen.cursor;
       is_known = known;
-      begun =
-          screen.begun;
+      begun = screen.begun;
     }) showing.known ∙ ap (λ begun. record {
       characters = characters_of old.cells;
       cursor = screen.cursor;
       is_known = true;
-      begun =
-          begun;
+      begun = begun;
     }) showing.whole in
     let bytes = rows_bytes is new.columns 1 new.rows old.cells new.cells in
     subst (λ (s : Screen). IsShowing (characters_of new.cells) s) (sym (ap (λ s. screen_after (make_of is new) s bytes)
@@ -242,8 +229,7 @@ blank_characters (suc n) = ap (λ characters. 32 ∷ characters) (blank_characte
 
 -- a display that was initialized and cleared shows blanks
 cleared_at_start : (is : DisplayProtocol) (rows columns : ℕ) (characters : List ℕ) (cursor : Option Place)
-    (known : Bool)
-    → IsShowing (replicate (rows * columns) 32) (screen_after (make_by is rows columns)
+    (known : Bool) → IsShowing (replicate (rows * columns) 32) (screen_after (make_by is rows columns)
     (record { characters = characters; cursor = cursor; is_known = known; begun = [] }) (27 ∷ 64 ∷ 12 ∷ []))
 cleared_at_start protocol.Cd5220 rows columns characters cursor known =
     record { shown = refl; known = refl; whole = refl }
@@ -264,8 +250,7 @@ starts_blank make screen whole =
       characters = screen.characters;
       cursor = screen.cursor;
       is_known = screen.is_known;
-      begun =
-          begun;
+      begun = begun;
     }) whole in
     subst (λ (characters : List ℕ). IsShowing characters (screen_after make screen (27 ∷ 64 ∷ 12 ∷ [])))
     (sym (blank_characters (make.rows * make.columns))) (subst (λ (s : Screen). IsShowing

@@ -34,9 +34,8 @@ power_taken false h = h
 
 -- the cover is as it was told then
 cover_taken : (shown : Bool) (r : Printer) (told : Option Bool) {new : Plant}
-    → TakesMaybe (moved_input input.CoverMoved shown told)
-    (on (mechanism.Printer (record r { is_cover_open = shown }))) new
-    → new ≡ on (mechanism.Printer (record r { is_cover_open = unwrap_or told shown }))
+    → TakesMaybe (moved_input input.CoverMoved shown told) (on (mechanism.Printer (record r { is_cover_open = shown })))
+    new → new ≡ on (mechanism.Printer (record r { is_cover_open = unwrap_or told shown }))
 cover_taken shown r None h = h
 cover_taken true r (Some true) h = h
 cover_taken true r (Some false) h = is_on h
@@ -52,8 +51,7 @@ lines_show sensors paper.NearEnd = ⊎_elim (λ (none : (sensors.near == 0) ≡ 
   none,
   ne_eqb sensors.lines 0 (λ e. omega (arith, sensors.more)),
   lt-leb sensors.lines sensors.near sensors.more,
-) refl)
-    (λ (some : (sensors.near == 0) ≡ false). rw (some, some, le-leb sensors.near sensors.near (omega arith)) refl)
+) refl) (λ (some : (sensors.near == 0) ≡ false). rw (some, some, le-leb sensors.near sensors.near (omega arith)) refl)
     (cases_Bool (sensors.near == 0))
 lines_show sensors paper.Empty = refl
 
@@ -96,9 +94,8 @@ paper_taken : (sensors : SensorSettings) (r : Printer) (told : Option PaperLevel
     → TakesMaybe (paper_input sensors (paper_level sensors.near r.left) told) (on (mechanism.Printer r)) new
     → HasPaper sensors.near r (level_after sensors.near (paper_level sensors.near r.left) told) new
 paper_taken sensors r None h = left_alone sensors r refl h
-paper_taken sensors r (Some level) h =
-    level_taken sensors (paper_level sensors.near r.left) (level_shown sensors.near level) refl
-    (lines_show sensors level) h
+paper_taken sensors r (Some level) h = level_taken sensors (paper_level sensors.near r.left)
+    (level_shown sensors.near level) refl (lines_show sensors level) h
 
 -- a printer shows what its sensors tell
 printer_shows : (sensors : SensorSettings) (chars : ℕ) (powered : Bool) (r : Printer) (status : Status) {new : Plant}
@@ -155,10 +152,9 @@ pub drawer_told : (sensors : SensorSettings) (old : Plant) {signs : Signs} (stat
     → IsPlantOf kind.Drawer old → signs_of kind.Drawer old ≡ signs
     → TakesAll (drawer_table sensors signs status) old new
     → signs_of kind.Drawer new ≡ drawer_signs_after sensors signs status
-drawer_told sensors old {signs} status new fits is h =
-    (elim old.mechanism as (λ its. IsPlantOf kind.Drawer (record { powered = old.powered; mechanism = its })
-    → signs_by old.powered kind.Drawer its ≡ signs
-    → TakesAll (drawer_table sensors signs status) (record { powered = old.powered; mechanism = its }) new
+drawer_told sensors old {signs} status new fits is h = (elim old.mechanism as
+    (λ its. IsPlantOf kind.Drawer (record { powered = old.powered; mechanism = its }) → signs_by old.powered kind.Drawer
+    its ≡ signs → TakesAll (drawer_table sensors signs status) (record { powered = old.powered; mechanism = its }) new
     → signs_of kind.Drawer new ≡ drawer_signs_after sensors signs status) [
       | mechanism.Drawer was ↦ (λ _ e taken. subst (λ (s : Signs). TakesAll (drawer_table sensors s status)
           (record { powered = old.powered; mechanism = mechanism.Drawer was }) new → signs_of kind.Drawer new

@@ -24,23 +24,19 @@ before_append (Some one) xs ys = refl
 
 -- a step before two readings
 after_joined : (step : Step) (x y : Reading) → after_step step (joined x y) ≡ joined (after_step step x) y
-after_joined step x y =
-    ap (λ replies. record {
-      replies = replies;
-      skipped = step.received.skipped + (x.skipped + y.skipped);
-      reader =
-          y.reader;
-    }) (before_append step.received.reply x.replies y.replies) ∙ ap (λ k. record {
-      replies = replies_before step.received.reply x.replies ++ y.replies;
-      skipped = k;
-      reader =
-          y.reader;
-    }) (omega arith)
+after_joined step x y = ap (λ replies. record {
+  replies = replies;
+  skipped = step.received.skipped + (x.skipped + y.skipped);
+  reader = y.reader;
+}) (before_append step.received.reply x.replies y.replies) ∙ ap (λ k. record {
+  replies = replies_before step.received.reply x.replies ++ y.replies;
+  skipped = k;
+  reader = y.reader;
+}) (omega arith)
 
 -- a stream may come in any pieces
-pub reads_pieces : (reader : Reader) (first next : List ℕ)
-    → reading_of reader (first ++ next) ≡ joined (reading_of reader first)
-    (reading_of (reading_of reader first).reader next)
+pub reads_pieces : (reader : Reader) (first next : List ℕ) → reading_of reader
+    (first ++ next) ≡ joined (reading_of reader first) (reading_of (reading_of reader first).reader next)
 reads_pieces reader [] next =
     let rest = reading_of reader next in
     ap (λ k. record { replies = rest.replies; skipped = k; reader = rest.reader }) (omega arith)
@@ -59,8 +55,8 @@ now_accounts None begun b reader = omega arith
 now_accounts (Some status) begun b reader = omega arith
 
 first_accounts : (begun : List ℕ) (b : ℕ) (reader : Reader) → Accounts (length begun) (first_received begun b reader)
-first_accounts begun b reader = elim (begins_status b || begins_job b) as (λ starts. Accounts (length begun)
-    (cond starts (reads_none (length begun) (b ∷ []) reader)
+first_accounts begun b reader = elim (begins_status b || begins_job b) as
+    (λ starts. Accounts (length begun) (cond starts (reads_none (length begun) (b ∷ []) reader)
     (cond (answers_now b) (now_received reader.asked_now begun b reader) (skips_all begun reader)))) [
       | true ↦ omega arith
       | false ↦ elim (answers_now b) as (λ answers. Accounts (length begun)
@@ -92,8 +88,8 @@ seven_told (a ∷ b ∷ c ∷ d ∷ e ∷ f ∷ g ∷ h ∷ more) is = let bad :
 
 size_told : (first : ℕ) (bytes : List ℕ) → length bytes ≡ reply_size first
     → bytes_told (whole_reply bytes) ≡ length bytes
-size_told first bytes = elim (begins_job first) as (λ is_job. length bytes ≡ cond is_job 7 4
-    → bytes_told (whole_reply bytes) ≡ length bytes) [
+size_told first bytes = elim (begins_job first) as
+    (λ is_job. length bytes ≡ cond is_job 7 4 → bytes_told (whole_reply bytes) ≡ length bytes) [
       | true ↦ (λ is. seven_told bytes is ∙ sym is)
       | false ↦ (λ is. four_told bytes is ∙ sym is)
     ]
@@ -101,17 +97,16 @@ size_told first bytes = elim (begins_job first) as (λ is_job. length bytes ≡ 
 continued_accounts : (begun : List ℕ) (first b : ℕ) (reader : Reader)
     → Accounts (length begun) (continued begun first b reader)
 continued_accounts begun first b reader = ⊎_elim (λ (whole : (length begun + 1 == reply_size first) ≡ true).
-    let size = size_told first (begun ++ b ∷ [])
-    (simp length-append (eqb-true (length begun + 1) (reply_size first) whole)) in
+    let size =
+    size_told first (begun ++ b ∷ []) (simp length-append (eqb-true (length begun + 1) (reply_size first) whole)) in
     rw whole (omega (arith, size, length-append begun (b ∷ []))))
     (λ (more : (length begun + 1 == reply_size first) ≡ false). rw more (omega (arith, length-append begun (b ∷ []))))
     (cases_Bool (length begun + 1 == reply_size first))
 
 lone_accounts : (asked : Option OrderStatus) (b : ℕ) (reader : Reader) → Accounts 0 (lone_received asked b reader)
 lone_accounts None b reader = refl
-lone_accounts (Some status) b reader = elim (is_plain b) as (λ plain. Accounts 0
-    (cond plain (reads_reply 0 (reply.InOrder status (order_status status b)) (record reader { asked_in_order = None }))
-    (skips_all [] reader))) [
+lone_accounts (Some status) b reader = elim (is_plain b) as (λ plain. Accounts 0 (cond plain (reads_reply 0
+    (reply.InOrder status (order_status status b)) (record reader { asked_in_order = None })) (skips_all [] reader))) [
       | true ↦ refl
       | false ↦ refl
     ]
@@ -139,8 +134,8 @@ before_bytes None replies = omega arith
 before_bytes (Some one) replies = refl
 
 pub counts_all : (reader : Reader) (bytes : List ℕ)
-    → (reading_of reader bytes).skipped + bytes_of_replies (reading_of reader bytes).replies + length
-    (reading_of reader bytes).reader.begun ≡ length reader.begun + length bytes
+    → (reading_of reader bytes).skipped + bytes_of_replies (reading_of reader bytes).replies
+    + length (reading_of reader bytes).reader.begun ≡ length reader.begun + length bytes
 counts_all reader [] = omega arith
 counts_all reader (b ∷ bytes) =
     let step = byte_received reader b in
@@ -206,8 +201,7 @@ kept_none_first (false ∷ which) (b ∷ bytes) h =
 
 -- what begins a long reply is a first byte
 long_first : (b : ℕ) → (begins_status b || begins_job b) ≡ true → is_first b ≡ true
-long_first b h = ⊎_elim
-    (λ (status : begins_status b ≡ true). status_is_first b status)
+long_first b h = ⊎_elim (λ (status : begins_status b ≡ true). status_is_first b status)
     (λ (other : begins_status b ≡ false).
     let job : begins_job b ≡ true = rw other at h in
     let is : b ≡ 55 = eqb-true b 55 job in
@@ -245,16 +239,19 @@ lost_gives_none reader (first ∷ more) (false ∷ which) none idle long lost =
 -- the bytes of an acknowledgement and of an automatic status are such
 pub job_is_long : (number : ℕ) → number < 65536 → is_long_reply (job_reply number) ≡ true
 unfolding IsCharacter
-job_is_long number less =
-    rw (
-      (job_character (number / 4096) (omega arith)).0,
-      (job_character (number / 256 % 16) (omega arith)).0,
-      (job_character (number / 16 % 16) (omega arith)).0,
-      (job_character (number % 16) (omega arith)).0,
-    ) refl
+job_is_long number less = rw (
+  (job_character (number / 4096) (omega arith)).0,
+  (job_character (number / 256 % 16) (omega arith)).0,
+  (job_character (number / 16 % 16) (omega arith)).0,
+  (job_character (number % 16) (omega arith)).0,
+) refl
 
 pub status_is_long : (a b c d : ℕ) → begins_status a ≡ true → is_plain b ≡ true → is_plain c ≡ true → is_plain d ≡ true
     → is_long_reply (a ∷ b ∷ c ∷ d ∷ []) ≡ true
-status_is_long a b c d begins second third fourth =
-    rw (begins, status_not_job a begins, plain_not_first b second, plain_not_first c third, plain_not_first d fourth)
-    refl
+status_is_long a b c d begins second third fourth = rw (
+  begins,
+  status_not_job a begins,
+  plain_not_first b second,
+  plain_not_first c third,
+  plain_not_first d fourth,
+) refl

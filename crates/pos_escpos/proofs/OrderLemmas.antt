@@ -74,22 +74,18 @@ escape_plain bs =
 
 after_escape_plain : (bs : List ℕ) → are_plain (reading_after_escape bs).pieces ≡ true
 after_escape_plain [] = refl
-after_escape_plain (b ∷ bs) = elim (b == 124) as (λ bar. are_plain (cond {A = Reading} bar (escape_sequence bs)
-    (record { pieces = []; more = 0 })).pieces ≡ true) [
+after_escape_plain (b ∷ bs) = elim (b == 124) as
+    (λ bar. are_plain (cond {A = Reading} bar (escape_sequence bs) (record { pieces = []; more = 0 })).pieces ≡ true) [
       | true ↦ escape_plain bs
       | false ↦ refl
     ]
 
 -- what a byte of a text stands for is plain
 byte_plain : (b : ℕ) (bs : List ℕ) → is_printable_byte b ≡ true → are_plain (reading_at b bs).pieces ≡ true
-byte_plain b bs ok = ⊎_elim
-    (λ (esc : (b == 27) ≡ true). rw esc (after_escape_plain bs))
-    (λ (no_esc : (b == 27) ≡ false). ⊎_elim
-    (λ (feed : (b == 10) ≡ true). rw (no_esc, feed) refl)
-    (λ (no_feed : (b == 10) ≡ false). ⊎_elim
-    (λ (return : (b == 13) ≡ true).
-    rw (no_esc, no_feed, return) (either (starts_with (λ next. next == 10) bs) [] (piece.Return ∷ []) refl refl))
-    (λ (no_return : (b == 13) ≡ false).
+byte_plain b bs ok = ⊎_elim (λ (esc : (b == 27) ≡ true). rw esc (after_escape_plain bs))
+    (λ (no_esc : (b == 27) ≡ false). ⊎_elim (λ (feed : (b == 10) ≡ true). rw (no_esc, feed) refl)
+    (λ (no_feed : (b == 10) ≡ false). ⊎_elim (λ (return : (b == 13) ≡ true). rw (no_esc, no_feed, return)
+    (either (starts_with (λ next. next == 10) bs) [] (piece.Return ∷ []) refl refl)) (λ (no_return : (b == 13) ≡ false).
     let within : (nat_le 32 b && nat_le b 126) ≡ true = rw (no_feed, no_return, no_esc) at ok in
     rw (no_esc, no_feed, no_return, within) refl) (cases_Bool (b == 13))) (cases_Bool (b == 10))) (cases_Bool (b == 27))
 
@@ -139,14 +135,14 @@ chunks_fit zero chars columns segment most some within fine = record {
   fits = record { items = refl; buffer = characters_plain segment fine };
   short = simp length-map (omega arith);
 }
-chunks_fit (suc most) chars columns segment le some within fine = ⊎_elim
-    (λ (all : nat_le (length segment) chars ≡ true). rw all (record {
+chunks_fit (suc most) chars columns segment le some within fine =
+    ⊎_elim (λ (all : nat_le (length segment) chars ≡ true). rw all (record {
       fits = record { items = refl; buffer = characters_plain segment fine };
       short = simp length-map (leb-true (length segment) chars all);
     })) (λ (more : nat_le (length segment) chars ≡ false).
     let parts = parts_plain chars segment fine in
-    let rest = chunks_fit most chars columns (drop chars segment)
-    (simp length-drop (omega arith)) some within parts.1 in
+    let rest =
+    chunks_fit most chars columns (drop chars segment) (simp length-drop (omega arith)) some within parts.1 in
     let front = characters_of (take chars segment) in
     let a = first_alignment (drop chars segment) in
     rw more (record {
@@ -170,8 +166,7 @@ lines_fit chars {columns} at_end segment some within fine =
 begun_fit : {chars columns : ℕ} (at_end : Alignment) (segment : List SegmentCharacter) → 1 ≤ chars → chars ≤ columns
     → is_plain_segment segment ≡ true → all_fit columns (lines_if_begun chars at_end segment) ≡ true
 begun_fit at_end [] some within fine = refl
-begun_fit {chars} at_end (s ∷ segment) some within fine =
-    lines_fit chars at_end (s ∷ segment) some within fine
+begun_fit {chars} at_end (s ∷ segment) some within fine = lines_fit chars at_end (s ∷ segment) some within fine
 
 after_fit : {columns : ℕ} (items : List Item) {made : Printout} → all_fit columns items ≡ true
     → FitsPrinter columns made → FitsPrinter columns (after_items items made)
@@ -192,8 +187,8 @@ neutral = plain
 
 -- what plain pieces make fits
 pub pieces_fit : {chars columns : ℕ} (style : Style) (segment : List SegmentCharacter) (ps : List Piece) → 1 ≤ chars
-    → chars ≤ columns
-    → is_plain_segment segment ≡ true → are_plain ps ≡ true → FitsPrinter columns (printed_from chars style segment ps)
+    → chars ≤ columns → is_plain_segment segment ≡ true → are_plain ps ≡ true
+    → FitsPrinter columns (printed_from chars style segment ps)
 pieces_fit {chars} {columns} style segment [] some within fine ok =
     (chunks_fit (length segment) chars columns segment (omega arith) some within fine).fits
 pieces_fit style segment (piece.Character byte ∷ ps) some within fine ok =
@@ -214,16 +209,13 @@ pieces_fit style segment (piece.Bold ∷ ps) some within fine ok =
     pieces_fit (record style { is_bold = true }) segment ps some within fine ok
 pieces_fit style segment (piece.Align to ∷ ps) some within fine ok =
     pieces_fit (record style { alignment = to }) segment ps some within fine ok
-pieces_fit style segment (piece.Normal ∷ ps) some within fine ok =
-    pieces_fit neutral segment ps some within fine ok
-pieces_fit style segment (piece.OutOfRange ∷ ps) some within fine ok =
-    pieces_fit style segment ps some within fine ok
+pieces_fit style segment (piece.Normal ∷ ps) some within fine ok = pieces_fit neutral segment ps some within fine ok
+pieces_fit style segment (piece.OutOfRange ∷ ps) some within fine ok = pieces_fit style segment ps some within fine ok
 
 -- what plain pieces make behind a line buffer of characters fits
 pub request_fits : {chars columns : ℕ} (buffer : List PrintedCharacter) (ps : List Piece) → 1 ≤ chars → chars ≤ columns
     → list_all is_character buffer ≡ true → are_plain ps ≡ true → FitsPrinter columns (printed_by chars buffer ps)
-request_fits buffer ps some within fine ok =
-    pieces_fit neutral (begun_segment buffer) ps some within
+request_fits buffer ps some within fine ok = pieces_fit neutral (begun_segment buffer) ps some within
     (list_all-map (λ (s : SegmentCharacter). is_character s.character)
     (λ (c : PrintedCharacter). record { character = c; alignment = alignment.Left }) buffer ∙ fine) ok
 

@@ -25,19 +25,16 @@ at_line press paper line alignment is_bold =
 
 -- a character within the line is put into the line buffer
 takes_character : (width b : ℕ) (press : Press) (paper : List OnPaper) (line : List PrintedCharacter) (a : Alignment)
-    (bold : Bool)
-    → 32 ≤ b → length line < width
-    → takes width (at_line press paper line a bold) b ≡ at_line press paper
-    (line ++ record { byte = b; is_bold = bold } ∷ []) a bold
-takes_character width b press paper line a bold le room =
-    rw (
-      ne_eqb b 27 (λ e. omega arith),
-      ne_eqb b 29 (λ e. omega arith),
-      ne_eqb b 16 (λ e. omega arith),
-      ne_eqb b 10 (λ e. omega arith),
-      le-leb 32 b le,
-      ne_eqb (length line) width (λ e. omega arith),
-    ) refl
+    (bold : Bool) → 32 ≤ b → length line < width → takes width (at_line press paper line a bold) b
+    ≡ at_line press paper (line ++ record { byte = b; is_bold = bold } ∷ []) a bold
+takes_character width b press paper line a bold le room = rw (
+  ne_eqb b 27 (λ e. omega arith),
+  ne_eqb b 29 (λ e. omega arith),
+  ne_eqb b 16 (λ e. omega arith),
+  ne_eqb b 10 (λ e. omega arith),
+  le-leb 32 b le,
+  ne_eqb (length line) width (λ e. omega arith),
+) refl
 
 -- where bold changes, it is changed
 takes_bold : (width : ℕ) (press : Press) (paper : List OnPaper) (line : List PrintedCharacter) (a : Alignment)
@@ -50,8 +47,7 @@ takes_bold width press paper line a false false = refl
 
 -- the characters of a line are in the line buffer then, and bold is off
 takes_run : (width : ℕ) (press : Press) (paper : List OnPaper) (line : List PrintedCharacter) (a : Alignment)
-    (was : Bool) (cs : List PrintedCharacter)
-    → list_all is_character cs ≡ true → length line + length cs ≤ width
+    (was : Bool) (cs : List PrintedCharacter) → list_all is_character cs ≡ true → length line + length cs ≤ width
     → press_after width (at_line press paper line a was) (run_bytes was cs) ≡ at_line press paper (line ++ cs) a false
 takes_run width press paper line a was [] fit room =
     takes_bold width press paper line a was false ∙ ap (λ l. at_line press paper l a false) (sym (append-nil line))
@@ -66,21 +62,18 @@ takes_run width press paper line a was (c ∷ cs) fit room =
     (λ l. at_line press paper l a false) (append_assoc line (c ∷ []) cs)
 
 -- the alignment is set at the beginning of the line
-takes_alignment : (width : ℕ) (press : Press) (paper : List OnPaper) (before a : Alignment)
-    → press_after width (at_line press paper [] before false) (27 ∷ 97 ∷ alignment_number_of a ∷ [])
-    ≡ at_line press paper [] a false
+takes_alignment : (width : ℕ) (press : Press) (paper : List OnPaper) (before a : Alignment) → press_after width
+    (at_line press paper [] before false) (27 ∷ 97 ∷ alignment_number_of a ∷ []) ≡ at_line press paper [] a false
 takes_alignment width press paper before alignment.Left = refl
 takes_alignment width press paper before alignment.Center = refl
 takes_alignment width press paper before alignment.Right = refl
 
 -- a line is on the paper then
 takes_line : (width : ℕ) (press : Press) (paper : List OnPaper) (before a : Alignment) (cs : List PrintedCharacter)
-    → list_all is_character cs ≡ true → length cs ≤ width
-    → press_after width (at_line press paper [] before false) (line_bytes a cs) ≡ at_line press
-    (paper ++ PrintedLine a cs ∷ []) [] a false
-takes_line width press paper before a cs fit room =
-    fold-append (takes width) (at_line press paper [] before false) (27 ∷ 97 ∷ alignment_number_of a ∷ [])
-    (run_bytes false cs ++ 10 ∷ [])
+    → list_all is_character cs ≡ true → length cs ≤ width → press_after width (at_line press paper [] before false)
+    (line_bytes a cs) ≡ at_line press (paper ++ PrintedLine a cs ∷ []) [] a false
+takes_line width press paper before a cs fit room = fold-append (takes width) (at_line press paper [] before false)
+    (27 ∷ 97 ∷ alignment_number_of a ∷ []) (run_bytes false cs ++ 10 ∷ [])
     ∙ ap (λ p. fold (takes width) p (run_bytes false cs ++ 10 ∷ [])) (takes_alignment width press paper before a)
     ∙ fold-append (takes width) (at_line press paper [] a false) (run_bytes false cs) (10 ∷ [])
     ∙ ap (λ p. takes width p 10) (takes_run width press paper [] a false cs fit (omega arith))
@@ -89,8 +82,8 @@ takes_line width press paper before a cs fit room =
 takes_cut : (width : ℕ) (press : Press) (paper : List OnPaper) (a : Alignment) (way : Cutter) (feed n : ℕ)
     → press_after width (at_line press paper [] a false) (cut_bytes way feed n) ≡ at_line press
     (paper ++ cut_on_paper way feed n ∷ []) [] a false
-takes_cut width press paper a cutter.Both feed n = elim (n == 100) as (λ full.
-    press_after width (at_line press paper [] a false) (29 ∷ 86 ∷ cond full 65 66 ∷ feed ∷ [])
+takes_cut width press paper a cutter.Both feed n = elim (n == 100) as
+    (λ full. press_after width (at_line press paper [] a false) (29 ∷ 86 ∷ cond full 65 66 ∷ feed ∷ [])
     ≡ at_line press (paper ++ CutThrough full (Some feed) ∷ []) [] a false) [ true ↦ refl | false ↦ refl ]
 takes_cut width press paper a cutter.Full feed n = refl
 takes_cut width press paper a cutter.Partial feed n = refl
@@ -103,17 +96,15 @@ alignment_after now (CutAt n) = now
 
 -- an item is on the paper then
 takes_item : (width : ℕ) {columns : ℕ} (press : Press) (paper : List OnPaper) (now : Alignment) (cut : CutSettings)
-    (item : Item)
-    → columns ≤ width → item_fits columns item ≡ true
-    → press_after width (at_line press paper [] now false) (item_bytes cut item)
-    ≡ at_line press (paper ++ on_paper cut item ∷ []) [] (alignment_after now item) false
+    (item : Item) → columns ≤ width → item_fits columns item ≡ true
+    → press_after width (at_line press paper [] now false) (item_bytes cut item) ≡ at_line press
+    (paper ++ on_paper cut item ∷ []) [] (alignment_after now item) false
 unfolding alignment_after
 takes_item width {columns} press paper now cut (Line a cs) within fit =
     let parts = and_parts (nat_le (length cs) columns) (list_all is_character cs) fit in
     let most = leb-true (length cs) columns parts.0 in
     takes_line width press paper now a cs parts.1 (omega arith)
-takes_item width press paper now cut (CutAt n) within fit =
-    takes_cut width press paper now cut.cutter cut.feed n
+takes_item width press paper now cut (CutAt n) within fit = takes_cut width press paper now cut.cutter cut.feed n
 
 -- the alignment in force after items
 alignment_at_end : Alignment → List Item → Alignment
@@ -122,13 +113,11 @@ alignment_at_end now (item ∷ items) = alignment_at_end (alignment_after now it
 
 -- all items are on the paper then
 takes_items : {width columns : ℕ} (press : Press) (paper : List OnPaper) (now : Alignment) (cut : CutSettings)
-    (items : List Item)
-    → columns ≤ width → all_fit columns items ≡ true
-    → press_after width (at_line press paper [] now false) (items_bytes cut items)
-    ≡ at_line press (paper ++ all_on_paper cut items) [] (alignment_at_end now items) false
+    (items : List Item) → columns ≤ width → all_fit columns items ≡ true
+    → press_after width (at_line press paper [] now false) (items_bytes cut items) ≡ at_line press
+    (paper ++ all_on_paper cut items) [] (alignment_at_end now items) false
 unfolding alignment_at_end
-takes_items press paper now cut [] within fit =
-    ap (λ p. at_line press p [] now false) (sym (append-nil paper))
+takes_items press paper now cut [] within fit = ap (λ p. at_line press p [] now false) (sym (append-nil paper))
 takes_items {width} {columns} press paper now cut (item ∷ items) within fit =
     let parts = and_parts (item_fits columns item) (all_fit columns items) fit in
     ap (press_after width (at_line press paper [] now false)) (flat_map-cons (item_bytes cut) item items) ∙ fold-append
@@ -140,9 +129,9 @@ takes_items {width} {columns} press paper now cut (item ∷ items) within fit =
 
 -- a ready printer is at the beginning of a line
 pub at_start : (press : Press) → IsReady press → press ≡ at_line press press.paper [] press.alignment false
-at_start press ready =
-    ap (λ begun. record press { begun = begun }) ready.whole ∙ ap (λ bold. record press { is_bold = bold; begun = [] })
-    ready.not_bold ∙ ap (λ line. record press { line = line; is_bold = false; begun = [] }) ready.line
+at_start press ready = ap (λ begun. record press { begun = begun }) ready.whole
+    ∙ ap (λ bold. record press { is_bold = bold; begun = [] }) ready.not_bold
+    ∙ ap (λ line. record press { line = line; is_bold = false; begun = [] }) ready.line
 
 -- from a ready printer all items are printed, and nothing else is done
 pub prints_items : (width : ℕ) {columns : ℕ} (cut : CutSettings) (items : List Item) → columns ≤ width

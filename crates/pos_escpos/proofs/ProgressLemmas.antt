@@ -25,14 +25,12 @@ items_behind (mark.Line a n ∷ marks) characters (Line b line ∷ before) {adde
     let same : line ≡ take n characters = cc in
     let rest : items_from marks (drop n characters) ≡ before ++ added = cc in
     let dropped : drop (length line + line_characters before) characters ≡ drop (line_characters before)
-    (drop n characters) =
-    sym (drop-drop (line_characters before) (length line) characters)
+    (drop n characters) = sym (drop-drop (line_characters before) (length line) characters)
     ∙ ap (drop (line_characters before)) (ap (λ l. drop (length l) characters) same ∙ drop_taken n characters) in
     ap (items_from (drop (length before) marks)) dropped ∙ items_behind marks (drop n characters) before rest
 items_behind (mark.Line a n ∷ marks) characters (CutAt m ∷ before) is = let bad : ⊥ = cc in absurd bad
 items_behind (mark.Cut n ∷ marks) characters (Line b line ∷ before) is = let bad : ⊥ = cc in absurd bad
-items_behind (mark.Cut n ∷ marks) characters (CutAt m ∷ before) is =
-    items_behind marks characters before cc
+items_behind (mark.Cut n ∷ marks) characters (CutAt m ∷ before) is = items_behind marks characters before cc
 
 -- as many items as marks
 pub as_many : (marks : List Mark) (characters : List PrintedCharacter)

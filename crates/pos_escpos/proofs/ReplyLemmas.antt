@@ -14,8 +14,7 @@ use Rattle.pos_escpos.specs.Replies.{job_reply, now_status, order_status, readin
 
 -- the same bit 4, seen through a mask that has it
 seen_through : (mask value b : ℕ) → bit_and mask 16 ≡ 16 → bit_and b mask ≡ value → bit_and b 16 ≡ bit_and value 16
-seen_through mask value b has is =
-    sym (ap (bit_and b) has) ∙ sym (and_assoc 16 b mask) ∙ ap (λ v. bit_and v 16) is
+seen_through mask value b has is = sym (ap (bit_and b) has) ∙ sym (and_assoc 16 b mask) ∙ ap (λ v. bit_and v 16) is
 
 pub status_is_first : (b : ℕ) → begins_status b ≡ true → is_first b ≡ true
 status_is_first b begins = rw (seen_through 147 16 b refl (eqb-true (bit_and b 147) 16 begins)) refl
@@ -103,9 +102,8 @@ reads_now reader asked b is answers =
 
 -- a reply to GS r is read, where one was asked for
 pub reads_in_order : (reader : Reader) (asked : OrderStatus) (b : ℕ) → reader.asked_in_order ≡ Some asked
-    → reader.begun ≡ [] → is_plain b ≡ true
-    → ReadsOne reader (reply.InOrder asked (order_status asked b)) (record reader { asked_in_order = None })
-    (reading_of reader (b ∷ []))
+    → reader.begun ≡ [] → is_plain b ≡ true → ReadsOne reader (reply.InOrder asked (order_status asked b))
+    (record reader { asked_in_order = None }) (reading_of reader (b ∷ []))
 reads_in_order reader asked b is none plain =
     let told = reply.InOrder asked (order_status asked b) in
     let next = record reader { asked_in_order = None } in

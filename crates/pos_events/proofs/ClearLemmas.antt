@@ -72,11 +72,9 @@ input_data_stays : (events : List Enqueued)
 input_data_stays [] = refl
 input_data_stays (event ∷ events) = grind (arith, input_data_stays events)
 
-stays : (in_error : Bool) (scans : List Scan) (immediate : List PlacedEvent)
-    → filter is_kept (weave (waiting_in scans in_error) immediate) ≡ weave (waiting_in scans in_error)
-    (without_errors 0 immediate)
-stays in_error scans immediate =
-    errors_woven (waiting_in scans in_error) immediate 0
+stays : (in_error : Bool) (scans : List Scan) (immediate : List PlacedEvent) → filter is_kept
+    (weave (waiting_in scans in_error) immediate) ≡ weave (waiting_in scans in_error) (without_errors 0 immediate)
+stays in_error scans immediate = errors_woven (waiting_in scans in_error) immediate 0
     (All-weaker IsWaiting IsKept (λ event w. grind arith) (waiting_in scans in_error) (all_wait scans in_error))
 
 pub errors_deleted : (input_data in_error : Bool) (scans : List Scan) (immediate after : List PlacedEvent)

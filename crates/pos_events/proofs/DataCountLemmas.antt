@@ -19,8 +19,8 @@ count_weave : (waiting : List Enqueued) (immediate : List PlacedEvent)
 count_weave waiting [] = refl
 count_weave waiting (placed ∷ immediate) =
     let rest = drop placed.before waiting in
-    let parts = sum_by-append worth (take placed.before waiting)
-    (event_of_immediate placed.event ∷ weave rest immediate) in
+    let parts =
+    sum_by-append worth (take placed.before waiting) (event_of_immediate placed.event ∷ weave rest immediate) in
     grind (
       arith,
       parts,

@@ -52,8 +52,9 @@ left_with_input_data (event ∷ events) = grind (arith, left_with_input_data eve
 
 -- the waiting events before an event and those before them, as one part
 pub regroup : (waiting : List Enqueued) (immediate : List PlacedEvent) (count before : ℕ) (event : Enqueued)
-    → take count waiting ++ (take before (drop count waiting) ++ event ∷ weave (drop before (drop count waiting))
-    immediate) ≡ take (count + before) waiting ++ event ∷ weave (drop (count + before) waiting) immediate
+    → take count
+    waiting ++ (take before (drop count waiting) ++ event ∷ weave (drop before (drop count waiting)) immediate)
+    ≡ take (count + before) waiting ++ event ∷ weave (drop (count + before) waiting) immediate
 regroup waiting immediate count before event =
     rw (take-add count before waiting, ← drop-drop before count waiting, append_assoc)
 
@@ -80,12 +81,11 @@ left_woven waiting (placed ∷ immediate) w =
 pub deliverable_told : (input_data in_error : Bool) (scans : List Scan) (immediate : List PlacedEvent)
     → (split false (events_in input_data (waiting_in scans in_error) immediate)).deliverable
     ≡ option_map event_of_immediate (first_immediate immediate)
-deliverable_told input_data in_error scans immediate =
-    grind (
-      arith,
-      deliverable_with_input_data,
-      deliverable_woven (waiting_in scans in_error) immediate (all_wait scans in_error),
-    )
+deliverable_told input_data in_error scans immediate = grind (
+  arith,
+  deliverable_with_input_data,
+  deliverable_woven (waiting_in scans in_error) immediate (all_wait scans in_error),
+)
 
 pub left_by_told : (input_data in_error : Bool) (scans : List Scan) (immediate : List PlacedEvent)
     → left_by false (events_in input_data (waiting_in scans in_error) immediate) ≡ events_in input_data
@@ -115,9 +115,8 @@ waiting_first scan scans in_error = grind arith
 
 -- EL_INPUT_DATA is the first
 pub first_is_input_data : (input_data in_error no_scans : Bool) (scans : List Scan) (immediate : List PlacedEvent)
-    (behind count : ℕ)
-    → Fits input_data in_error scans immediate behind → first_waiting input_data no_scans ≡ waiting.InputData
-    → count ≡ before_first immediate behind → count ≢ 0
+    (behind count : ℕ) → Fits input_data in_error scans immediate behind
+    → first_waiting input_data no_scans ≡ waiting.InputData → count ≡ before_first immediate behind → count ≢ 0
     → events_in input_data (waiting_in scans in_error) immediate ≡ input_error locus.InputData ∷ events_in false
     (waiting_in scans in_error) immediate
 first_is_input_data input_data in_error no_scans [] immediate behind count fits kind is some = grind (arith, fits.held)
@@ -126,8 +125,7 @@ first_is_input_data input_data in_error no_scans (scan ∷ scans) immediate behi
 
 -- a DataEvent is the first
 pub first_is_data : (input_data in_error : Bool) (scan : Scan) (scans rest : List Scan) (immediate : List PlacedEvent)
-    (behind count : ℕ) → input_data ≡ false
-    → scans ≡ scan ∷ rest → count ≡ before_first immediate behind → count ≢ 0
+    (behind count : ℕ) → input_data ≡ false → scans ≡ scan ∷ rest → count ≡ before_first immediate behind → count ≢ 0
     → events_in input_data (waiting_in scans in_error) immediate ≡ Data scan ∷ weave (waiting_in rest in_error)
     (one_less immediate)
 first_is_data input_data in_error scan scans rest immediate behind count e s is some =

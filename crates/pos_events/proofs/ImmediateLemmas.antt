@@ -51,10 +51,9 @@ removing_kept {placed} carried r e stays =
 
 -- the next is deleted
 pub removing_error : {start rest now more : List PlacedEvent} {first placed : PlacedEvent} {carried : ℕ}
-    → Removing start (first ∷ rest) carried now
-    → now ≡ placed ∷ more → is_error placed.event ≡ true → Removing start rest (carried + placed.before) more
-removing_error r e goes =
-    record { done = r.done; parts = grind arith; same = grind arith; counted = grind arith }
+    → Removing start (first ∷ rest) carried now → now ≡ placed ∷ more → is_error placed.event ≡ true
+    → Removing start rest (carried + placed.before) more
+removing_error r e goes = record { done = r.done; parts = grind arith; same = grind arith; counted = grind arith }
 
 -- while some are to be looked at, there are some
 pub removing_some : {start rest now : List PlacedEvent} {carried : ℕ} → Removing start rest carried now

@@ -60,8 +60,8 @@ module _ {F : Type 0} (calls : F → List Call) (before : List Call) (start now 
         (shows whole at out now (λ all. exact (ap is_fault is ∙ no_fault whole all)), refl)
 
     pub write_follows : (at : ℕ) (bytes put : List ℕ) → FileWrites calls old new at bytes answer
-        → length put ≡ length bytes
-        → (is_fault answer ≡ false → put ≡ bytes) → Follows calls before start new.file (written at put now)
+        → length put ≡ length bytes → (is_fault answer ≡ false → put ≡ bytes)
+        → Follows calls before start new.file (written at put now)
     write_follows at bytes put writes fits exact =
         let (moved, asks, same, is) = asked _ _ old.has_failed sound writes in
         let whole = is_whole (length bytes) moved in

@@ -9,8 +9,8 @@ use Rattle.std.proofs.lemmas.Grind.{common_steps}
 
 -- sound images are ready: at rest a crash leaves the current image and its log
 pub ready : {D : Type 0} (bound : Ghosts D) (images : View D) → 327680 ≤ bound.size images.disk
-    → images.sequence < 2 ^ 64
-    → (bound.honest images.disk → IsSound (bound.state images.disk) images) → IsReady bound images
+    → images.sequence < 2 ^ 64 → (bound.honest images.disk → IsSound (bound.state images.disk) images)
+    → IsReady bound images
 ready bound images large counted sound =
     let here = λ (honest : bound.honest images.disk). image_here (sound honest).current in grind (arith, rest_leaves)
 

@@ -24,8 +24,7 @@ kept_sequence same slot whole outside =
 
 -- with its gate
 pub kept_head : {old new : List ℕ} {at n : ℕ} → SameBut at n old new → (slot : Slot) → 327680 ≤ length old
-    → ((i : ℕ) → InRange (start slot) 13 i → ¬ (InRange at n i))
-    → (is_open new (start slot) ≡ is_open old (start slot))
+    → ((i : ℕ) → InRange (start slot) 13 i → ¬ (InRange at n i)) → (is_open new (start slot) ≡ is_open old (start slot))
     × (sequence_at new (start slot) ≡ sequence_at old (start slot))
 kept_head same slot whole outside = (
   kept_gate same (start slot) (outside (start slot) (omega arith)),
@@ -46,10 +45,10 @@ unfolding length_at body_at
 kept_body {old} {new} {slot} same whole outside has =
     let here = places slot in
     let fits = has.fits in
-    let long = ap (from_be_bytes w32)
-    (kept_part same (start slot + 9) 4 (omega arith) (λ i inside. outside i (omega arith))) in
-    let behind = kept_part same (start slot + 13) (length_at old (start slot)) (omega arith)
-    (λ i inside. outside i (omega arith)) in
+    let long =
+    ap (from_be_bytes w32) (kept_part same (start slot + 9) 4 (omega arith) (λ i inside. outside i (omega arith))) in
+    let behind =
+    kept_part same (start slot + 13) (length_at old (start slot)) (omega arith) (λ i inside. outside i (omega arith)) in
     let number = kept_sequence same slot whole (λ i inside. outside i (omega arith)) in
     grind arith
 
@@ -74,8 +73,7 @@ first_here bytes shut shut_too = rw (shut, shut_too)
 -- the layout stays while a slot of it is open, where none of layout 2 is opened beside one of layout 1
 layout_stays : (old new : List ℕ) (slot : Slot) → layout_on old ≡ layout_of slot → is_open new (start slot) ≡ true
     → (layout_of slot ≡ Layout1 → (s : Slot) → layout_of s ≡ Layout2 → is_open new (start s) ≡ true
-    → is_open old (start s) ≡ true)
-    → layout_on new ≡ layout_of slot
+    → is_open old (start s) ≡ true) → layout_on new ≡ layout_of slot
 unfolding layout_on
 layout_stays old new slot was opened kept =
     let third = λ (first : layout_of slot ≡ Layout1). kept first Third refl in
@@ -122,8 +120,8 @@ stage_current {slot} apart current stages =
 
 -- and open, the new image is the current one
 pub published : {slot : Slot} {it : Prepared} {old new body : List ℕ} {sequence : ℕ} → IsCurrent old slot body sequence
-    → HasPrepared old slot sequence it
-    → SameBut (start it.slot) 1 old new → is_open new (start it.slot) ≡ true → IsCurrent new it.slot it.body it.sequence
+    → HasPrepared old slot sequence it → SameBut (start it.slot) 1 old new → is_open new (start it.slot) ≡ true
+    → IsCurrent new it.slot it.body it.sequence
 unfolding layout_on
 published {slot} {it} {old} {new} {sequence} current prepared same opened =
     let was : HasBody old it.slot it.body it.sequence = assumption in
@@ -186,12 +184,11 @@ current_chosen {slot} {bytes} current = grind arith
 -- the bytes stand for the current image
 pub current_stands : {slot : Slot} {bytes body : List ℕ} {sequence : ℕ} → IsCurrent bytes slot body sequence
     → ShowsImage (layout_of slot) body sequence bytes
-current_stands {slot} {bytes} current =
-    chosen_stands bytes slot current.whole (current_chosen current) ∙ rw (
-      le-leb (length_at bytes (start slot)) (longest (layout_of slot)) current.fits,
-      current.body_is,
-      current.sequence_is,
-    )
+current_stands {slot} {bytes} current = chosen_stands bytes slot current.whole (current_chosen current) ∙ rw (
+  le-leb (length_at bytes (start slot)) (longest (layout_of slot)) current.fits,
+  current.body_is,
+  current.sequence_is,
+)
 
 -- what was found, with its body
 pub found_current : {slot : Slot} {bytes body : List ℕ} {sequence size : ℕ} → 327680 ≤ length bytes

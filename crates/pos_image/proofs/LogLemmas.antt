@@ -18,8 +18,8 @@ image_here current = record { image = current_stands current; log = refl }
 
 -- what happens to another slot leaves the log
 pub kept_image : {slot target : Slot} {old new body : List ℕ} {sequence : ℕ} → IsApart slot target
-    → IsCurrent old slot body sequence
-    → Stages target old new → HasImage (layout_of slot) body sequence (log_of old) new
+    → IsCurrent old slot body sequence → Stages target old new
+    → HasImage (layout_of slot) body sequence (log_of old) new
 kept_image {slot} apart was stages =
     let is = stage_current apart was stages in
     let here = places slot in

@@ -46,16 +46,14 @@ module _ {slot : Slot} {loose : ℕ → Type 0} {old c : List ℕ} (aside : IsAs
   -- and elsewhere as they were left
   mended_elsewhere : (i : ℕ) → ¬ (InRange (log_start slot) (log_size (layout_of slot)) i)
       → get_or mended i 0 ≡ get_or c i 0
-  mended_elsewhere i outside =
-      splice_elsewhere c (part (log_start slot) (log_size (layout_of slot)) old) (log_start slot) i room
-      (λ hit. outside (omega (arith, span_is)))
+  mended_elsewhere i outside = splice_elsewhere c (part (log_start slot) (log_size (layout_of slot)) old)
+      (log_start slot) i room (λ hit. outside (omega (arith, span_is)))
 
   -- what was left differs from them in the span alone
   left_same : SameBut (log_start slot) (log_size (layout_of slot)) mended c
   left_same = record {
     same_length = aside.long ∙ sym mended_long;
-    elsewhere =
-        λ i outside. sym (mended_elsewhere i outside);
+    elsewhere = λ i outside. sym (mended_elsewhere i outside);
   }
 
   -- where only a range differed beside what was loose, only that range differs of them
@@ -150,9 +148,8 @@ pub beside_leaves : {D : Type 0} (old : View D) (state now : DiskState) (it : Pr
     → IsBeside old.slot old.sequence it → IsHeld state old
     → LeavesOnly state now (StagesAside state.loose it.slot state.reading)
     → LeavesOnly state now (KeepsImage old (span_of old state))
-beside_leaves old state now it beside held moments =
-    weaker _ _ _ _ (λ c stages. stage_keeps held c it.slot (beside_apart old.slot old.sequence it beside) stages)
-    moments
+beside_leaves old state now it beside held moments = weaker _ _ _ _
+    (λ c stages. stage_keeps held c it.slot (beside_apart old.slot old.sequence it beside) stages) moments
 
 pub publish_leaves : {D : Type 0} (old : View D) (state now : DiskState) (it : Prepared) → old.prepared ≡ Some it
     → IsHeld state old → (at : ℕ) → at ≡ start it.slot → LeavesOnly state now (SameAside state.loose at 1 state.reading)

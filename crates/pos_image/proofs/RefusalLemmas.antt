@@ -12,8 +12,7 @@ short_stands bytes short = rw (lt-ltb (length bytes) 327680 short)
 
 -- an open slot has too long a body, and the one beside it is closed or has the lesser sequence: damage
 long_found : (bytes : List ℕ) (slot : Slot) → 327680 ≤ length bytes → layout_on bytes ≡ layout_of slot
-    → is_open bytes (start slot) ≡ true
-    → (is_open bytes (start (other slot)) ≡ true
+    → is_open bytes (start slot) ≡ true → (is_open bytes (start (other slot)) ≡ true
     → sequence_at bytes (start (other slot)) < sequence_at bytes (start slot))
     → longest (layout_of slot) < length_at bytes (start slot) → image_on bytes ≡ DamagedImage
 long_found bytes slot whole layout here lesser over =

@@ -95,15 +95,14 @@ pub spans_agree : {slot : Slot} {old new body : List ℕ} {sequence : ℕ} → I
     → IsCurrent new slot body sequence → (i : ℕ)
     → (i < log_size (layout_of slot) → get_or new (log_start slot + i) 0 ≡ get_or old (log_start slot + i) 0)
     → get_or (log_of new) i 0 ≡ get_or (log_of old) i 0
-spans_agree {slot} was is i agree =
-    grind (
-      arith,
-      cases_lt i (log_size (layout_of slot)),
-      span_place is i,
-      span_place was i,
-      span_past is i,
-      span_past was i,
-    )
+spans_agree {slot} was is i agree = grind (
+  arith,
+  cases_lt i (log_size (layout_of slot)),
+  span_place is i,
+  span_place was i,
+  span_past is i,
+  span_past was i,
+)
 
 -- A write into the log span of images that a disk holds: the place is counted from the gate of the slot.
 pub record WritesLog {D T : Type 0} (images : View D) (old new : DiskState) (at : ℕ) (bytes : List ℕ)
@@ -216,16 +215,15 @@ module _ {D : Type 0} {images : View D} where
 
 -- images that a disk holds are writable
 pub writable : {D : Type 0} (bound : Ghosts D) (images : View D) → 327680 ≤ bound.size images.disk
-    → images.sequence < 2 ^ 64
-    → (bound.honest images.disk → IsHeld (bound.state images.disk) images) → IsWritable bound images
+    → images.sequence < 2 ^ 64 → (bound.honest images.disk → IsHeld (bound.state images.disk) images)
+    → IsWritable bound images
 writable bound images large counted held =
     let leaves = λ (honest : bound.honest images.disk). keeps_image (held honest) in assumption
 
 -- writable images are ready after a sync
 pub synced : {D : Type 0} (bound : Ghosts D) (images : View D) (disk : D) (result : Result (Unit {0}) DiskFault)
-    → IsWritable bound images
-    → bound.size disk ≡ bound.size images.disk → (bound.honest images.disk ↔ bound.honest disk)
-    → (bound.honest images.disk → Syncs (bound.state images.disk) (bound.state disk) result)
+    → IsWritable bound images → bound.size disk ≡ bound.size images.disk → (bound.honest images.disk
+    ↔ bound.honest disk) → (bound.honest images.disk → Syncs (bound.state images.disk) (bound.state disk) result)
     → OnOk result (IsReady bound (record images { disk = disk }))
 synced bound images disk (Err fault) was size honest syncs = tt
 synced bound images disk (Ok done) was size honest syncs =
@@ -253,8 +251,8 @@ same_writable bound images disk keeps was =
     writable bound (record images { disk = disk }) (omega (arith, was.large, keeps.size)) was.counted (λ now.
     let before = keeps.honest.1 now in
     let same = keeps.same before in
-    let held = looked_held {new = bound.state disk} (was.held before) same.reading
-    (λ i loose. (same.loose i).1 loose) in
+    let held =
+    looked_held {new = bound.state disk} (was.held before) same.reading (λ i loose. (same.loose i).1 loose) in
     record { loose = held.loose; current = held.current; prepared = held.prepared })
 
 -- and ready ones ready

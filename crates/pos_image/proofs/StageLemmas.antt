@@ -61,8 +61,8 @@ pub run_start : {at n : ℕ} {old : DiskState} → ((c : List ℕ) → old.left_
 run_start {old} only = grind arith
 
 pub run_write : {at n place : ℕ} {old mid new : DiskState} {result : Result (Unit {0}) DiskFault} {bytes : List ℕ}
-    → at ≤ place
-    → place + length bytes ≤ at + n → Writes mid new place bytes result → IsRun at n old mid → IsRun at n old new
+    → at ≤ place → place + length bytes ≤ at + n → Writes mid new place bytes result → IsRun at n old mid
+    → IsRun at n old new
 run_write {result} low high writes run = grind arith
 
 pub run_sync : {at n : ℕ} {old mid new : DiskState} {result : Result (Unit {0}) DiskFault} → Syncs mid new result

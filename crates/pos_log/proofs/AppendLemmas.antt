@@ -15,9 +15,8 @@ use Rattle.pos_log.specs.declared.fault.LogFault.TheVariants as fault
 -- What a write into the log span and its sync did to the disk, whatever they answered.
 pub record WritesThrough {D : Type 0} (bound : Ghosts D) (images : View D) (disk : D) (at : ℕ) (bytes : List ℕ)
     (end : D) : Type 0 where
-  pub moments : bound.honest disk
-      → LeavesOnly (bound.state disk) (bound.state end) (KeepsSpan (layout_of images.slot) images.body images.sequence
-      at (length bytes) (log_of (bound.state disk).reading))
+  pub moments : bound.honest disk → LeavesOnly (bound.state disk) (bound.state end) (KeepsSpan (layout_of images.slot)
+      images.body images.sequence at (length bytes) (log_of (bound.state disk).reading))
   pub keeps : KeepsDisk bound disk end
 
 -- a call that answered no fault of the disk left its count
@@ -50,8 +49,8 @@ module _ {D : Type 0} (bound : Ghosts D) (images : View D) (tail : ℕ) (group :
 
   -- the disk failed in one of the steps
   failed : (end : D) (now : View D) → now ≡ record images { disk = end }
-      → (bound.honest images.disk → IsKept (bound.state end))
-      → KeepsDisk bound images.disk end → (bound.honest images.disk → Rises old.failures (bound.state end).failures)
+      → (bound.honest images.disk → IsKept (bound.state end)) → KeepsDisk bound images.disk end
+      → (bound.honest images.disk → Rises old.failures (bound.state end).failures)
       → Appends bound (log_over images tail) group (Err fault.Device) (log_over now tail)
   failed end now is moments keeps rises = grind arith
 
@@ -90,8 +89,8 @@ module _ {D : Type 0} (bound : Ghosts D) (images : View D) (tail : ℕ) (group :
       all_moments honest = followed_by _ (bound.state disk) _ _ (first_moments honest)
           (weaker _ _ _ _ (λ c keeps. record {
             image = keeps.image;
-            log = λ groups holds. either_more groups group holds place (place_is honest groups holds) (in_span honest)
-                few (beside honest) (there honest) keeps.log;
+            log = λ groups holds. either_more groups group holds place (place_is honest groups holds)
+                (in_span honest) few (beside honest) (there honest) keeps.log;
           }) (opens.moments (puts.keeps.honest.0 honest)))
 
       both_keep : KeepsDisk bound images.disk end

@@ -17,8 +17,7 @@ has_or_not span at n = grind (arith, bytes_eq-Decides, cases_lt, cases_Bool, not
 
 -- and whether any does
 length_or_none : (span : List ℕ) (at : ℕ) → ((n : ℕ) × HasLength span at n) ⊎ ((n : ℕ) → HasLength span at n → ⊥)
-length_or_none span at = ⊎_elim
-    (λ has. inl (_, has))
+length_or_none span at = ⊎_elim (λ has. inl (_, has))
     (λ none. inr (λ m has. none (subst (HasLength span at) (the_length m has) has)))
     (has_or_not span at (from_be_bytes w32 (part (at + 1) 4 span)))
 
@@ -26,16 +25,15 @@ length_or_none span at = ⊎_elim
 read_on : (left : ℕ) (groups : List (List ℕ)) (at : ℕ) (span : List ℕ) → BeginsWith groups at span
     → length span ≤ at + left → HoldsSome span ⊎ (HoldsSome span → ⊥)
 read_on zero groups at span begins end = absurd (let inside = begins.inside in omega arith)
-read_on (suc left) groups at span begins end =
-    elim (cases_Bool (nat_eq (get_or span at 0) 165)) [
-      | inr shut ↦ inl (groups, all_read groups at span begins shut)
-      | inl opened ↦
-          let byte = open_byte (get_or span at 0) opened in
-          ⊎_elim
-          (λ has. read_on left (groups ++ part (at + 5) has.0 span ∷ []) (at + (5 + has.0)) span
-          (begins_more groups at has.0 span (part (at + 5) has.0 span) begins byte has.1 refl) (omega (arith, end)))
-          (λ none. inr (none_held groups at span begins byte none)) (length_or_none span at)
-    ]
+read_on (suc left) groups at span begins end = elim (cases_Bool (nat_eq (get_or span at 0) 165)) [
+  | inr shut ↦ inl (groups, all_read groups at span begins shut)
+  | inl opened ↦
+      let byte = open_byte (get_or span at 0) opened in
+      ⊎_elim
+      (λ has. read_on left (groups ++ part (at + 5) has.0 span ∷ []) (at + (5 + has.0)) span
+      (begins_more groups at has.0 span (part (at + 5) has.0 span) begins byte has.1 refl) (omega (arith, end)))
+      (λ none. inr (none_held groups at span begins byte none)) (length_or_none span at)
+]
 
 -- a span holds records or doesn't
 pub records_or_none : (span : List ℕ) → 0 < length span → HoldsSome span ⊎ (HoldsSome span → ⊥)

@@ -11,8 +11,7 @@ pub laid_out : {head body : List ℕ} (behind : List ℕ) {group : List ℕ} →
     → body ≡ group → 0 < length behind
     → take (5 + length group) (head ++ (body ++ slice_set behind 0 0)) ≡ text_behind_gate group
 laid_out [] head_is body_is some = absurd (omega (arith, some))
-laid_out (first ∷ behind) {group} head_is body_is some =
-    rw (head_is, body_is, ← (append_assoc group (0 ∷ []) behind))
+laid_out (first ∷ behind) {group} head_is body_is some = rw (head_is, body_is, ← (append_assoc group (0 ∷ []) behind))
     (take_at (text_behind_gate group) behind (5 + length group) (text_length group))
 
 -- a slice that is put back whole

@@ -36,5 +36,4 @@ none_held groups at span begins byte none (all, holds) =
 -- a span that was read whole
 pub whole_read : {read out : List ℕ} (items : List ℕ) {span : List ℕ} {n size : ℕ} → n ≡ size → length out ≡ size
     → length span ≡ size → read ≡ take n (out ++ drop (length out) items) → out ≡ part 0 (length out) span → read ≡ span
-whole_read items n_is out_long span_long read_is out_is =
-    grind (arith, common_steps, take_at, append-nil)
+whole_read items n_is out_long span_long read_is out_is = grind (arith, common_steps, take_at, append-nil)

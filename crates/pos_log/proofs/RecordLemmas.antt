@@ -12,9 +12,8 @@ use Rattle.std.proofs.lemmas.Grind.{common_steps, flat_map-append}
 -- a part in two
 part_in_two : (at n m place : ℕ) (bytes : List ℕ) → place ≡ at + n
     → part at (n + m) bytes ≡ part at n bytes ++ part place m bytes
-part_in_two at n m place bytes is =
-    rw is (take-add n m (drop at bytes)
-    ∙ ap (λ (l : List ℕ). take n (drop at bytes) ++ take m l) (drop-drop n at bytes))
+part_in_two at n m place bytes is = rw is
+    (take-add n m (drop at bytes) ∙ ap (λ (l : List ℕ). take n (drop at bytes) ++ take m l) (drop-drop n at bytes))
 
 -- an open gate is 0xA5
 pub open_byte : (byte : ℕ) → nat_eq byte 165 ≡ true → byte ≡ 165
@@ -55,8 +54,8 @@ all_more (first ∷ groups) group all one = (all.0, all_more groups group all.1 
 
 -- a span that begins with some records begins with the one behind them too
 pub begins_more : (groups : List (List ℕ)) (at n : ℕ) (span group : List ℕ) → BeginsWith groups at span
-    → get_or span at 0 ≡ 165
-    → HasLength span at n → group ≡ part (at + 5) n span → BeginsWith (groups ++ group ∷ []) (at + (5 + n)) span
+    → get_or span at 0 ≡ 165 → HasLength span at n → group ≡ part (at + 5) n span
+    → BeginsWith (groups ++ group ∷ []) (at + (5 + n)) span
 begins_more groups at n span group begins gate has is =
     let fits = has.fits in
     let few = has.few in
@@ -129,8 +128,8 @@ module _ (groups : List (List ℕ)) (group : List ℕ) {old mid new : List ℕ} 
         length_is = inner 0 4 (place + 1) (omega arith) (omega arith);
         fits = omega (arith, long);
       } in
-      let group_is = inner 4 (length group) (place + 5) (omega arith) (omega arith)
-      ∙ take_at group (0 ∷ []) (length group) refl in
+      let group_is =
+      inner 4 (length group) (place + 5) (omega arith) (omega arith) ∙ take_at group (0 ∷ []) (length group) refl in
       all_read _ _ new (begins_more groups place (length group) new group begins (open_byte _ opened) has
       (sym group_is)) (ap (λ (b : ℕ). nat_eq b 165) next_closed)
 

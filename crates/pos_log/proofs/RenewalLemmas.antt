@@ -31,10 +31,9 @@ no_records layout body sequence bytes new = grind (arith, image_length, inl, inr
 
 -- at any moment while an image is put beside the current one, and then published
 pub both_moments : {D : Type 0} (old mid : View D) (it : Prepared) (s0 s1 s2 : DiskState)
-    → mid ≡ record old { disk = mid.disk; prepared = Some it }
-    → IsAtRest s1 → log_of s1.reading ≡ log_of s0.reading → LeavesOnly s0 s1 (KeepsImage old (span_of old s0))
-    → LeavesOnly s1 s2 (HasEither mid (span_of mid s1) (next_of mid))
-    → LeavesOnly s0 s2 (HasEither old (span_of old s0) it)
+    → mid ≡ record old { disk = mid.disk; prepared = Some it } → IsAtRest s1 → log_of s1.reading ≡ log_of s0.reading
+    → LeavesOnly s0 s1 (KeepsImage old (span_of old s0)) → LeavesOnly s1 s2
+    (HasEither mid (span_of mid s1) (next_of mid)) → LeavesOnly s0 s2 (HasEither old (span_of old s0) it)
 both_moments {D} old mid it s0 s1 s2 is rest log first second =
     let now : View D = record old { disk = mid.disk; prepared = Some it } in
     let kept : (c : List ℕ) → KeepsImage now (span_of now s1) c → KeepsImage old (span_of old s0) c =
@@ -68,8 +67,7 @@ module _ {D : Type 0} (bound : Ghosts D) (old : View D) (tail : ℕ) (it : Prepa
       record {
         ready = record {
           images = is.ready;
-          records =
-              λ h. ([], (none (is.keeps.honest.1 h)).log, omega (arith, first_is));
+          records = λ h. ([], (none (is.keeps.honest.1 h)).log, omega (arith, first_is));
         };
         layout_is = ap (λ (p : Prepared). layout_of p.slot) is.published;
         body_is = ap (λ (p : Prepared). p.body) is.published;
@@ -90,6 +88,6 @@ module _ {D : Type 0} (bound : Ghosts D) (old : View D) (tail : ℕ) (it : Prepa
   pub not_renewed : (fault : ImageFault) → Replaces bound old it (Err fault) now
       → Renews bound (log_over old tail) (layout_of it.slot) it.body it.sequence (Err fault) (log_over now tail)
   not_renewed fault is =
-      let any_moment = λ (honest : bound.honest old.disk). renewing _ _ old it (ready.sound honest).at_rest
-      (is.any_moment honest) in
+      let any_moment =
+      λ (honest : bound.honest old.disk). renewing _ _ old it (ready.sound honest).at_rest (is.any_moment honest) in
       search (rules, is, any_moment)

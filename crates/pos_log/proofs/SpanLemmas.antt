@@ -15,6 +15,6 @@ module _ {D : Type 0} (images : View D) (at : ℕ) (bytes : List ℕ) {T E : Typ
   -- at any moment of the write, and of the sync after it
   pub sync_moments : LeavesOnly old mid (KeepsImage images (span_of images mid)) → (now : View D) (disk : D)
       → now ≡ record images { disk = disk } → (new : DiskState) → LeavesOnly mid new (KeepsImage now (span_of now mid))
-      → LeavesOnly old new (KeepsSpan (layout_of images.slot) images.body images.sequence at (length bytes)
-      (log_of old.reading))
+      → LeavesOnly old new
+      (KeepsSpan (layout_of images.slot) images.body images.sequence at (length bytes) (log_of old.reading))
   sync_moments written now disk is new synced = grind (arith, followed_by, weaker, keeps_span)

@@ -9,8 +9,7 @@ pub same_head : (a b : List ℕ) {x y : List ℕ} → IsShort a → IsShort b �
     → (a ≡ b) × (x ≡ y)
 same_head a b {x} {y} sa sb is =
     let lens : to_be_bytes w32 (length a) ≡ to_be_bytes w32 (length b) = ap (λ (l : List ℕ). take 4 (drop 1 l)) is in
-    let long : length a ≡ length b =
-    sym (from_be_bytes-to_be_bytes_4 (length a) sa) ∙ ap (from_be_bytes w32) lens
+    let long : length a ≡ length b = sym (from_be_bytes-to_be_bytes_4 (length a) sa) ∙ ap (from_be_bytes w32) lens
     ∙ from_be_bytes-to_be_bytes_4 (length b) sb in
     let rest : a ++ x ≡ b ++ y = ap (drop 5) is in (
       cc (take_at a x (length a) refl, take_at b y (length a) (sym long)),
@@ -19,8 +18,7 @@ same_head a b {x} {y} sa sb is =
 
 -- Records at the front of a text are among those that it holds up to a closed gate; the others follow.
 abbrev pub Follow : List (List ℕ) → List (List ℕ) → List ℕ → List ℕ → Type 0
-Follow groups all rest behind =
-    (others : List (List ℕ)) × (all ≡ groups ++ others) × (rest ≡ spelling others ++ behind)
+Follow groups all rest behind = (others : List (List ℕ)) × (all ≡ groups ++ others) × (rest ≡ spelling others ++ behind)
     × AllByRecursion IsShort others
 
 pub others_follow : (groups all : List (List ℕ)) (rest : List ℕ) (gate : ℕ) (behind : List ℕ)

@@ -48,17 +48,15 @@ spliced_part xs ys {bytes} {at} {i} room is inside =
 
 -- a write that succeeded
 pub shows_written : {S T : Type 0} {b c m n : DiskState} {at : ℕ} {bytes : List ℕ} {first : Result S DiskFault}
-    {second : Result T DiskFault} {x : S} {y : T}
-    → first ≡ Ok x → second ≡ Ok y → at + length bytes ≤ length b.reading → at + length bytes ≤ length m.reading
-    → Writes b c at bytes first → Writes m n at bytes second → Shows b m false → Shows c n false
-shows_written done did fits room below memory shows =
-    grind (arith, shows_both, spoils_of, spliced_both)
+    {second : Result T DiskFault} {x : S} {y : T} → first ≡ Ok x → second ≡ Ok y → at + length bytes ≤ length b.reading
+    → at + length bytes ≤ length m.reading → Writes b c at bytes first → Writes m n at bytes second → Shows b m false
+    → Shows c n false
+shows_written done did fits room below memory shows = grind (arith, shows_both, spoils_of, spliced_both)
 
 -- a write that failed, after which its range was read and put into memory
 pub shows_found : {S T : Type 0} {b c d m n : DiskState} {at : ℕ} {bytes found : List ℕ} {first : Result S DiskFault}
-    (again : Result T DiskFault) {x : T}
-    → again ≡ Ok x → length found ≡ length bytes → at + length found ≤ length m.reading → Writes b c at bytes first
-    → Reads c d at found again
+    (again : Result T DiskFault) {x : T} → again ≡ Ok x → length found ≡ length bytes
+    → at + length found ≤ length m.reading → Writes b c at bytes first → Reads c d at found again
     → Spoils m n at (length bytes) → n.reading ≡ splice m.reading at found → Shows b m false → Shows d n false
 shows_found (Err e) done long room below reads memory put shows = cc
 shows_found {b} {c} {m} {n} {at} {bytes} (Ok u) done long room below reads memory put shows =

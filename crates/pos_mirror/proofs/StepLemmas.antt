@@ -35,12 +35,10 @@ module _ {D : Type 0} (bound : Ghosts D)
   -- it does where memory shows what the disk below has, and both made the call
   after : (old new : Mirror D) → IsMirror bound old → length new.memory.present.reading ≤ bound.size new.below
       → new.failures < 2 ^ 64 → bound.honest old.below ↔ bound.honest new.below
-      → (bound.honest old.below → Shows (bound.state new.below) (state_of new.memory) new.lost)
-      → ((first : D) → Makes bound first old.below old.memory old.lost → Makes bound first new.below new.memory
-      new.lost)
-      → (bound.honest old.below → (s t : ℕ) → Follows (bound.state old.below) s (mirror_state old) t → Follows
-      (bound.state new.below) s (mirror_state new) t)
-      → After old new
+      → (bound.honest old.below → Shows (bound.state new.below) (state_of new.memory) new.lost) → ((first : D)
+      → Makes bound first old.below old.memory old.lost → Makes bound first new.below new.memory new.lost)
+      → (bound.honest old.below → (s t : ℕ) → Follows (bound.state old.below) s (mirror_state old) t
+      → Follows (bound.state new.below) s (mirror_state new) t) → After old new
   unfolding After
   after old new is fits last honest shows makes on = (
     record {
@@ -59,9 +57,8 @@ module _ {D : Type 0} (bound : Ghosts D)
   -- a write of a lost mirror
   pub lost_write : {m n : Memory} {b : D} {f at : ℕ} {bytes : List ℕ} {put : Answer}
       → IsMirror bound (mirror_of m b f true) → at + length bytes ≤ length m.present.reading → n ≡ written at bytes m
-      → Writes (state_of m) (state_of n) at bytes put
-      → IsMirror bound (mirror_of n b (counted f) true) × (bound.honest b → FollowsOn bound (mirror_of m b f true)
-      (mirror_of n b (counted f) true))
+      → Writes (state_of m) (state_of n) at bytes put → IsMirror bound (mirror_of n b (counted f) true)
+      × (bound.honest b → FollowsOn bound (mirror_of m b f true) (mirror_of n b (counted f) true))
   unfolding After
   lost_write {m = m} {n = n} {b = b} {f = f} {at = at} {bytes = bytes} is fits same writes =
       let old : Mirror D = mirror_of m b f true in
@@ -82,9 +79,8 @@ module _ {D : Type 0} (bound : Ghosts D)
     pub written_on : {at : ℕ} {bytes : List ℕ} {first put : Answer} → first ≡ Ok tt → put ≡ Ok tt
         → at + length bytes ≤ length m.present.reading
         → (bound.honest b → Writes (bound.state b) (bound.state c) at bytes first) → bound.own_write b c at bytes first
-        → n ≡ written at bytes m → Writes (state_of m) (state_of n) at bytes put
-        → IsMirror bound (mirror_of n c f false) × (bound.honest b → FollowsOn bound (mirror_of m b f false)
-        (mirror_of n c f false))
+        → n ≡ written at bytes m → Writes (state_of m) (state_of n) at bytes put → IsMirror bound
+        (mirror_of n c f false) × (bound.honest b → FollowsOn bound (mirror_of m b f false) (mirror_of n c f false))
     unfolding After
     written_on {at = at} {bytes = bytes} {first = first} {put = put} done did fits below own same writes =
         let old : Mirror D = mirror_of m b f false in
@@ -100,9 +96,8 @@ module _ {D : Type 0} (bound : Ghosts D)
 
     -- a sync that succeeded
     pub settled_on : {first put : Answer} → first ≡ Ok tt
-        → (bound.honest b → Syncs (bound.state b) (bound.state c) first) → bound.own_sync b c first
-        → n ≡ synced m → Syncs (state_of m) (state_of n) put
-        → IsMirror bound (mirror_of n c f false)
+        → (bound.honest b → Syncs (bound.state b) (bound.state c) first) → bound.own_sync b c first → n ≡ synced m
+        → Syncs (state_of m) (state_of n) put → IsMirror bound (mirror_of n c f false)
         × (bound.honest b → FollowsOn bound (mirror_of m b f false) (mirror_of n c f false))
     unfolding After
     settled_on done below own same syncs =
@@ -120,8 +115,8 @@ module _ {D : Type 0} (bound : Ghosts D)
   pub unsettled_on : {m : Memory} {b c : D} {f : ℕ} {first : Answer} → IsMirror bound (mirror_of m b f false)
       → bound.size c ≡ bound.size b → bound.honest b ↔ bound.honest c → first ≡ Err record {}
       → (bound.honest b → Syncs (bound.state b) (bound.state c) first) → bound.own_sync b c first
-      → IsMirror bound (mirror_of m c (counted f) true) × (bound.honest b → FollowsOn bound (mirror_of m b f false)
-      (mirror_of m c (counted f) true))
+      → IsMirror bound (mirror_of m c (counted f) true)
+      × (bound.honest b → FollowsOn bound (mirror_of m b f false) (mirror_of m c (counted f) true))
   unfolding After
   unsettled_on {m = m} {b = b} {c = c} {f = f} {first = first} is size honest failed below own =
       let old : Mirror D = mirror_of m b f false in
@@ -138,18 +133,18 @@ module _ {D : Type 0} (bound : Ghosts D)
       (fits : at + length bytes ≤ length m.present.reading)
       (spoils : Spoils (state_of m) (state_of n) at (length bytes)) where
     reread_makes : (first : D) (again : Answer) → Rereads bound mid c at (length bytes) m n again
-        → bound.own_write b mid at bytes (Err record {})
-        → Makes bound first b m false → Makes bound first c n (is_fault again)
-    reread_makes first (Ok u) rereads own makes =
-        subst (λ k. Makes bound first c k false) (sym rereads.shown) (found b mid c m at bytes
-        (part at (length bytes) m.present.reading) rereads.left fits rereads.same_length makes own rereads.read)
-    reread_makes first (Err e) rereads own makes =
-        subst (λ k. Makes bound first c k true) (sym rereads.shown) (unread b mid c m at bytes
-        (part at (length bytes) m.present.reading) rereads.left fits rereads.same_length makes own rereads.read)
+        → bound.own_write b mid at bytes (Err record {}) → Makes bound first b m false
+        → Makes bound first c n (is_fault again)
+    reread_makes first (Ok u) rereads own makes = subst (λ k. Makes bound first c k false) (sym rereads.shown)
+        (found b mid c m at bytes (part at (length bytes) m.present.reading) rereads.left fits rereads.same_length makes
+        own rereads.read)
+    reread_makes first (Err e) rereads own makes = subst (λ k. Makes bound first c k true) (sym rereads.shown)
+        (unread b mid c m at bytes (part at (length bytes) m.present.reading) rereads.left fits rereads.same_length
+        makes own rereads.read)
 
     reread_shows : (first again : Answer) → Rereads bound mid c at (length bytes) m n again → bound.honest b
-        → bound.honest mid
-        → Writes (bound.state b) (bound.state mid) at bytes first → Shows (bound.state c) (state_of n) (is_fault again)
+        → bound.honest mid → Writes (bound.state b) (bound.state mid) at bytes first
+        → Shows (bound.state c) (state_of n) (is_fault again)
     reread_shows first (Ok u) rereads start then below =
         shows_found (Ok u) refl rereads.same_length (rw rereads.same_length fits) below (rereads.reads then) spoils
         (ap (λ (k : Memory). k.present.reading) rereads.shown) (is.shows start)
@@ -161,8 +156,8 @@ module _ {D : Type 0} (bound : Ghosts D)
         → bound.size c ≡ bound.size mid → bound.honest b ↔ bound.honest mid → bound.honest mid ↔ bound.honest c
         → (bound.honest b → Writes (bound.state b) (bound.state mid) at bytes first)
         → bound.own_write b mid at bytes first → Rereads bound mid c at (length bytes) m n again
-        → IsMirror bound (mirror_of n c (counted f) (is_fault again)) × (bound.honest b → FollowsOn bound
-        (mirror_of m b f false) (mirror_of n c (counted f) (is_fault again)))
+        → IsMirror bound (mirror_of n c (counted f) (is_fault again))
+        × (bound.honest b → FollowsOn bound (mirror_of m b f false) (mirror_of n c (counted f) (is_fault again)))
     unfolding After
     reread_on {first = first} {again = again} failed size_mid size honest_mid honest below own rereads =
         let old : Mirror D = mirror_of m b f false in
@@ -172,8 +167,8 @@ module _ {D : Type 0} (bound : Ghosts D)
         omega (arith, is.fits, spoils.same_length, size_mid) in
         let room : length n.present.reading ≤ bound.size c = omega (arith, room_mid, size) in
         let covers : bound.honest b → Covers (bound.state mid) (state_of n) =
-        λ h. covers_both (bound.state b) (bound.state mid) (state_of m) (state_of n) at (length bytes)
-        (spoils_of (below h)) spoils (is.shows h).covers in
+        λ h. covers_both (bound.state b) (bound.state mid) (state_of m) (state_of n)
+        at (length bytes) (spoils_of (below h)) spoils (is.shows h).covers in
         let shows : bound.honest b → Shows (bound.state c) (state_of n) (is_fault again) =
         λ h. reread_shows first again rereads h (honest_mid.0 h) (below h) in
         after old new is room (omega (arith, is.last))
@@ -184,8 +179,8 @@ module _ {D : Type 0} (bound : Ghosts D)
         spoils.time spoils.same_length (covers h) s t follows))
 
   -- a new mirror
-  pub opened : ((disk : D) (bytes : List ℕ) → bound.honest disk → (bound.state disk).left_since
-      (bound.state disk).moment bytes → MayLeave (bound.state disk) bytes)
+  pub opened : ((disk : D) (bytes : List ℕ) → bound.honest disk
+      → (bound.state disk).left_since (bound.state disk).moment bytes → MayLeave (bound.state disk) bytes)
       → (a b c : D) (before bytes : List ℕ) (first put : Answer) → first ≡ Ok tt → put ≡ Ok tt
       → bound.honest a ↔ bound.honest b → bound.honest b ↔ bound.honest c
       → (bound.honest a → Syncs (bound.state a) (bound.state b) first)
@@ -196,8 +191,8 @@ module _ {D : Type 0} (bound : Ghosts D)
       λ h. rw done at (below (honest_b.1 (honest.1 h))).at_rest in
       let room : bound.honest c → length bytes ≤ length (bound.state b).reading =
       λ h. omega (arith, fits, whole b (honest.1 h)) in
-      let over : bound.honest c → Follows (bound.state c) (bound.state b).moment (state_of (fresh bytes)) 0 = λ h.
-      follows_read (bound.state b) (bound.state c) bytes put tt did (rest h) (room h) (reads (honest.1 h))
+      let over : bound.honest c → Follows (bound.state c) (bound.state b).moment (state_of (fresh bytes)) 0 =
+      λ h. follows_read (bound.state b) (bound.state c) bytes put tt did (rest h) (room h) (reads (honest.1 h))
       (λ left. only b left (honest.1 h)) in
       record {
         fits = omega (arith, fits, size);
@@ -209,8 +204,7 @@ module _ {D : Type 0} (bound : Ghosts D)
           follows = λ h. record {
             later_below = (over h).later_below;
             later = (over h).later;
-            leaves =
-                (over h).leaves;
+            leaves = (over h).leaves;
           };
         };
       }

@@ -25,8 +25,8 @@ heard_of place s t a b old mid new is_a is_b same h = rw (h, same, is_a, is_b)
 
 -- the printer has done it
 pub ordered_done : (given : Order) (place : ℕ) (s t : PeripheralState) (old new : List Control)
-    → Asked s given (Ok reply.Done) t
-    → new ≡ heard_at place s t old → Ordered given place reply.Done old (hardware_of s) new (hardware_of t)
+    → Asked s given (Ok reply.Done) t → new ≡ heard_at place s t old
+    → Ordered given place reply.Done old (hardware_of s) new (hardware_of t)
 ordered_done given place s t old new asked heard = record {
   plant = asked.answer.0;
   hardware = rw (asked.kind, asked.answer.1) refl;
@@ -40,6 +40,6 @@ same_undone other undone given p q h = grind arith
 
 -- it has not done it: its cover is open, its paper doesn't suffice, its line has failed, or it is off
 pub ordered_undone : (said : Reply) → (said ≡ reply.Done → ⊥)
-    → (given : Order) (place : ℕ) (s t : PeripheralState) (old : List Control)
-    → Asked s given (Ok said) t → Ordered given place said old (hardware_of s) old (hardware_of t)
+    → (given : Order) (place : ℕ) (s t : PeripheralState) (old : List Control) → Asked s given (Ok said) t
+    → Ordered given place said old (hardware_of s) old (hardware_of t)
 ordered_undone said undone given place s t old asked = grind (arith, same_undone)

@@ -31,17 +31,16 @@ use Rattle.pos_printer.proofs.OrderLemmas.{heard_of, ordered_done, ordered_undon
 -- the request to do is the one that is done
 of_request : (o : Option (ℕ × Order)) (id i : ℕ) (old new : List Control) (control : Control)
     → option_map (λ (request : ℕ × Order). request.0) o ≡ Some id → new ≡ slice_set old i (completed id control)
-    → MatchOption o ⊥ (λ request. (worked.Done id ≡ worked.Done request.0)
-    × (new ≡ slice_set old i (completed request.0 control)))
+    → MatchOption o ⊥
+    (λ request. (worked.Done id ≡ worked.Done request.0) × (new ≡ slice_set old i (completed request.0 control)))
 of_request o id i old new control is h = grind arith
 
 -- a held control whose request is done is a change of the machine's control
 pub completed_in : (hs : List KeptControl) (i : ℕ) (d g : KeptControl) (id : ℕ) → i < length hs
     → option_map (λ (request : ℕ × Order). request.0) (request_to_do (get_or hs i d).control.writer.output) ≡ Some id
-    → g.control ≡ completed id (get_or hs i d).control
-    → MatchOption (slice_get (controls_of hs) i) ⊥ (λ control. MatchOption (request_to_do control.writer.output) ⊥
-    (λ request. (worked.Done id ≡ worked.Done request.0) × (controls_of (set hs i g) ≡ slice_set (controls_of hs) i
-    (completed request.0 control))))
+    → g.control ≡ completed id (get_or hs i d).control → MatchOption (slice_get (controls_of hs) i) ⊥
+    (λ control. MatchOption (request_to_do control.writer.output) ⊥ (λ request. (worked.Done id ≡ worked.Done request.0)
+    × (controls_of (set hs i g) ≡ slice_set (controls_of hs) i (completed request.0 control))))
 completed_in hs i d g id lt is done =
     let within : i < length (controls_of hs) = omega (arith, length-map hs (λ (h : KeptControl). h.control)) in
     rw (slice_get-get_or (controls_of hs) i d.control within, ← control_at hs i d d.control lt)
@@ -73,8 +72,8 @@ first_of b o request is = grind arith
 
 -- it still is once the controls have heard
 pub first_heard : (place holder : ℕ) (request : ℕ × Order) (u v : Signs) (old new : List Control)
-    → IsFirst place holder request old
-    → new ≡ all_listening place (heard_signs u v) old → IsFirst place holder request new
+    → IsFirst place holder request old → new ≡ all_listening place (heard_signs u v) old
+    → IsFirst place holder request new
 first_heard place holder request u v old new f is = record {
   control = if_listening place (heard_signs u v) f.control;
   there = rw (is, slice_get-map (if_listening place (heard_signs u v)) old holder, f.there);
@@ -106,8 +105,7 @@ has_request place holder count request hs f most room =
 
 -- the order that the printer is given is that of the request
 pub first_asked : (place holder : ℕ) (request : ℕ × Order) (hs : List KeptControl) (d : KeptControl)
-    (outcome : Result Reply NoMemory) (s t : PeripheralState)
-    → IsFirst place holder request (controls_of hs)
+    (outcome : Result Reply NoMemory) (s t : PeripheralState) → IsFirst place holder request (controls_of hs)
     → MatchOption (first_request place (get_or hs holder d).control) ⊥ (λ r. Asked s r.1 outcome t)
     → Asked s request.1 outcome t
 first_asked place holder request hs d outcome s t f asked =
@@ -120,8 +118,8 @@ pub first_done : (place holder : ℕ) (request : ℕ × Order) (mid new : List C
     → IsFirst place holder request mid
     → MatchOption (slice_get mid holder) ⊥ (λ control. MatchOption (request_to_do control.writer.output) ⊥
     (λ r. (result ≡ worked.Done r.0) × (new ≡ slice_set mid holder (completed r.0 control))))
-    → (result ≡ worked.Done request.0) × MatchOption (slice_get mid holder) ⊥
-    (λ control. new ≡ slice_set mid holder (completed request.0 control))
+    → (result ≡ worked.Done request.0)
+    × MatchOption (slice_get mid holder) ⊥ (λ control. new ≡ slice_set mid holder (completed request.0 control))
 first_done place holder request mid new result f h =
     grind (arith, first_of (listens place f.control) (request_to_do f.control.writer.output) request f.first)
 
@@ -135,8 +133,7 @@ room_for_first place holder old hs found same room =
 
 -- what is said of a request that the printer doesn't do, and what becomes of its control
 undone_said : (said : Reply) → (said ≡ reply.Done → ⊥) → (id holder : ℕ) (result : WorkResult) (old new : List Control)
-    → result ≡ worked.Failed (code_by said) (extended_by said)
-    → MatchOption (slice_get old holder) ⊥
+    → result ≡ worked.Failed (code_by said) (extended_by said) → MatchOption (slice_get old holder) ⊥
     (λ control. new ≡ slice_set old holder (output_failed (code_by said) (extended_by said) control))
     → (result ≡ worked_by id said)
     × MatchOption (slice_get old holder) ⊥ (λ control. new ≡ slice_set old holder (after_work id said control))
@@ -167,16 +164,15 @@ module _ (at : Option ℕ) (holder place : ℕ) (result : WorkResult) (old new :
       let (request, first) = first_found place holder old found in
       let given = first_asked place holder request hs d (Ok reply.Done) s t
       (subst (IsFirst place holder request) (sym same) first) asked in
-      let still = first_heard place holder request (signs_of s.kind s.plant)
-      (signs_of t.kind t.plant) old mid first heard_all in
+      let still =
+      first_heard place holder request (signs_of s.kind s.plant) (signs_of t.kind t.plant) old mid first heard_all in
       let (answered, changed) = first_done place holder request mid new result still done in
       works_so reply.Done mid request first (ordered_done request.1 place s t old mid given heard_all) answered changed
 
   -- on a request that it doesn't do
   pub fails : (said : Reply) → (said ≡ reply.Done → ⊥)
       → MatchOption (first_request place (get_or hs holder d).control) ⊥ (λ r. Asked s r.1 (Ok said) t)
-      → result ≡ worked.Failed (code_by said) (extended_by said)
-      → MatchOption (slice_get (controls_of hs) holder) ⊥
+      → result ≡ worked.Failed (code_by said) (extended_by said) → MatchOption (slice_get (controls_of hs) holder) ⊥
       (λ control. new ≡ slice_set (controls_of hs) holder (output_failed (code_by said) (extended_by said) control))
       → WorksAt at place (Ok result) old (hardware_of s) new (hardware_of t)
   fails said undone asked answer changed =

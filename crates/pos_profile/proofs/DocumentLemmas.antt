@@ -45,9 +45,8 @@ plain_spare : {category : Category} → allowed Spare category ≡ Some category
 plain_spare is = grind arith
 
 -- whether a spare is refused doesn't hang on what stands before it
-after_spare : (earlier others : List (Option Entry)) (value : Option Data)
-    → is_refused_after earlier (option_map (entry_of Spare) value) ≡ is_refused_after others
-    (option_map (entry_of Spare) value)
+after_spare : (earlier others : List (Option Entry)) (value : Option Data) → is_refused_after earlier
+    (option_map (entry_of Spare) value) ≡ is_refused_after others (option_map (entry_of Spare) value)
 after_spare earlier others value = grind (arith, entry_sound Spare, plain_spare)
 
 refused_back : (front : List (Option Entry)) (values : List Data) (n k : ℕ) → k ≡ length front + n
@@ -65,14 +64,13 @@ lowest_front front back place lowest = grind (arith, refused_front front back, n
 both_sound : (front : List (Option Entry)) (values : List Data) (limit : ℕ) → ((n : ℕ) → is_refused front n ≡ false)
     → ((n : ℕ) → n < limit → is_refused (map (entry_of Spare) values) n ≡ false) → (n : ℕ) → n < length front + limit
     → is_refused (front ++ map (entry_of Spare) values) n ≡ false
-both_sound front values limit first second n less =
-    grind (
-      arith,
-      refused_front front (map (entry_of Spare) values) n,
-      refused_back front values (n - length front) n,
-      first n,
-      second (n - length front),
-    )
+both_sound front values limit first second n less = grind (
+  arith,
+  refused_front front (map (entry_of Spare) values) n,
+  refused_back front values (n - length front) n,
+  first n,
+  second (n - length front),
+)
 
 -- where no device is refused, the lowest of the spares is the lowest of both
 lowest_back : (front : List (Option Entry)) (values : List Data) (place : ℕ) → ((n : ℕ) → is_refused front n ≡ false)
@@ -120,9 +118,8 @@ module _ (root : Members) (is : is_root root ≡ true) where
     pub document_read : {spares : List Entry} → IsSoundList Spare (values_at (key_of Spare) root) spares
         → IsRead root (record { devices = devices; spares = spares })
     document_read {spares} others = record {
-      sound = λ n. faultless root n is
-          (λ k _. neither (entries_of Device root) (values_at (key_of Spare) root) sound.sound others.sound k) n
-          (omega arith);
+      sound = λ n. faultless root n is (λ k _. neither (entries_of Device root)
+          (values_at (key_of Spare) root) sound.sound others.sound k) n (omega arith);
       devices = sound.entries;
       spares = others.entries;
     }

@@ -49,8 +49,8 @@ module _ (role : Role) (values : List Data) (place : ℕ) (value : Data) (at : s
     pub second_at : is_refused_after (map (λ entry. Some entry) read) (Some (Some entry)) ≡ true → place < 2 ^ 62
         → IsFlawedList role values place SecondHardTotals
     second_at refused small =
-        let parts = and_parts (is_totals entry.category)
-        (list_any is_totals_entry (map (λ entry. Some entry) read)) refused in
+        let parts =
+        and_parts (is_totals entry.category) (list_any is_totals_entry (map (λ entry. Some entry) read)) refused in
         record {
           lowest = grind (arith, entry_at (Some entry));
           has = rw (at, is, ← so_far) parts;
@@ -61,8 +61,8 @@ module _ (role : Role) (values : List Data) (place : ℕ) (value : Data) (at : s
     pub taken : map (λ e. Some e) (read ++ entry ∷ []) ≡ take (place + 1) (map (entry_of role) values)
     taken = grind (arith, map-append, take_next, entry_at (Some entry))
 
-    pub goes_on : is_refused_after (map (λ entry. Some entry) read) (Some (Some entry)) ≡ false
-        → (n : ℕ) → n < place + 1 → is_refused (map (entry_of role) values) n ≡ false
+    pub goes_on : is_refused_after (map (λ entry. Some entry) read) (Some (Some entry)) ≡ false → (n : ℕ)
+        → n < place + 1 → is_refused (map (entry_of role) values) n ≡ false
     goes_on refused n less = grind (arith, entry_at (Some entry), before n)
 
 -- a test that nothing passes up to a place behind the last passes nowhere
@@ -88,13 +88,11 @@ module _ (lent : Bor (List ℕ)) (keys : List (Bor (List ℕ))) (names : List (L
     (at : slice_get names place ≡ Some lent.now) (is_new : Bool)
     (added : is_new ≡ not (list_any (λ (other : Bor (List ℕ)). bytes_eq lent.now other.now) keys)) where
   pub repeated_at : is_repeated names place ≡ not is_new
-  repeated_at =
-      grind (arith, any_mapped)
+  repeated_at = grind (arith, any_mapped)
 
   -- it gets one more
-  pub names_taken : is_new ≡ true
-      → map (λ (name : Bor (List ℕ)). name.now) (insert_key (λ q k. bytes_eq q.now k.now) keys lent) ≡ take
-      (place + 1) names
+  pub names_taken : is_new ≡ true → map (λ (name : Bor (List ℕ)). name.now)
+      (insert_key (λ q k. bytes_eq q.now k.now) keys lent) ≡ take (place + 1) names
   names_taken is = grind (arith, map-append, take_next)
 
 -- the name at a place of a list of entries

@@ -18,8 +18,7 @@ place_longer at name (first ∷ names) noted end is =
 pub place_more : (names : List (List ℕ)) (place : ℕ) (noted : List ℕ) → slice_get names place ≡ Some noted
     → (name : List ℕ)
     → place_of (take (place + 1) names) name ≡ first_of (place_of (take place names) name) (where_same name noted place)
-place_more names place noted at name =
-    rw (take_next names place noted at)
+place_more names place noted at name = rw (take_next names place noted at)
     (place_longer 0 name (take place names) noted place (grind (arith, common_steps, slice_get_within)))
 
 -- a place that is found is one of the list

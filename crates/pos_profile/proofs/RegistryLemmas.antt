@@ -47,11 +47,9 @@ pub in_use : {list : List Device} {name : List ℕ} {device : Device} → IsName
 in_use named is = grind (arith, named)
 
 -- another peripheral, or none, is put into a slot
-pub devices_set : {P : Type 0} (peripherals : Ghosts P) (slots : List (Slot P)) (place : ℕ) (slot : Slot P)
-    (x : Option P) → slot ≡ get_or slots place slot
-    → devices_of peripherals (set slots place (record slot { peripheral = x })) ≡ with_peripheral
-    (devices_of peripherals slots) place
-    (option_map peripherals.state x)
+pub devices_set : {P : Type 0} (peripherals : Ghosts P) (slots : List (Slot P)) (place : ℕ) (slot : Slot P) (x : Option
+    P) → slot ≡ get_or slots place slot → devices_of peripherals (set slots place (record slot { peripheral = x }))
+    ≡ with_peripheral (devices_of peripherals slots) place (option_map peripherals.state x)
 devices_set peripherals [] place slot x at = refl
 devices_set peripherals (first ∷ slots) zero slot x at = rw at
 devices_set peripherals (first ∷ slots) (suc place) slot x at = rw (devices_set peripherals slots place slot x at)
@@ -61,9 +59,8 @@ standing_within list place stands = grind (arith, slice_get_past)
 
 -- what is put at the place of a name is put into a slot of that name
 pub put_named : {P : Type 0} (peripherals : Ghosts P) {slots : List (Slot P)} (new : List (Slot P)) {name : List ℕ}
-    {place : ℕ} (peripheral : P)
-    → place_of (names_of (devices_of peripherals slots)) name ≡ Some place → (put : IsPut slots place peripheral new)
-    → put.slot.name ≡ name
+    {place : ℕ} (peripheral : P) → place_of (names_of (devices_of peripherals slots)) name ≡ Some place
+    → (put : IsPut slots place peripheral new) → put.slot.name ≡ name
 put_named peripherals {slots} new {name} {place} peripheral found put =
     let named = slice_get-map (λ (d : Device). d.name) (devices_of peripherals slots) place
     ∙ ap (option_map (λ (d : Device). d.name))
@@ -89,9 +86,8 @@ all_with Q (device ∷ list) (suc place) all here = (all.0, all_with Q list plac
 -- a registry stays sound, where the peripheral of a place is changed for a right one
 pub sound_with : {P : Type 0} {peripherals : Ghosts P} {old new : Registry P} (place : ℕ) (x : Option PeripheralState)
     → IsRegistrySound peripherals old → new.places ≡ old.places
-    → devices peripherals new ≡ with_peripheral (devices peripherals old) place x
-    → ((device : Device) → slice_get (devices peripherals old) place ≡ Some device
-    → IsServed (record device { peripheral = x }))
+    → devices peripherals new ≡ with_peripheral (devices peripherals old) place x → ((device : Device)
+    → slice_get (devices peripherals old) place ≡ Some device → IsServed (record device { peripheral = x }))
     → IsRegistrySound peripherals new
 sound_with {peripherals} {old} place x sound places is here = record {
   index = λ name. rw (places, is, names_with (devices peripherals old) place x) (sound.index name);
@@ -110,12 +106,11 @@ kind_here : (device : Device) {state : PeripheralState} → IsServed device → 
 kind_here device served is = grind arith
 
 pub served_kind : (list : List Device) (place : ℕ) {device : Device} {state : PeripheralState}
-    → AllByRecursion IsServed list
-    → slice_get list place ≡ Some device → standing_at list place ≡ Some state → state.kind ≡ device.kind
+    → AllByRecursion IsServed list → slice_get list place ≡ Some device → standing_at list place ≡ Some state
+    → state.kind ≡ device.kind
 served_kind [] place served at stands = cc
 served_kind (first ∷ list) zero served at stands = grind (arith, kind_here)
-served_kind (first ∷ list) (suc place) served at stands =
-    served_kind list place served.1 at stands
+served_kind (first ∷ list) (suc place) served at stands = served_kind list place served.1 at stands
 
 -- what is planned is sound, vacant
 served_vacant : (plan : List Planned) → AllByRecursion IsServed (map vacant plan)
@@ -124,8 +119,7 @@ served_vacant (planned ∷ plan) = (tt, served_vacant plan)
 
 -- what is planned for an entry whose kind is in range
 kinds_more : (name : List ℕ) (kind : Option Kind) (plan : List Planned) → IfSome kind IsInRange
-    → AllByRecursion HasKindInRange (map vacant plan)
-    → AllByRecursion HasKindInRange
+    → AllByRecursion HasKindInRange (map vacant plan) → AllByRecursion HasKindInRange
     (map vacant (cons_option (option_map (λ kind. record { name = name; kind = kind }) kind) plan))
 kinds_more name kind plan here all = grind arith
 
@@ -137,10 +131,9 @@ kinds_planned (entry ∷ entries) sound =
     kinds_more entry.name (kind_of entry) (planned_of entries) sound.0.kind (kinds_planned entries sound.1)
 
 pub sound_planned : {P : Type 0} {peripherals : Ghosts P} {registry : Registry P} (entries : List Entry)
-    {plan : List Planned}
-    → All (IsSoundEntry role.Device) entries → plan ≡ planned_of entries
-    → devices peripherals registry ≡ map vacant plan
-    → IsIndexOf registry.places (map (λ (p : Planned). p.name) plan) → IsRegistrySound peripherals registry
+    {plan : List Planned} → All (IsSoundEntry role.Device) entries → plan ≡ planned_of entries
+    → devices peripherals registry ≡ map vacant plan → IsIndexOf registry.places (map (λ (p : Planned). p.name) plan)
+    → IsRegistrySound peripherals registry
 sound_planned entries {plan} sound planned is index = record {
   index = λ name. rw (is, map-map) (index name);
   kinds = rw (is, planned) (kinds_planned entries (recursion_from_All (IsSoundEntry role.Device) entries sound));
@@ -149,8 +142,7 @@ sound_planned entries {plan} sound planned is index = record {
 
 -- one more device is out of service
 pub parked_more : {P : Type 0} (peripherals : Ghosts P) (slots : List (Slot P)) (olds : List Device) {place : ℕ}
-    {old : Slot P} (new : Slot P)
-    → place < length olds → length slots ≡ length olds
+    {old : Slot P} (new : Slot P) → place < length olds → length slots ≡ length olds
     → devices_of peripherals slots ≡ map parked (take place olds) ++ drop place olds → old ≡ get_or slots place old
     → device_of peripherals new ≡ parked (device_of peripherals old)
     → devices_of peripherals (set slots place new) ≡ map parked (take (place + 1) olds) ++ drop (place + 1) olds

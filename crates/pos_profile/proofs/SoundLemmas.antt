@@ -31,9 +31,9 @@ number_sound category table key = grind (arith, nat_tests, within)
 
 -- each number of an entry is sound for its category, and so is what its peripheral has to be
 abbrev AreSound : Category → Numbers → Type 0
-AreSound category numbers = (name : List ℕ) (variation : Variation) → ((key : NumberKey) → IsInItsRange key
-    (has_number category key) (number_in (entry_with category name numbers variation) key)) × IfSome
-    (kind_of (entry_with category name numbers variation)) IsInRange
+AreSound category numbers = (name : List ℕ) (variation : Variation) → ((key : NumberKey)
+    → IsInItsRange key (has_number category key) (number_in (entry_with category name numbers variation) key))
+    × IfSome (kind_of (entry_with category name numbers variation)) IsInRange
 
 numbers_sound : (category : Category) (table : Members) → IfSome (numbers_of category table) (AreSound category)
 numbers_sound category table = grind (arith, number_sound)
@@ -59,9 +59,9 @@ flaky_sound category table = grind (arith, flaky_within)
 
 -- a device differs from a plain one by keys of its category alone, and its failing orders are in their range
 abbrev IsVaried : Category → Variation → Type 0
-IsVaried category variation =
-    ((name : List ℕ) (numbers : Numbers) (key : OptionalKey) → differs_by (entry_with category name numbers variation)
-    key ≡ true → has_option category key ≡ true) × IfSome variation.flaky AreOrders
+IsVaried category variation = ((name : List ℕ) (numbers : Numbers) (key : OptionalKey)
+    → differs_by (entry_with category name numbers variation) key ≡ true → has_option category key ≡ true)
+    × IfSome variation.flaky AreOrders
 
 variation_sound : (category : Category) (table : Members) → IfSome (variation_of category table) (IsVaried category)
 variation_sound category table = grind (arith, truth_sound, flaky_sound)
@@ -76,8 +76,7 @@ name_sound role table = grind arith
 
 -- an entry of sound parts, where it is kept
 parts_sound : (role : Role) {category : Category} (name : List ℕ) (numbers : Numbers) (variation : Variation)
-    (only : Bool)
-    → allowed role category ≡ Some category → IsNamedFor role name → AreSound category numbers
+    (only : Bool) → allowed role category ≡ Some category → IsNamedFor role name → AreSound category numbers
     → IsVaried category variation
     → IfSome (cond only (Some (entry_with category name numbers variation)) None) (IsSoundEntry role)
 parts_sound role name numbers variation true fits named sound varied =

@@ -32,16 +32,14 @@ nothing_put old at = grind (arith, common_steps, take-append-drop at old)
 -- a place in the range of a write is loose
 loose_there : (loose : List Bool) (at : ℕ) (marks rest : List Bool)
     → get_or ((take at loose ++ true ∷ marks) ++ rest) (length (take at loose)) false ≡ true
-loose_there loose at marks rest =
-    ap (λ (all : List Bool). get_or all (length (take at loose)) false) (append_assoc (take at loose) (true ∷ marks)
-    rest) ∙ get_or-append_seam (take at loose) true (marks ++ rest) false
+loose_there loose at marks rest = ap (λ (all : List Bool). get_or all (length (take at loose)) false)
+    (append_assoc (take at loose) (true ∷ marks) rest) ∙ get_or-append_seam (take at loose) true (marks ++ rest) false
 
 -- a disk that is at rest after a write was asked to write nothing
 module _ (memory : Memory) (at : ℕ) where
   wrote_nothing : (bytes : List ℕ) → IsAtRest (state_of (written at bytes memory)) → bytes ≡ []
   wrote_nothing [] rest = refl
-  wrote_nothing (byte ∷ bytes) rest =
-      absurd (rest (length (take at memory.present.loose))
+  wrote_nothing (byte ∷ bytes) rest = absurd (rest (length (take at memory.present.loose))
       (loose_there memory.present.loose at (replicate (length bytes) true)
       (drop (at + length (replicate (length (byte ∷ bytes)) true)) memory.present.loose)))
 
@@ -80,8 +78,7 @@ module _ {F : Type 0} {calls : F → List Call} (totals after : Mirror (FileDisk
   -- what a crash leaves of the disk that the calls make, it leaves of the mirror, if that is at rest
   may_after : (is : IsMirrored calls after) → IsAtRest (mirror_state after) → (bytes : List ℕ)
       → MayLeave (state_of is.asked) bytes → MayLeave (mirror_state after) bytes
-  may_after is rest bytes may =
-      may_under (state_of after.memory) after.failures bytes (from_moment after.memory bytes
+  may_after is rest bytes may = may_under (state_of after.memory) after.failures bytes (from_moment after.memory bytes
       (subst (λ (now : Moment). LeftAt now bytes) (same_at_rest is.continues rest) (to_moment is.asked bytes may)))
 
   rest_after : (is : IsMirrored calls after) → IsAtRest (mirror_state after) → IsAtRest (state_of is.asked)
@@ -126,8 +123,8 @@ module _ {F : Type 0} {calls : F → List Call} (totals after : Mirror (FileDisk
     }
 
   moved_asked : (candidates : List Standing) (outcome : Result (Unit {0}) StoreFault)
-      → AnswersMove candidates (mirror_state totals) outcome (mirror_state after)
-      → (is : IsMirrored calls after) → OnOk outcome (AreMoved candidates (state_of is.asked))
+      → AnswersMove candidates (mirror_state totals) outcome (mirror_state after) → (is : IsMirrored calls after)
+      → OnOk outcome (AreMoved candidates (state_of is.asked))
   moved_asked candidates (Ok u) answer is = record {
     files = answer.files;
     sequence = answer.sequence;

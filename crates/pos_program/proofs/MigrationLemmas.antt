@@ -72,10 +72,9 @@ module _ {D : Type 0} {bound : Ghosts D} {disk : D} where
     ends new result after are passes answer = record {
       answer = answer;
       any_moment = followed_by (bound.state disk) (bound.state mid) (bound.state new)
-          (StandsForEither candidates (map moved candidates)) moments
-          (weaker (bound.state mid) (bound.state new) (StandsForEither (Stands layout files sequence ∷ []) after)
-          (StandsForEither candidates (map moved candidates))
-          (λ bytes. ⊎_elim (⊎_elim (λ this. found_or_moved bytes (inl this)) (λ no. absurd no))
+          (StandsForEither candidates (map moved candidates)) moments (weaker (bound.state mid) (bound.state new)
+          (StandsForEither (Stands layout files sequence ∷ []) after) (StandsForEither candidates
+          (map moved candidates)) (λ bytes. ⊎_elim (⊎_elim (λ this. found_or_moved bytes (inl this)) (λ no. absurd no))
           (λ is. found_or_moved bytes (are bytes is))) passes.any_moment);
       now = λ bytes may. found_or_moved bytes (are bytes (passes.now bytes may));
     }
@@ -117,8 +116,8 @@ module _ {D : Type 0} {bound : Ghosts D} {disk : D} where
         → Rises (bound.state mid).failures (bound.state new.disk).failures
         → MovesOneOf candidates (bound.state disk) (bound.state new.disk) (Err fault.Device)
     fails new off passes rises =
-        ends new.disk (Err fault.Device) (Stands layout files sequence ∷ Stands Layout2 files 1 ∷ []) (λ bytes is. is)
-        (rw off at passes) (subst (λ n. Rises n (bound.state new.disk).failures)
+        ends new.disk (Err fault.Device) (Stands layout files sequence ∷ Stands Layout2 files 1 ∷ [])
+        (λ bytes is. is) (rw off at passes) (subst (λ n. Rises n (bound.state new.disk).failures)
         (⊎_elim (λ no. absurd cc) (λ same. same) (recovers.counts honest)) rises)
 
     -- what a migration of what was found answers, by its layout
@@ -150,8 +149,8 @@ module _ {D : Type 0} {bound : Ghosts D} {disk : D} where
       → MovesAny (bound.state disk) (bound.state new.disk) result
   migrated_moves Off recovers new migrates at_rest honest candidates leaves =
       absurd (recovers.one_of honest candidates leaves).found
-  migrated_moves {mid} {layout} (Ready files sequence) {tail} recovers {result} new migrates at_rest honest candidates
-      leaves =
+  migrated_moves {mid} {layout} (Ready files sequence) {tail} recovers
+      {result} new migrates at_rest honest candidates leaves =
       let there = recovers.keeps.honest.0 honest in
       found_moves mid layout files sequence tail recovers honest candidates leaves layout refl result new
       migrates.answer (migrates.crash there) (at_rest (migrates.keeps.honest.0 there)) (migrates.device there)
@@ -159,8 +158,7 @@ module _ {D : Type 0} {bound : Ghosts D} {disk : D} where
   pub moved_rest : {mid new : StoreView D} {found result : Result (Unit {0}) StoreFault}
       → Recovers bound (new_store disk) found mid → Migrates bound mid result new → bound.honest disk
       → KeepsFirstLayout (bound.state disk).reading (bound.state new.disk).reading
-  moved_rest recovers migrates honest =
-      rw (recovers.reading honest) at (migrates.rest (recovers.keeps.honest.0 honest))
+  moved_rest recovers migrates honest = rw (recovers.reading honest) at (migrates.rest (recovers.keeps.honest.0 honest))
 
   -- the disk failed in neither call, where neither answers its fault
   pub moved_counts : {mid new : StoreView D} {result : Result (Unit {0}) StoreFault}

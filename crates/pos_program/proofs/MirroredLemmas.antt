@@ -64,11 +64,12 @@ record FileMakes {F : Type 0} (calls : F → List Call) (before : List Call) (be
   sound : lost ≡ false → below.has_failed ≡ false
 
 module _ {F : Type 0} (calls : F → List Call) (bound : Ghosts (FileDisk F))
-    (reads : (old new : FileDisk F) (at : ℕ) (was out : List ℕ) (answer : Answer) → bound.own_read old new at was out
-    answer → FileReads calls old new at was out answer) (writes : (old new : FileDisk F) (at : ℕ) (bytes : List ℕ)
-    (answer : Answer) → bound.own_write old new at bytes answer → FileWrites calls old new at bytes
-    answer) (syncs : (old new : FileDisk F) (answer : Answer) → bound.own_sync old new answer → FileSyncs calls old new
-    answer) (first : FileDisk F) where
+    (reads : (old new : FileDisk F) (at : ℕ) (was out : List ℕ) (answer : Answer)
+    → bound.own_read old new at was out answer → FileReads calls old new at was out answer)
+    (writes : (old new : FileDisk F) (at : ℕ) (bytes : List ℕ) (answer : Answer)
+    → bound.own_write old new at bytes answer → FileWrites calls old new at bytes answer)
+    (syncs : (old new : FileDisk F) (answer : Answer) → bound.own_sync old new answer → FileSyncs calls old new answer)
+    (first : FileDisk F) where
   abbrev before : List Call
   before = calls first.file
 
@@ -88,15 +89,15 @@ module _ {F : Type 0} (calls : F → List Call) (bound : Ghosts (FileDisk F))
 
   -- the read with which the mirror began is still there after a call of a disk that has not failed
   read_after : (b : List ℕ) (old new : FileDisk F) (at : ℕ) (was out : List ℕ) (answer : Answer)
-      → old.has_failed ≡ false
-      → HasRead before b (calls old.file) → bound.own_read old new at was out answer → HasRead before b (calls new.file)
+      → old.has_failed ≡ false → HasRead before b (calls old.file) → bound.own_read old new at was out answer
+      → HasRead before b (calls new.file)
   read_after b old new at was out answer sound read own =
       let (moved, asks, same, is) = unfailed _ _ old.has_failed sound (reads old new at was out answer own) in
       read_before before b (read_call at out moved) read asks
 
   written_after : (b : List ℕ) (old new : FileDisk F) (at : ℕ) (bytes : List ℕ) (answer : Answer)
-      → old.has_failed ≡ false
-      → HasRead before b (calls old.file) → bound.own_write old new at bytes answer → HasRead before b (calls new.file)
+      → old.has_failed ≡ false → HasRead before b (calls old.file) → bound.own_write old new at bytes answer
+      → HasRead before b (calls new.file)
   written_after b old new at bytes answer sound read own =
       let (moved, asks, same, is) = unfailed _ _ old.has_failed sound (writes old new at bytes answer own) in
       read_before before b (write_call at bytes moved) read asks
@@ -115,13 +116,12 @@ module _ {F : Type 0} (calls : F → List Call) (bound : Ghosts (FileDisk F))
   -- before a call of a mirror that isn't lost
   at_memory : (below : FileDisk F) (memory : Memory) (so_far : FileMakes calls before below memory false)
       → Follows calls before (fresh so_far.bytes) below.file memory
-  at_memory below memory so_far =
-      subst (λ (m : Memory). Follows calls before (fresh so_far.bytes) below.file m)
+  at_memory below memory so_far = subst (λ (m : Memory). Follows calls before (fresh so_far.bytes) below.file m)
       (sym (so_far.same refl)) so_far.follows
 
   after_write : (old new : FileDisk F) (memory : Memory) (at : ℕ) (bytes put : List ℕ) (answer : Answer)
-      (so_far : FileMakes calls before old memory false)
-      → bound.own_write old new at bytes answer → length put ≡ length bytes → (is_fault answer ≡ false → put ≡ bytes)
+      (so_far : FileMakes calls before old memory false) → bound.own_write old new at bytes answer
+      → length put ≡ length bytes → (is_fault answer ≡ false → put ≡ bytes)
       → Follows calls before (fresh so_far.bytes) new.file (written at put memory) × (new.has_failed ≡ false)
   after_write old new memory at bytes put answer so_far own long exact =
       let asks = writes old new at bytes answer own in let sound = so_far.sound refl in (
@@ -151,8 +151,8 @@ module _ {F : Type 0} (calls : F → List Call) (bound : Ghosts (FileDisk F))
       (λ present. next.1)
   file_makes _ _ _ (found old mid new memory at bytes was put fits long so_far own read) =
       let past = file_makes old memory false so_far in
-      let next = after_write old mid memory at bytes put (Err record {}) past own long
-      (λ done. absurd (true≢false done)) in
+      let next =
+      after_write old mid memory at bytes put (Err record {}) past own long (λ done. absurd (true≢false done)) in
       let asks = reads mid new at was put (Ok tt) read in
       here past.bytes new (written at put memory) false (read_after past.bytes mid new at was put (Ok tt) next.1
       (written_after past.bytes old mid at bytes (Err record {}) (past.sound refl) past.read own) read)
@@ -162,8 +162,8 @@ module _ {F : Type 0} (calls : F → List Call) (bound : Ghosts (FileDisk F))
       (λ present. still mid new next.1 (unfailed _ _ mid.has_failed next.1 asks).2)
   file_makes _ _ _ (unread old mid new memory at bytes was put fits long so_far own read) =
       let past = file_makes old memory false so_far in
-      let next = after_write old mid memory at bytes put (Err record {}) past own long
-      (λ done. absurd (true≢false done)) in
+      let next =
+      after_write old mid memory at bytes put (Err record {}) past own long (λ done. absurd (true≢false done)) in
       let asks = reads mid new at was put (Err record {}) read in
       here past.bytes new (written at put memory) true (read_after past.bytes mid new at was put (Err record {}) next.1
       (written_after past.bytes old mid at bytes (Err record {}) (past.sound refl) past.read own) read)
@@ -209,8 +209,6 @@ module _ {F : Type 0} (calls : F → List Call) (bound : Ghosts (FileDisk F))
 
 -- what a power cut leaves of the file, a crash may have left of the mirror
 pub cut_left : {F : Type 0} {calls : F → List Call} {mirror : Mirror (FileDisk F)} (is : IsMirrored calls mirror)
-    (bytes : List ℕ)
-    → CutMayLeave is bytes → (mirror_state mirror).left_since 0 bytes
-cut_left {mirror} is bytes cut =
-    (left_within is.asked mirror.memory is.continues 0 bytes (omega arith)
+    (bytes : List ℕ) → CutMayLeave is bytes → (mirror_state mirror).left_since 0 bytes
+cut_left {mirror} is bytes cut = (left_within is.asked mirror.memory is.continues 0 bytes (omega arith)
     (left is.follows.since (fresh is.bytes) is.asked bytes cut)).1

@@ -69,8 +69,7 @@ found_in (s ∷ subs) word words {found} is =
   where
     by : (answers : Bool) → answers_to word (label_of s) ≡ answers
         → (option_map (λ s. rows_at s words) (find (λ s. answers_to word (label_of s)) subs) ≡ Some found
-        → IsIn found.0 (map (λ s. s.name) subs))
-        → IsIn found.0 (map (λ s. s.name) (s ∷ subs))
+        → IsIn found.0 (map (λ s. s.name) subs)) → IsIn found.0 (map (λ s. s.name) (s ∷ subs))
     by true answers rest = let first : Some (rows_at s words) ≡ Some found = rw answers at is in inl (cc)
     by false answers rest = inr (rest (rw answers at is))
 
@@ -154,8 +153,8 @@ module _ {app : App} (words : List Text) (same : app ≡ program_line) where
       by (inr is) = is
 
   pub refused : (error : Error) (fault : ChoiceFault) → words ≢ []
-      → (is_simple_and_free app ≡ true → HasKind (fault_of app words) error)
-      → ReportsWhy error fault → Chooses words (Err fault)
+      → (is_simple_and_free app ≡ true → HasKind (fault_of app words) error) → ReportsWhy error fault
+      → Chooses words (Err fault)
   refused error (Words Help) some kinds why = (some, rw why at (among error kinds (λ memory. cc)))
   refused error (Words (Refused told)) some kinds why = (some, rw why.0 (among error kinds why.1))
   refused error (Words NotUtf8) some kinds why = absurd why
@@ -166,9 +165,8 @@ module _ {app : App} (words : List Text) (same : app ≡ program_line) where
 -- its head
 pub bare : {name : Text} (new unnamed plain started : Command) → app_of new ≡ new_app name
     → fields_of unnamed ≡ record (fields_of new) { no_binary_name = true }
-    → fields_of plain ≡ record (fields_of unnamed) { disable_help_subcommand = true }
-    → fields_of started ≡ record (fields_of plain) { subcommand_required = true }
-    → app_of started ≡ on_top (λ s. record s {
+    → fields_of plain ≡ record (fields_of unnamed) { disable_help_subcommand = true } → fields_of started
+    ≡ record (fields_of plain) { subcommand_required = true } → app_of started ≡ on_top (λ s. record s {
       no_binary_name = true;
       disable_help_subcommand = true;
       subcommand_required = true;
@@ -185,8 +183,8 @@ with_command old sub new before line is same local adds =
     adds.shape local ∙ ap₂ with_subcommand is (ap (λ (a : App). a.top) same)
 
 pub last_command : {E : Type 0} (old sub : Command) (result : Result Command E) (before line : App)
-    → app_of old ≡ before → app_of sub ≡ line
-    → (fields_of sub).has_globals ≡ false → IfOk result (λ new. AddsSubcommand old sub new)
+    → app_of old ≡ before → app_of sub ≡ line → (fields_of sub).has_globals ≡ false
+    → IfOk result (λ new. AddsSubcommand old sub new)
     → IfOk result (λ new. app_of new ≡ with_subcommand before line.top)
 last_command old sub (Ok new) before line is same local adds = with_command old sub new before line is same local adds
 last_command old sub (Err why) before line is same local adds = tt

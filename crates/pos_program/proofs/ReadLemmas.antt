@@ -24,8 +24,7 @@ sync_done None is = cc
 four_calls : {none locked synced read : List Call} {lock measure sync sync' look look' : Call} → none ≡ []
     → locked ≡ none ++ lock ∷ measure ∷ [] → synced ≡ locked ++ sync ∷ [] → read ≡ synced ++ look ∷ [] → sync ≡ sync'
     → look ≡ look' → read ≡ lock ∷ measure ∷ sync' ∷ look' ∷ []
-four_calls begins first second third same_sync same_look =
-    rw (third, second, first, begins, same_sync, same_look) refl
+four_calls begins first second third same_sync same_look = rw (third, second, first, begins, same_sync, same_look) refl
 
 module _ {F : Type 0} (calls : F → List Call) (file : F) (disk : FileDisk F) where
   -- the disk is what was answered
@@ -45,8 +44,8 @@ module _ {F : Type 0} (calls : F → List Call) (file : F) (disk : FileDisk F) w
 
   -- the four calls
   pub are_read : calls file ≡ [] → OpensDisk share_call calls file (Ok disk)
-      → (result : Result (Mirror (FileDisk F)) FileFault)
-      → MirrorsDisk (file_disks calls) disk result → IfOk result (AreRead calls)
+      → (result : Result (Mirror (FileDisk F)) FileFault) → MirrorsDisk (file_disks calls) disk result
+      → IfOk result (AreRead calls)
   are_read none opens (Err why) mirrors = tt
   are_read none opens (Ok totals) mirrors =
       let (asked, sound) = opened opens.0 opens.1 opens.2 in

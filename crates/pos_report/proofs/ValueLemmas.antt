@@ -32,11 +32,10 @@ one_value_more files i name bytes (Some file) is named sized =
 
 -- the text of one file more
 pub one_text_more : (text_of : List ℕ → List ℕ → List ℕ) (files : List File) (i : ℕ) (name bytes : List ℕ)
-    (found : Option File)
-    → slice_get files i ≡ found → Some name ≡ option_map (λ (file : File). file.name) found
+    (found : Option File) → slice_get files i ≡ found → Some name ≡ option_map (λ (file : File). file.name) found
     → Some bytes ≡ option_map (λ (file : File). file.bytes) found
-    → flat_map (λ (file : File). text_of file.name file.bytes) (take (i + 1) files)
-    ≡ flat_map (λ (file : File). text_of file.name file.bytes) (take i files) ++ text_of name bytes
+    → flat_map (λ (file : File). text_of file.name file.bytes)
+    (take (i + 1) files) ≡ flat_map (λ (file : File). text_of file.name file.bytes) (take i files) ++ text_of name bytes
 one_text_more text_of files i name bytes None is named sized = absurd cc
 one_text_more text_of files i name bytes (Some file) is named sized =
     let texts = λ (fs : List File). flat_map (λ (f : File). text_of f.name f.bytes) fs in
@@ -51,8 +50,8 @@ one_text_more text_of files i name bytes (Some file) is named sized =
 -- the same where the text is made of the name alone
 pub one_name_more : (text_of : List ℕ → List ℕ) (files : List File) (i : ℕ) (name : List ℕ) (found : Option File)
     → slice_get files i ≡ found → Some name ≡ option_map (λ (file : File). file.name) found
-    → flat_map (λ (file : File). text_of file.name) (take (i + 1) files)
-    ≡ flat_map (λ (file : File). text_of file.name) (take i files) ++ text_of name
+    → flat_map (λ (file : File). text_of file.name) (take (i + 1) files) ≡ flat_map (λ (file : File). text_of file.name)
+    (take i files) ++ text_of name
 one_name_more text_of files i name None is named = absurd cc
 one_name_more text_of files i name (Some file) is named =
     one_text_more (λ n b. text_of n) files i name file.bytes (Some file) is named refl

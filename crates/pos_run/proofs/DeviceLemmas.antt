@@ -34,12 +34,9 @@ some_or_none (Some x) = inr (x, refl)
 no_refusal : {old new : Machine} (name : List ℕ) {hardware : Hardware} (fault : AttachFault) {given : Hardware}
     → kind_named old name ≡ Some hardware.kind → hardware_named old name ≡ None
     → Step old (Attach name hardware) (NotAttached fault given) new → ⊥
-no_refusal name {hardware} attach.Unknown is vacant (none, gave, same) =
-    none-some hardware.kind (sym none ∙ is)
-no_refusal name attach.KindDiffers is vacant (other, gave, same) =
-    other.differs (the_same (sym is ∙ other.named))
-no_refusal name attach.InUse is vacant (there, gave, same) =
-    false≢true (ap is_some (sym vacant) ∙ there)
+no_refusal name {hardware} attach.Unknown is vacant (none, gave, same) = none-some hardware.kind (sym none ∙ is)
+no_refusal name attach.KindDiffers is vacant (other, gave, same) = other.differs (the_same (sym is ∙ other.named))
+no_refusal name attach.InUse is vacant (there, gave, same) = false≢true (ap is_some (sym vacant) ∙ there)
 
 module _ (old new : Machine) (name : List ℕ) (hardware : Hardware) (place : ℕ) (device : Device)
     (found : place_of old.devices name ≡ Some place) (there : slice_get old.devices place ≡ Some device)
@@ -86,9 +83,8 @@ all_vacant (entry ∷ entries) = elim (some_or_none (kind_of entry)) [
 pub begins_partly : (entries : List Entry) (part : TotalsPart)
     → machine_with [] (replicate (length (profile_devices entries)) None) (profile_devices entries)
     (totals_name entries) part ≡ begun_partly entries 0 part
-begins_partly entries part =
-    ap (λ (ds : List Device). machine_with [] (replicate (length (profile_devices entries)) None) ds
-    (totals_name entries) part) (all_vacant entries)
+begins_partly entries part = ap (λ (ds : List Device). machine_with []
+    (replicate (length (profile_devices entries)) None) ds (totals_name entries) part) (all_vacant entries)
 
 -- as many are served in the end as were vacant at first
 as_many : (entries : List Entry) → length (filter_map unserved entries) ≡ length (filter_map served entries)
@@ -111,9 +107,8 @@ name_of device = device.name
 
 -- a device whose name no entry before it has is found behind them
 found_behind : (name : List ℕ) (front : List Entry) (at : ℕ) (device : Device) (back : List Device)
-    → list_any (bytes_eq name) (names_of front) ≡ false → bytes_eq name device.name ≡ true
-    → place_from at name (map name_of (filter_map served front ++ device ∷ back))
-    ≡ Some (at + length (filter_map served front))
+    → list_any (bytes_eq name) (names_of front) ≡ false → bytes_eq name device.name ≡ true → place_from
+    at name (map name_of (filter_map served front ++ device ∷ back)) ≡ Some (at + length (filter_map served front))
 found_behind name [] at device back none same =
     ap (λ b. cond b (Some at) (place_from (at + 1) name (map name_of back))) same ∙ ap (λ (n : ℕ). Some n) (omega arith)
 found_behind name (entry ∷ front) at device back none same =

@@ -30,28 +30,26 @@ prints_join session (line ∷ lines) steps text mid more further rest after
 module _ {C : Type 0} {Runs : Leads C} {old : C} {session : Session} where
   -- a write that failed at a line behind others
   pub stops_behind : {lines earlier : List (List ℕ)} {line : List ℕ} (later : List (List ℕ))
-      {before given after : Given} {between left : Session} {mid new : C}
-      → lines ≡ earlier ++ line ∷ later → Finishes Runs old session earlier before given between mid
-      → StopsAt Runs mid between line given after left new → Stops Runs old session lines before after left new
-  stops_behind later split done failed =
-      record {
-        earlier = _;
-        line = _;
-        later = later;
-        between = _;
-        mid = _;
-        given = _;
-        split = split;
-        done = done;
-        failed = failed;
-      }
+      {before given after : Given} {between left : Session} {mid new : C} → lines ≡ earlier ++ line ∷ later
+      → Finishes Runs old session earlier before given between mid → StopsAt Runs mid between line given after left new
+      → Stops Runs old session lines before after left new
+  stops_behind later split done failed = record {
+    earlier = _;
+    line = _;
+    later = later;
+    between = _;
+    mid = _;
+    given = _;
+    split = split;
+    done = done;
+    failed = failed;
+  }
 
   -- lines that follow one at which a write failed
   pub stops_more : {lines : List (List ℕ)} (more : List (List ℕ)) {before after : Given} {left : Session} {new : C}
       → Stops Runs old session lines before after left new
       → Stops Runs old session (lines ++ more) before after left new
-  stops_more more h =
-      stops_behind (h.later ++ more)
+  stops_more more h = stops_behind (h.later ++ more)
       (ap (λ ls. ls ++ more) h.split ∙ append_assoc h.earlier (h.line ∷ h.later) more) h.done h.failed
 
   -- a flush gave nothing
@@ -69,18 +67,15 @@ module _ {C : Type 0} {Runs : Leads C} {old : C} {session : Session} where
 
   -- no line yet
   pub finishes_none : Runs old [] old → (given : Given) → Finishes Runs old session [] given given session old
-  finishes_none none given =
-      record {
-        text = [];
-        transcript = record { steps = []; run = none; prints = (refl, refl, refl) };
-        written =
-            Appends-nil given;
-      }
+  finishes_none none given = record {
+    text = [];
+    transcript = record { steps = []; run = none; prints = (refl, refl, refl) };
+    written = Appends-nil given;
+  }
 
 -- one line, and what it prints is written as far as it can be
-pub one_line : {C E : Type 0} {Runs : Leads C} {old : C} (session : Session) → Runs old [] old
-    → (line : List ℕ) (reply : Option (List ℕ))
-    (before after : Given) (result : Result (Unit {0}) E) (left : Session) (new : C)
+pub one_line : {C E : Type 0} {Runs : Leads C} {old : C} (session : Session) → Runs old [] old → (line : List ℕ)
+    (reply : Option (List ℕ)) (before after : Given) (result : Result (Unit {0}) E) (left : Session) (new : C)
     → RunsLine Runs old (LineBecomes session line) reply left new → Writes before after (printed reply) result
     → MatchResult result (λ u. Finishes Runs old session (line ∷ []) before after left new)
     (λ e. Stops Runs old session (line ∷ []) before after left new)
@@ -141,9 +136,8 @@ module _ {C : Type 0} {Runs : Leads C} (join : (a b c : C) (s t : List (Request 
   pub stops_join : {more : List (List ℕ)} {after : Given} {left : Session} {new : C}
       → Stops Runs mid mid_session more between after left new
       → Stops Runs old session (lines ++ more) before after left new
-  stops_join second =
-      stops_behind second.later (ap (λ ls. lines ++ ls) second.split ∙ sym (append_assoc lines second.earlier
-      (second.line ∷ second.later))) (finishes_join second.done) second.failed
+  stops_join second = stops_behind second.later (ap (λ ls. lines ++ ls) second.split
+      ∙ sym (append_assoc lines second.earlier (second.line ∷ second.later))) (finishes_join second.done) second.failed
 
   module _ (others more : List (List ℕ)) (same : others ≡ lines ++ more) (after : Given) (left : Session)
       (new : C) where
@@ -157,19 +151,17 @@ module _ {C : Type 0} {Runs : Leads C} (join : (a b c : C) (s t : List (Request 
     lines_join (Err e) stops = rw same (stops_join stops)
 
     -- a fault of the sink at more lines, or behind them
-    pub fault_join : Stops Runs mid mid_session more between after left new
-        ⊎ FinishesUnflushed Runs mid mid_session more between after left new
-        → Stops Runs old session others before after left new
+    pub fault_join : Stops Runs mid mid_session more between after left new ⊎ FinishesUnflushed Runs mid mid_session
+        more between after left new → Stops Runs old session others before after left new
         ⊎ FinishesUnflushed Runs old session others before after left new
     fault_join (inl stops) = inl (rw same (stops_join stops))
     fault_join (inr done) = inr (rw same (unflushed_join done))
 
 -- what the lines that were carried out asked is one run, also where a write failed
 pub carried_run : {C : Type 0} (Runs : Leads C) → ((c : C) → Runs c [] c)
-    → ((a b c : C) (s t : List (Request × Response)) → Runs a s b → Runs b t c → Runs a (s ++ t) c)
-    → (old : C) (session : Session) (lines : List (List ℕ)) (before after : Writing)
-    (result : Result (Unit {0}) RunFault) (left : Session) (new : C)
-    (leaves : ScriptLeaves Runs old session lines before after result left new)
+    → ((a b c : C) (s t : List (Request × Response)) → Runs a s b → Runs b t c → Runs a (s ++ t) c) → (old : C)
+    (session : Session) (lines : List (List ℕ)) (before after : Writing) (result : Result (Unit {0}) RunFault)
+    (left : Session) (new : C) (leaves : ScriptLeaves Runs old session lines before after result left new)
     → Runs old (carried_steps Runs old session lines before after result left new leaves) new
 carried_run Runs none join old session lines before after (Ok u) left new (done, held) = done.transcript.run
 carried_run Runs none join old session lines before after (Err fault.Read) left new (done, held) = done.transcript.run

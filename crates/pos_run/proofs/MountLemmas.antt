@@ -61,15 +61,15 @@ module _ {P : Type 0} (mounts : Mounts P) (entries : List Entry) where
   pub offered_mounted : {old new : List (Slot P)} {name : List ℕ} {peripheral : P} → Offers old name peripheral new
       → IsMountedAs mounts entries name peripheral → AllByRecursion (HasMounted mounts entries) old
       → AllByRecursion (HasMounted mounts entries) new
-  offered_mounted {old} {peripheral} offers mounted all = ⊎_elim
-      (λ placed. rw placed.1.is (all_set old placed.0 (record placed.1.slot { peripheral = Some peripheral }) all
+  offered_mounted {old} {peripheral} offers mounted all =
+      ⊎_elim (λ placed. rw placed.1.is (all_set old placed.0 (record placed.1.slot { peripheral = Some peripheral }) all
       (subst (λ (n : List ℕ). IsMountedAs mounts entries n peripheral) (sym placed.2) mounted)))
       (λ same. rw same all) offers
 
   -- what is mounted for an entry serves as that of its name
   pub mounted_as : {i : ℕ} {entry : Entry} {name : List ℕ} {peripheral : P} → i < length entries
-      → entry ≡ get_or entries i entry → name ≡ entry.name
-      → IsMountedFor mounts entry peripheral → IsMountedAs mounts entries name peripheral
+      → entry ≡ get_or entries i entry → name ≡ entry.name → IsMountedFor mounts entry peripheral
+      → IsMountedAs mounts entries name peripheral
   mounted_as {i} {entry} lt is named mounted = record {
     place = i;
     entry = entry;
@@ -81,8 +81,7 @@ module _ {P : Type 0} (mounts : Mounts P) (entries : List Entry) where
 -- ---- one more spare is there
 
 pub spares_mounted : {P : Type 0} (mounts : Mounts P) (entries : List Entry) (spares : List (Option P)) (entry : Entry)
-    (spare : Option P)
-    → AreSparesMounted mounts entries spares → IfSome spare (IsMountedFor mounts entry)
+    (spare : Option P) → AreSparesMounted mounts entries spares → IfSome spare (IsMountedFor mounts entry)
     → AreSparesMounted mounts (entries ++ entry ∷ []) (spares ++ spare ∷ [])
 spares_mounted mounts [] [] entry spare all one = (one, tt)
 spares_mounted mounts (first ∷ entries) (one_there ∷ spares) entry spare all one =

@@ -24,8 +24,8 @@ module _ (entries : List Entry) (i : ℕ) (entry : Entry) (lt : i < length entri
 
   -- one more spare is there
   pub spares_more : (front : List (Option PeripheralState)) (spare : Option PeripheralState)
-      → front ≡ simulated_all (take i entries)
-      → spare ≡ simulated_for entry → front ++ spare ∷ [] ≡ simulated_all (take (i + 1) entries)
+      → front ≡ simulated_all (take i entries) → spare ≡ simulated_for entry
+      → front ++ spare ∷ [] ≡ simulated_all (take (i + 1) entries)
   spares_more front spare so_far same =
       rw (so_far, same, one_more, map-append simulated_for (take i entries) (entry ∷ []))
 
@@ -96,18 +96,16 @@ same_behind (Some asks) recorded kind plant is_parked = refl
 begins_behind : (flaky : Option (ℕ × ℕ)) (recorded : Bool) (kind : Option Kind) (lines : ℕ) (state : PeripheralState)
     → Some state ≡ option_map (λ is. new_device is lines) kind → behind flaky recorded state ≡ state
 begins_behind flaky recorded None lines state is = absurd cc
-begins_behind flaky recorded (Some kind) lines state is =
-    rw (same_Some state (new_device kind lines) is)
+begins_behind flaky recorded (Some kind) lines state is = rw (same_Some state (new_device kind lines) is)
     (same_behind flaky recorded kind (new_device kind lines).plant false)
 
 -- what an entry's wrappers have in them is what is simulated for it
 pub wrapped_begins : (entry : Entry) (device : Simulation) → Some (state_of device) ≡ simulated_for entry
     → Some (wrapped_state (wrapped_by entry.flaky entry.recorded device)) ≡ simulated_for entry
-wrapped_begins entry device is =
-    rw (
-      is_behind entry.flaky entry.recorded device,
-      begins_behind entry.flaky entry.recorded (kind_of entry) entry.lines (state_of device) is,
-    ) is
+wrapped_begins entry device is = rw (
+  is_behind entry.flaky entry.recorded device,
+  begins_behind entry.flaky entry.recorded (kind_of entry) entry.lines (state_of device) is,
+) is
 
 module _ (entry : Entry) (device : Simulation) (made : Wrapped) (simulates : IsDeviceFor entry (Some device))
     (is : made ≡ wrapped_by entry.flaky entry.recorded device) where

@@ -43,8 +43,8 @@ module _ (first old new : Reading) (input buffer : List ℕ) (so_far : old.taken
 
   -- one that failed asked the source, or the script may be read no more
   pub fails : {fault : ReadFault} (may : Bool) → may_read old.state old.reads ≡ may
-      → (old.state ≡ Failed → (old ≡ first) × (input ≡ []))
-      → ReadsScript old buffer (Err fault) new → ReadsToFault input first new
+      → (old.state ≡ Failed → (old ≡ first) × (input ≡ [])) → ReadsScript old buffer (Err fault) new
+      → ReadsToFault input first new
   fails true is failed reads =
       let (took, counted, state) = rw is at reads in (rw state refl, inl (rw so_far at took))
   fails false is failed reads =
@@ -59,7 +59,7 @@ module _ (first old new : Reading) (input buffer : List ℕ) (so_far : old.taken
 
   -- after it the lines that were read are the same
   pub same_lines : (fault : ReadFault) (may : Bool) → may_read old.state old.reads ≡ may
-      → ReadsScript old buffer (Err fault) new
-      → lines_read old.state input ≡ complete_lines input → lines_read new.state input ≡ complete_lines input
+      → ReadsScript old buffer (Err fault) new → lines_read old.state input ≡ complete_lines input
+      → lines_read new.state input ≡ complete_lines input
   same_lines fault true is reads are = let (took, counted, state) = rw is at reads in rw state refl
   same_lines fault false is reads are = let same = (rw is at reads).1 in rw same are

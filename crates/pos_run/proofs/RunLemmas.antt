@@ -25,8 +25,7 @@ use Rattle.pos_run.specs.declared.spares.Spares.{Spares}
 pub runs_through : {D P : Type 0} (bound : DiskGhosts D) (peripherals : Ghosts P)
     → ((disk : D) (bytes : List ℕ) → bound.honest disk → (bound.state disk).left_since (bound.state disk).moment bytes
     → MayLeave (bound.state disk) bytes) → (a b : Counter D P) (steps : List (Request × Response))
-    → IsRun bound peripherals a steps b
-    → RunsThrough bound peripherals a steps b
+    → IsRun bound peripherals a steps b → RunsThrough bound peripherals a steps b
 runs_through bound peripherals only a b steps run = (
   run,
   (λ left leaves. runs_from bound peripherals a b steps left only leaves run),
@@ -40,9 +39,8 @@ module _ {C M L : Type 0} (Runs : Leads C) (Over : Leads M) (Holds : C → L →
     (holds : Holds a left) where
   -- lines that were carried out
   transcript_over : {b : C} {kept : Session} {lines : List (List ℕ)} {text : List ℕ}
-      (t : Transcript Runs a session lines text kept b)
-      → (end : L) × Holds b end × (u : Transcript Over (over a left) session lines text kept (over b end))
-      × (u.steps ≡ t.steps)
+      (t : Transcript Runs a session lines text kept b) → (end : L) × Holds b end
+      × (u : Transcript Over (over a left) session lines text kept (over b end)) × (u.steps ≡ t.steps)
   transcript_over t =
       let (end, stands, run) = along _ _ t.steps left holds t.run in
       (end, stands, record { steps = t.steps; run = run; prints = t.prints }, refl)
@@ -57,9 +55,9 @@ module _ {C M L : Type 0} (Runs : Leads C) (Over : Leads M) (Holds : C → L →
 
   -- and such behind which the sink failed
   unflushed_over : {b : C} {kept : Session} {lines : List (List ℕ)} {before after : Given}
-      (h : FinishesUnflushed Runs a session lines before after kept b)
-      → (end : L) × Holds b end × (f : FinishesUnflushed Over (over a left) session lines before after kept
-      (over b end)) × (f.transcript.steps ≡ h.transcript.steps)
+      (h : FinishesUnflushed Runs a session lines before after kept b) → (end : L) × Holds b end
+      × (f : FinishesUnflushed Over (over a left) session lines before after kept (over b end))
+      × (f.transcript.steps ≡ h.transcript.steps)
   unflushed_over h =
       let (end, stands, t, same) = transcript_over h.transcript in
       (end, stands, record { text = h.text; transcript = t; failed = h.failed }, same)
@@ -96,8 +94,8 @@ module _ {C M L : Type 0} (Runs : Leads C) (Over : Leads M) (Holds : C → L →
   leaves_over : (b : C) (kept : Session) (lines : List (List ℕ)) (before after : Writing)
       (result : Result (Unit {0}) RunFault) (h : ScriptLeaves Runs a session lines before after result kept b)
       → (n : M) × (s : ScriptLeaves Over (over a left) session lines before after result kept n)
-      × (carried_steps Over (over a left) session lines before after result kept n s ≡ carried_steps Runs a session
-      lines before after result kept b h)
+      × (carried_steps Over (over a left) session lines before after result kept n s
+      ≡ carried_steps Runs a session lines before after result kept b h)
   leaves_over b kept lines before after (Ok u) (done, flushed) = let o = finishes_over done in (_, (o.2, flushed), o.3)
   leaves_over b kept lines before after (Err fault.Read) (done, flushed) = let o = finishes_over done in
       (_, (o.2, flushed), o.3)
@@ -107,8 +105,8 @@ module _ {C M L : Type 0} (Runs : Leads C) (Over : Leads M) (Holds : C → L →
 
 -- a run from this machine by these steps is one from an equal one by equal ones, with the same moments
 moved : {D : Type 0} (state : D → DiskState) {d e : D} {after : DiskState} (end : Machine) {m n : Machine}
-    {s t : List (Request × Response)} → d ≡ e → m ≡ n
-    → s ≡ t → (run : Run m s end) → LeavesOnly (state d) after (IsLeftDuring m s end run)
+    {s t : List (Request × Response)} → d ≡ e → m ≡ n → s ≡ t → (run : Run m s end)
+    → LeavesOnly (state d) after (IsLeftDuring m s end run)
     → (again : Run n t end) × LeavesOnly (state e) after (IsLeftDuring n t end again)
 moved {D} state {d} {after} end {m} {n} {t} here same steps run any_moment =
     let P : D → Machine → List (Request × Response) → Type 0 =
@@ -119,32 +117,28 @@ moved {D} state {d} {after} end {m} {n} {t} here same steps run any_moment =
 module _ {D P : Type 0} (bound : DiskGhosts D) (peripherals : Ghosts P) {contents : Contents} {disk : D}
     {counter new : Counter D P} {spares : Spares P} (made : IsSimulatedCounter peripherals contents disk counter spares)
     {streams : Streams} {result : Result (Unit {0}) RunFault} {kept : Session}
-    (carried : RunsWholeScript bound peripherals counter (begun_session (spares_in peripherals spares)) streams result
-    kept new) (left : List Standing) where
+    (carried : RunsWholeScript bound peripherals counter
+    (begun_session (spares_in peripherals spares)) streams result kept new) (left : List Standing) where
   abbrev lines : List (List ℕ)
   lines = lines_read streams.reader_after.state carried.script.input
 
-  over_profile : (Over : Leads Machine) (Holds : TotalsView D → List Standing → Type 0)
-      (part : TotalsView D → List Standing → TotalsPart)
-      → ((a b : Counter D P) (steps : List (Request × Response)) (left : List Standing) → Holds a.totals left → IsRun
-      bound peripherals a steps b → (after : List Standing) × Holds b.totals after × Over
-      (machine peripherals a (part a.totals left)) steps (machine peripherals b (part b.totals after)))
+  over_profile : (Over : Leads Machine) (Holds : TotalsView D → List Standing → Type 0) (part : TotalsView D
+      → List Standing → TotalsPart) → ((a b : Counter D P) (steps : List (Request × Response)) (left : List Standing)
+      → Holds a.totals left → IsRun bound peripherals a steps b → (after : List Standing) × Holds b.totals after
+      × Over (machine peripherals a (part a.totals left)) steps (machine peripherals b (part b.totals after)))
       → Holds (off_over disk) left → let begins = simulated_machine contents.devices (part (off_over disk) left) in
       let session = begun_session (simulated_all contents.spares) in
       (n : Machine) × (s : ScriptLeaves Over begins session lines streams.writer streams.writer_after result kept n)
       × (carried_steps Over begins session lines streams.writer streams.writer_after result kept n s
       ≡ script_steps carried.script)
-  over_profile Over Holds part along holds =
-      rw (← made.served (part (off_over disk) left), ← made.totals, ← made.left)
-      (leaves_over (IsRun bound peripherals) Over (λ c left. Holds c.totals left)
-      (λ c left. machine peripherals c (part c.totals left)) along counter
-      (begun_session (spares_in peripherals spares)) left
+  over_profile Over Holds part along holds = rw (← made.served (part (off_over disk) left), ← made.totals, ← made.left)
+      (leaves_over (IsRun bound peripherals) Over (λ c left. Holds c.totals left) (λ c left. machine peripherals c
+      (part c.totals left)) along counter (begun_session (spares_in peripherals spares)) left
       (rw made.totals holds) new kept lines streams.writer streams.writer_after result carried.script.run)
 
   -- over an honest disk, for all that it may leave
-  pub runs_honestly : bound.honest disk → LeavesOneOf left (bound.state disk)
-      → RunsThroughProfile contents left (bound.state disk) (bound.state new.totals.disk) streams result
-      × bound.honest new.totals.disk
+  pub runs_honestly : bound.honest disk → LeavesOneOf left (bound.state disk) → RunsThroughProfile contents left
+      (bound.state disk) (bound.state new.totals.disk) streams result × bound.honest new.totals.disk
   runs_honestly honest leaves =
       let holds : Leaves bound (off_over disk) left = record { honest = honest; leaves = leaves; is_settled = refl } in
       let script = carried.script in
@@ -153,14 +147,13 @@ module _ {D P : Type 0} (bound : DiskGhosts D) (peripherals : Ghosts P) {content
       let end = machine peripherals new (part_of bound new.totals ran.after) in
       let begins = ap (λ (t : TotalsView D). machine peripherals counter (part_of bound t left)) made.totals
       ∙ made.served (part_of bound (off_over disk) left) in
-      let (run, any_moment) = moved bound.state end
-      (ap (λ (t : TotalsView D). t.disk) made.totals) begins (sym same) ran.run ran.any_moment in (
+      let (run, any_moment) = moved bound.state end (ap (λ (t : TotalsView D). t.disk) made.totals) begins
+      (sym same) ran.run ran.any_moment in (
         record {
           text = record {
             end = n;
             left = kept;
-            run =
-                record { input = script.input; reader = script.reader; run = said };
+            run = record { input = script.input; reader = script.reader; run = said };
           };
           end = end;
           run = run;
@@ -180,6 +173,5 @@ module _ {D P : Type 0} (bound : DiskGhosts D) (peripherals : Ghosts P) {content
       record {
         end = n;
         left = kept;
-        run =
-            record { input = carried.script.input; reader = carried.script.reader; run = said };
+        run = record { input = carried.script.input; reader = carried.script.reader; run = said };
       }

@@ -37,15 +37,13 @@ module _ {D P : Type 0} {bound : DiskGhosts D} {peripherals : Ghosts P} {old new
   answers : IsAsked bound peripherals old ((request, response) ∷ []) new → request_of session asking ≡ Some request
       → left ≡ session_after session asking response → response_text given ≡ response_text response
       → RunsAsking bound peripherals old session asking (Responded given) left new
-  answers step is same told =
-      record {
-        carried = record {
-          steps = (request, response) ∷ [];
-          run = step;
-          becomes =
-              rw (is, same, told) (inr (response, refl));
-        };
-      }
+  answers step is same told = record {
+    carried = record {
+      steps = (request, response) ∷ [];
+      run = step;
+      becomes = rw (is, same, told) (inr (response, refl));
+    };
+  }
 
   -- a request and its response
   pub asks_step : IsStep bound peripherals old request response new → request_of session asking ≡ Some request
@@ -66,9 +64,8 @@ some_of (Some a) e = (a, refl)
 
 -- what becomes of what was read becomes of what may be
 reads_become : {A : Type 0} (session : Session) (make : A → LineRequest) (reading : Reading A)
-    (read : Result A ArgumentFault) (outcome : Outcome)
-    → Reads reading read → ReadBecomes session (asked_as make read) outcome
-    → ReadingBecomes session (become make reading) outcome
+    (read : Result A ArgumentFault) (outcome : Outcome) → Reads reading read
+    → ReadBecomes session (asked_as make read) outcome → ReadingBecomes session (become make reading) outcome
 reads_become session make reading (Ok value) outcome is becomes = rw is (inr becomes)
 reads_become session make reading (Err fault.WrongShape) outcome wrong becomes = rw wrong becomes
 reads_become session make reading (Err fault.NoMemory) outcome lacks becomes =
@@ -108,26 +105,23 @@ module _ {D P E : Type 0} (bound : DiskGhosts D) (peripherals : Ghosts P) (old :
   pub asks_nothing_misshapen : (reading : Reading LineRequest) → reading ≡ misshapen
       → Writes before after (codes "bad line" ++ 10 ∷ []) result
       → RunsReading bound peripherals old session reading before after result session old
-  asks_nothing_misshapen reading is writes =
-      record {
-        reply = codes "bad line";
-        carried = record { steps = []; run = refl; becomes = rw is refl };
-        written =
-            writes;
-      }
+  asks_nothing_misshapen reading is writes = record {
+    reply = codes "bad line";
+    carried = record { steps = []; run = refl; becomes = rw is refl };
+    written = writes;
+  }
 
   -- what is asked by what was read is asked by the words
   pub asks_by_words : {A : Type 0} (left : Session) (new : Counter D P) (make : A → LineRequest) (reading : Reading A)
-      (read : Result A ArgumentFault)
-      → Reads reading read → RunsRead bound peripherals old session (asked_as make read) before after result left new
+      (read : Result A ArgumentFault) → Reads reading read
+      → RunsRead bound peripherals old session (asked_as make read) before after result left new
       → RunsReading bound peripherals old session (become make reading) before after result left new
   asks_by_words left new make reading read reads done = record {
     reply = done.reply;
     carried = record {
       steps = done.carried.steps;
       run = done.carried.run;
-      becomes =
-          reads_become session make reading read _ reads done.carried.becomes;
+      becomes = reads_become session make reading read _ reads done.carried.becomes;
     };
     written = done.written;
   }

@@ -23,8 +23,7 @@ returned : (spares : SpareStates) (place : ℕ) {state : PeripheralState}
     → set (set spares place None) place (Some state) ≡ spares
 returned [] place there = cc
 returned (first ∷ spares) zero there = grind arith
-returned (first ∷ spares) (suc place) there =
-    ap (λ (ss : SpareStates). first ∷ ss) (returned spares place there)
+returned (first ∷ spares) (suc place) there = ap (λ (ss : SpareStates). first ∷ ss) (returned spares place there)
 
 pub put_back : (spares : SpareStates) (number : ℕ) (state : PeripheralState) → spare_at spares number ≡ Some state
     → with_spare (with_spare spares number None) number (Some state) ≡ spares
@@ -56,8 +55,7 @@ module _ {P : Type 0} (peripherals : Ghosts P) (list : List (Option P)) (place :
   -- what is at the place of a box
   pub state_there : {spare : Option P} → place < length list → spare ≡ get_or list place spare
       → slice_get (states_in peripherals list) place ≡ Some (option_map peripherals.state spare)
-  state_there {spare} within at =
-      slice_get-map (option_map peripherals.state) list place
+  state_there {spare} within at = slice_get-map (option_map peripherals.state) list place
       ∙ ap (option_map (option_map peripherals.state)) (slice_get_read list (length list) place spare refl within at)
 
   -- the box that is there is in service
@@ -77,17 +75,15 @@ module _ {P : Type 0} (peripherals : Ghosts P) (list : List (Option P)) (place :
       serving spare (rw there at (all place (option_map peripherals.state spare) (omega (arith, count, within))))
 
   -- another box, or none, is put there
-  pub states_set : (spare : Option P)
-      → states_in peripherals (set list place spare) ≡ set (states_in peripherals list) place
-      (option_map peripherals.state spare)
+  pub states_set : (spare : Option P) → states_in peripherals
+      (set list place spare) ≡ set (states_in peripherals list) place (option_map peripherals.state spare)
   states_set spare = map-set (option_map peripherals.state) list place spare
 
   pub service_set : (spare : Option P) → All IsInService (states_in peripherals list)
       → IsInService (option_map peripherals.state spare)
       → All IsInService (states_in peripherals (set list place spare))
-  service_set spare all one =
-      rw (states_set spare) (All-set IsInService (states_in peripherals list) place
-      (option_map peripherals.state spare) one all)
+  service_set spare all one = rw (states_set spare)
+      (All-set IsInService (states_in peripherals list) place (option_map peripherals.state spare) one all)
 
   -- the place of a number that is empty has no box
   pub no_box : {number : ℕ} {spare : Option P} {other : P} → number ≡ suc place

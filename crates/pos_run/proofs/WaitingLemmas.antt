@@ -42,8 +42,7 @@ wrote_front old new {bytes} count (Err fault) failed =
     (take count bytes, drop count bytes, sym (take-append-drop count bytes), ap (λ (g : Given). g.bytes) failed)
 
 pub wrote_all : (old : Given) {new : Given} (bytes : List ℕ) (count : ℕ) (result : Result (Unit {0}) WriteFault)
-    {u : Unit {0}}
-    → result ≡ Ok u → WritesFront old bytes count result new → Appends old new bytes
+    {u : Unit {0}} → result ≡ Ok u → WritesFront old bytes count result new → Appends old new bytes
 wrote_all old bytes count (Ok u) is (whole, wrote) = wrote
 wrote_all old bytes count (Err fault) is failed = grind (arith, is)
 
@@ -96,13 +95,12 @@ module _ {D P : Type 0} (bound : DiskGhosts D) (peripherals : Ghosts P) where
 
   -- then the counter stays as it is to the machine
   runs_stay : (a : Counter D P) {b c : Counter D P} {s left : Session} {lines : List (List ℕ)} {text : List ℕ}
-      → RunsLines bound peripherals a s lines text b left
-      → Stays peripherals b c → RunsLines bound peripherals a s lines text c left
+      → RunsLines bound peripherals a s lines text b left → Stays peripherals b c
+      → RunsLines bound peripherals a s lines text c left
   runs_stay a {b} {c} runs stays = λ standing leaves.
       let (later, leave, done) = runs standing leaves in
       let same : machine peripherals c (part_of bound c.totals later) ≡ machine peripherals b
-      (part_of bound b.totals later) =
-      ap (λ v. machine peripherals c (part_of bound v later)) stays.totals
+      (part_of bound b.totals later) = ap (λ v. machine peripherals c (part_of bound v later)) stays.totals
       ∙ stays.machine (part_of bound b.totals later) in (
         later,
         subst (λ v. Leaves bound v later) (sym stays.totals) leave,
@@ -162,8 +160,7 @@ module _ {D P : Type 0} (bound : DiskGhosts D) (peripherals : Ghosts P) where
 
   -- lines and then more
   pub tells_join : {a b c : Counter D P} {s mid left : Session} {lines more : List (List ℕ)}
-      {before between after : Given}
-      → RunsAndWrites bound peripherals a s lines before between b mid
+      {before between after : Given} → RunsAndWrites bound peripherals a s lines before between b mid
       → RunsAndWrites bound peripherals b mid more between after c left
       → RunsAndWrites bound peripherals a s (lines ++ more) before after c left
   tells_join {a} {b} {c} {s} {mid} {left} {lines} {more} first second = record {
@@ -190,18 +187,17 @@ module _ {D P : Type 0} (bound : DiskGhosts D) (peripherals : Ghosts P) where
       (text : List ℕ) × Transcript (IsRun bound peripherals) a s (line ∷ []) text left b × IsCut before after text
 
   alone : {a b mid : Counter D P} {s between left : Session} {line at : List ℕ} (earlier later : List (List ℕ))
-      {before given after : Given}
-      → line ∷ [] ≡ earlier ++ at ∷ later → Finishes (IsRun bound peripherals) a s earlier before given between mid
+      {before given after : Given} → line ∷ [] ≡ earlier ++ at ∷ later
+      → Finishes (IsRun bound peripherals) a s earlier before given between mid
       → StopsAt (IsRun bound peripherals) mid between at given after left b → StopsAlone a s line before after b left
   alone {a} {b} {mid} {s} {between} {left} {line} {at} [] later {before} {given} {after} split done failed =
       let (none, nothing, names) = done.transcript.prints in
       let same : at ≡ line = sym (ap (λ (ls : List (List ℕ)). get_or ls 0 []) split) in
-      let still : mid ≡ a = subst (λ (ss : List (Request × Response)). IsRun bound peripherals a ss mid) none
-      done.transcript.run in
+      let still : mid ≡ a =
+      subst (λ (ss : List (Request × Response)). IsRun bound peripherals a ss mid) none done.transcript.run in
       let first : given ≡ before = done.written ∙ ap (given_after before) nothing ∙ sym (Appends-nil before) in
       let outcome : Outcome = record { reply = failed.reply; steps = failed.carried.steps; session = left } in
-      let becomes : LineBecomes s line outcome =
-      subst (λ n. LineBecomes n line outcome) names
+      let becomes : LineBecomes s line outcome = subst (λ n. LineBecomes n line outcome) names
       (subst (λ l. LineBecomes between l outcome) same failed.carried.becomes) in (
         printed failed.reply,
         record {
@@ -225,8 +221,7 @@ module _ {D P : Type 0} (bound : DiskGhosts D) (peripherals : Ghosts P) where
 
   stops_alone : {a b : Counter D P} {s left : Session} {line : List ℕ} {before after : Given}
       → Stops (IsRun bound peripherals) a s (line ∷ []) before after left b → StopsAlone a s line before after b left
-  stops_alone h =
-      alone h.earlier h.later h.split h.done h.failed
+  stops_alone h = alone h.earlier h.later h.split h.done h.failed
 
   module _ (a b : Counter D P) (s left : Session) (lines : List (List ℕ)) (line : List ℕ) (only : lines ≡ line ∷ [])
       (start before after now : Given) (empty : start ≡ given_with [] 0) (far : Progress) where
@@ -242,8 +237,8 @@ module _ {D P : Type 0} (bound : DiskGhosts D) (peripherals : Ghosts P) where
         let (front, back, is, some, failed) = cut in
         let bytes : now.bytes ≡ front = ap (λ (g : Given). g.bytes) failed in
         let faults : now.faults ≡ 1 = ap (λ (g : Given). g.faults) failed in
-        let long : 8 ≤ length front = ⊎_elim (λ none. absurd (omega (arith, none, faults)))
-        (λ are. subst (λ l. 8 ≤ length l) bytes are) fails in (
+        let long : 8 ≤ length front =
+        ⊎_elim (λ none. absurd (omega (arith, none, faults))) (λ are. subst (λ l. 8 ≤ length l) bytes are) fails in (
           record {
             text = text;
             runs = runs_lines done;
@@ -308,27 +303,24 @@ module _ {D P : Type 0} (bound : DiskGhosts D) (peripherals : Ghosts P) where
 
   -- what a line leaves, by what became of it
   pub leaves_as : (course_of : P → Course) (Then : Progress → List ℕ → Type 0) (a b : Counter D P) (s left : Session)
-      (line : List ℕ) (before after : Given) {result known : Result LineProgress WriteFault}
-      → result ≡ known → LineLeaves bound peripherals course_of Then a s line before after result b left
+      (line : List ℕ) (before after : Given) {result known : Result LineProgress WriteFault} → result ≡ known
+      → LineLeaves bound peripherals course_of Then a s line before after result b left
       → LineLeaves bound peripherals course_of Then a s line before after known b left
   leaves_as course_of Then a b s left line before after is h =
       subst (λ r. LineLeaves bound peripherals course_of Then a s line before after r b left) is h
 
   -- a line after which the counter is settled
   pub tells_settled : {a b c : Counter D P} {s left : Session} {line : List ℕ} {before after : Given} {far : Progress}
-      (Then : List ℕ → Type 0)
-      → (tells : RunsAndWrites bound peripherals a s (line ∷ []) before after b left) × Then tells.text
-      → Stays peripherals b c → far ≡ progress.Ready
+      (Then : List ℕ → Type 0) → (tells : RunsAndWrites bound peripherals a s (line ∷ []) before after b left)
+      × Then tells.text → Stays peripherals b c → far ≡ progress.Ready
       → (tells : RunsAndWrites bound peripherals a s (line ∷ []) before after c left) × IsReady far tells.text
-  tells_settled Then (h, then) stays ready =
-      (tells_stay h stays, ready)
+  tells_settled Then (h, then) stays ready = (tells_stay h stays, ready)
 
   pub cuts_settled : {a b c : Counter D P} {s left : Session} {line : List ℕ} {before after : Given} {far : Progress}
-      (Then : List ℕ → Type 0)
-      → (cuts : Cuts bound peripherals a s line before after b left) × Then cuts.text → Stays peripherals b c
-      → far ≡ progress.Ready → (cuts : Cuts bound peripherals a s line before after c left) × IsReady far cuts.text
-  cuts_settled Then (h, then) stays ready =
-      (cuts_stay h stays, ready)
+      (Then : List ℕ → Type 0) → (cuts : Cuts bound peripherals a s line before after b left) × Then cuts.text
+      → Stays peripherals b c → far ≡ progress.Ready
+      → (cuts : Cuts bound peripherals a s line before after c left) × IsReady far cuts.text
+  cuts_settled Then (h, then) stays ready = (cuts_stay h stays, ready)
 
   module _ {A : Type 0} where
     -- no line yet
@@ -379,9 +371,8 @@ module _ {D P : Type 0} (bound : DiskGhosts D) (peripherals : Ghosts P) where
 
     -- then the counter stays as it is to the machine
     pub carries_stay : {a b c : Counter D P} {s left : Session} {texts left_texts : List (Vec ℕ A)}
-        {before after : Given}
-        → CarriesOn bound peripherals a s texts left_texts before after b left → Stays peripherals b c
-        → CarriesOn bound peripherals a s texts left_texts before after c left
+        {before after : Given} → CarriesOn bound peripherals a s texts left_texts before after b left
+        → Stays peripherals b c → CarriesOn bound peripherals a s texts left_texts before after c left
     carries_stay h stays = record {
       carried = h.carried;
       split = h.split;

@@ -110,8 +110,8 @@ module _ (s : Session) (m n : Machine) where
   by_request : (asking : LineRequest) {o : Outcome} {request : Request} → RequestBecomes s asking request o
       → Quiets s o m n
   by_request asking (inl none) = asked_nothing none.1
-  by_request asking {request} (inr (r, is)) = subst (λ x. Quiets s x m n) (sym is) (λ told run.
-      by_response asking request (wants_memory r (ap told_in told)) run)
+  by_request asking {request} (inr (r, is)) = subst (λ x. Quiets s x m n) (sym is)
+      (λ told run. by_response asking request (wants_memory r (ap told_in told)) run)
 
   by_asking : (asking : LineRequest) (o : Outcome) (request : Option Request)
       → MatchOption request (o ≡ turned_down s (rebuke asking)) (λ q. RequestBecomes s asking q o) → Quiets s o m n

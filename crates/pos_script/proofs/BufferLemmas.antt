@@ -33,8 +33,8 @@ look_more [] ys lt = absurd (omega (arith, lt))
 look_more (x ∷ xs) [] lt = look_nothing (look_of (x ∷ xs)) ∙ ap look_of (sym (append-nil (x ∷ xs)))
 look_more (x ∷ xs) (y ∷ ys) lt =
     let all = list_all-append is_space (x ∷ xs) (y ∷ ys) in
-    let almost = ap is_blank (without_cr_behind (x ∷ xs) y ys)
-    ∙ list_all-append is_space (x ∷ xs) (without_cr (y ∷ ys)) in
+    let almost =
+    ap is_blank (without_cr_behind (x ∷ xs) y ys) ∙ list_all-append is_space (x ∷ xs) (without_cr (y ∷ ys)) in
     grind arith
 
 -- what is kept of a line with bytes behind it
@@ -86,14 +86,13 @@ input_ends read {kept} is stands =
 -- bytes without a line feed come behind what was read
 pub adds_to : (read bytes : List ℕ) {old new : Kept} → have_no_feed bytes ≡ true → new ≡ kept_with old bytes
     → StandsFor old read → StandsFor new (read ++ bytes)
-adds_to read bytes free adds stands =
-    adds ∙ ap (λ k. kept_with k bytes) stands ∙ kept_more (unfinished read) bytes
+adds_to read bytes free adds stands = adds ∙ ap (λ k. kept_with k bytes) stands ∙ kept_more (unfinished read) bytes
     ∙ ap kept_of (sym (adds_rest read bytes free))
 
 -- a piece without a line feed
 pub feeds_all : (read piece : List ℕ) {n : ℕ} {old new : Kept} → have_no_feed (take n piece) ≡ true → n ≡ length piece
-    → new ≡ kept_with old (take n piece)
-    → StandsFor old read → (complete_lines (read ++ piece) ≡ complete_lines read) × StandsFor new (read ++ piece)
+    → new ≡ kept_with old (take n piece) → StandsFor old read
+    → (complete_lines (read ++ piece) ≡ complete_lines read) × StandsFor new (read ++ piece)
 feeds_all read piece {n} {old} free is adds stands =
     let all : take n piece ≡ piece = take_all n piece (omega (arith, is)) in (
       adds_lines read piece (ap have_no_feed (sym all) ∙ free),
@@ -116,8 +115,8 @@ cut_at piece n lt feed =
 pub feeds_whole : (read : List ℕ) {piece : List ℕ} {n : ℕ} {kept : Kept} (line : Line)
     → have_no_feed (take n piece) ≡ true → n < length piece → get_or piece n 0 ≡ 10 → is_kept_nothing kept ≡ true
     → IsLine line (without_cr (take n piece)) → StandsFor kept read
-    → (taken : List ℕ) × (piece ≡ taken ++ take (length piece - (n + 1)) (drop (n + 1) piece)) × EndsLine read taken
-    (ended.InPiece line) kept
+    → (taken : List ℕ) × (piece ≡ taken ++ take (length piece - (n + 1)) (drop (n + 1) piece))
+    × EndsLine read taken (ended.InPiece line) kept
 feeds_whole read {piece} {n} line free lt feed nothing is stands =
     let front = take n piece in
     let none : unfinished read ≡ [] =
@@ -134,9 +133,8 @@ feeds_whole read {piece} {n} line free lt feed nothing is stands =
 
 -- a piece with its first line feed at a place
 pub feeds_line : (read : List ℕ) {piece : List ℕ} {n : ℕ} {old mid new : Kept} → have_no_feed (take n piece) ≡ true
-    → n < length piece → get_or piece n 0 ≡ 10
-    → mid ≡ kept_with old (take n piece) → new ≡ kept_ended mid → StandsFor old read
-    → (taken : List ℕ) × (piece ≡ taken ++ take (length piece - (n + 1)) (drop (n + 1) piece))
+    → n < length piece → get_or piece n 0 ≡ 10 → mid ≡ kept_with old (take n piece) → new ≡ kept_ended mid
+    → StandsFor old read → (taken : List ℕ) × (piece ≡ taken ++ take (length piece - (n + 1)) (drop (n + 1) piece))
     × EndsLine read taken ended.Held new
 feeds_line read {piece} {n} {new} free lt feed adds ends stands =
     let front = take n piece in

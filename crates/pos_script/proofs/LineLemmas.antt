@@ -91,9 +91,11 @@ ended_piece bytes h = rw (pieces_append 10 bytes, one_piece bytes h) (front_onto
 
 pub ends_lines : (read bytes : List ℕ) → list_all is_no_feed bytes ≡ true
     → complete_lines (read ++ (bytes ++ 10 ∷ [])) ≡ complete_lines read ++ without_cr (unfinished read ++ bytes) ∷ []
-ends_lines read bytes h =
-    rw (lines_behind read (bytes ++ 10 ∷ []), ended_piece bytes h, front_onto_one (unfinished read) bytes ([] ∷ []))
-    refl
+ends_lines read bytes h = rw (
+  lines_behind read (bytes ++ 10 ∷ []),
+  ended_piece bytes h,
+  front_onto_one (unfinished read) bytes ([] ∷ []),
+) refl
 
 pub ends_rest : (read bytes : List ℕ) → list_all is_no_feed bytes ≡ true → unfinished (read ++ (bytes ++ 10 ∷ [])) ≡ []
 ends_rest read bytes h = rw (

@@ -22,8 +22,7 @@ front_onto_nil (x ∷ xs) ps = ap (onto_first x) (front_onto_nil xs ps)
 pub front_more : (c : ℕ) (text : List ℕ) {i : ℕ} (d : ℕ) → i < length text → eqb (get_or text i d) c ≡ false
     → pieces c text ≡ front_onto (take i text) (pieces c (drop i text))
     → pieces c text ≡ front_onto (take (i + 1) text) (pieces c (drop (i + 1) text))
-front_more c text {i} d lt ne h =
-    rw (take_more text i d lt, front_onto_push)
+front_more c text {i} d lt ne h = rw (take_more text i d lt, front_onto_push)
     (h ∙ ap (front_onto (take i text)) (rw (drop_more text i d lt, ne) refl))
 
 -- a byte that is a cut

@@ -35,8 +35,7 @@ longer xs ys lt = omega (arith, length-append xs ys)
 
 -- a fault before the rest of a text
 pub failed_front : {F : Type 0} (Q : F → Type 0) (a : Given) {b : Given} {first : List ℕ} (rest : List ℕ)
-    (result : Result (Unit {0}) F)
-    → IsErrAnd result Q → IsCut a b first → Writes a b (first ++ rest) result
+    (result : Result (Unit {0}) F) → IsErrAnd result Q → IsCut a b first → Writes a b (first ++ rest) result
 failed_front Q a rest (Ok u) is w = absurd is
 failed_front Q a rest (Err f) is w =
     (w.0, w.1 ++ rest, ap (λ x. x ++ rest) w.2 ∙ append_assoc w.0 w.1 rest, longer w.1 rest w.3, w.4)
@@ -55,23 +54,22 @@ behind a b c first second (Err e) done w = (
 
 -- a fault between a text that was written and one that was to be
 pub failed_between : {F : Type 0} (Q : F → Type 0) (a : Given) {b c : Given} (first : List ℕ) {second : List ℕ}
-    (third : List ℕ) (result : Result (Unit {0}) F)
-    → IsErrAnd result Q → Appends a b first → IsCut b c second → Writes a c (first ++ (second ++ third)) result
+    (third : List ℕ) (result : Result (Unit {0}) F) → IsErrAnd result Q → Appends a b first → IsCut b c second
+    → Writes a c (first ++ (second ++ third)) result
 failed_between Q a {b} {c} first {second} third result is done w =
     behind a b c first (second ++ third) result done (failed_front Q b third result is w)
 
 -- a text behind two that were written
 pub behind_two : {F : Type 0} (a : Given) {b c : Given} (d : Given) (first second third : List ℕ)
-    (result : Result (Unit {0}) F)
-    → Appends a b first → Appends b c second → Writes c d third result → Writes a d (first ++ (second ++ third)) result
+    (result : Result (Unit {0}) F) → Appends a b first → Appends b c second → Writes c d third result
+    → Writes a d (first ++ (second ++ third)) result
 behind_two a {b} {c} d first second third result one two w =
     behind a b d first (second ++ third) result one (behind b c d second third result two w)
 
 -- a fault at one of the parts of a text that are written one after another
 pub failed_part : {X F : Type 0} (Q : F → Type 0) (a b c : Given) (f : X → List ℕ) (ps : List X) {i : ℕ} (d : X)
-    {bytes : List ℕ} (result : Result (Unit {0}) F)
-    → IsErrAnd result Q → i < length ps → bytes ≡ f (get_or ps i d) → Appends a b (flat_map f (take i ps))
-    → IsCut b c bytes → Writes a c (flat_map f ps) result
+    {bytes : List ℕ} (result : Result (Unit {0}) F) → IsErrAnd result Q → i < length ps → bytes ≡ f (get_or ps i d)
+    → Appends a b (flat_map f (take i ps)) → IsCut b c bytes → Writes a c (flat_map f ps) result
 failed_part Q a b c f ps d (Ok u) is lt at done w = absurd is
 failed_part Q a b c f ps {i} d (Err e) is lt at done w =
     (_, _, cut_at f ps i d w.0 w.1 lt at w.2, longer w.1 _ w.3, Fails-trans a b c _ w.0 done w.4)

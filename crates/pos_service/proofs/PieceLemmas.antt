@@ -19,9 +19,8 @@ pub begins_at : (test : ℕ → Bool) (bs : List ℕ) (i : ℕ) → i < length b
 begins_at test bs i lt = rw (drop_more bs i 0 lt)
 
 -- an escape sequence behind ESC |
-at_prefix : (bs : List ℕ) → starts_with is_upper (drop (prefix_len is_inner bs) bs) ≡ true
-    → pieces (27 ∷ 124 ∷ bs) ≡ sequence_pieces (take (prefix_len is_inner bs + 1) bs) ++ pieces
-    (drop (prefix_len is_inner bs + 1) bs)
+at_prefix : (bs : List ℕ) → starts_with is_upper (drop (prefix_len is_inner bs) bs) ≡ true → pieces (27 ∷ 124 ∷ bs)
+    ≡ sequence_pieces (take (prefix_len is_inner bs + 1) bs) ++ pieces (drop (prefix_len is_inner bs + 1) bs)
 at_prefix bs h =
     let k = prefix_len is_inner bs in
     let e : k + 2 ≡ suc (k + 1) = omega arith in

@@ -43,9 +43,8 @@ run_behind columns start k j [] some = refl
 run_behind columns start k j (b ∷ run) some =
     grind (arith, place_behind columns start k j some, run_behind columns start k (j + 1) run some)
 
-run_append : (columns : ℕ) (start : Place) (k : ℕ) (run more : List ℕ)
-    → run_from columns start k (run ++ more) ≡ run_from columns start k run ++ run_from columns start
-    (k + length run) more
+run_append : (columns : ℕ) (start : Place) (k : ℕ) (run more : List ℕ) → run_from columns start k
+    (run ++ more) ≡ run_from columns start k run ++ run_from columns start (k + length run) more
 run_append columns start k [] more = grind arith
 run_append columns start k (b ∷ run) more = grind (arith, run_append columns start (k + 1) run more)
 
@@ -96,6 +95,5 @@ cursor_free rows columns b place strip e f lt h = grind (arith, character_text, 
 pub text_more : (columns : ℕ) (start : Place) (bytes : List ℕ) (i : ℕ) → 0 < columns → i < length bytes
     → text_from columns start (take (i + 1) bytes) ≡ with_text columns [] (get_or bytes i 0 ∷ [])
     (text_from columns start (take i bytes))
-text_more columns start bytes i some lt =
-    rw (take_more bytes i 0 lt) (with_text_append columns [] (take i bytes) (get_or bytes i 0 ∷ [])
-    (strip_at [] start) some)
+text_more columns start bytes i some lt = rw (take_more bytes i 0 lt)
+    (with_text_append columns [] (take i bytes) (get_or bytes i 0 ∷ []) (strip_at [] start) some)

@@ -30,10 +30,9 @@ lines_complete bytes ended =
 -- they go on with the lines after them
 pub lines_more : (front more : List ℕ) → unfinished front ≡ []
     → lines_of (front ++ more) ≡ lines_of front ++ lines_of more
-lines_more front more ended =
-    lines_two (front ++ more) ∙ ap (λ ls. ls ++ last_line (unfinished (front ++ more)))
-    (go_on_lines front more ∙ ap (λ bytes. complete_lines front ++ complete_lines (bytes ++ more)) ended) ∙ ap
-    (λ rest. (complete_lines front ++ complete_lines more) ++ last_line rest)
+lines_more front more ended = lines_two (front ++ more) ∙ ap (λ ls. ls ++ last_line (unfinished (front ++ more)))
+    (go_on_lines front more ∙ ap (λ bytes. complete_lines front ++ complete_lines (bytes ++ more)) ended)
+    ∙ ap (λ rest. (complete_lines front ++ complete_lines more) ++ last_line rest)
     (go_on_rest front more ∙ ap (λ bytes. unfinished (bytes ++ more)) ended) ∙ append_assoc (complete_lines front)
     (complete_lines more) (last_line (unfinished more)) ∙ ap (λ ls. complete_lines front ++ ls) (sym (lines_two more))
     ∙ ap (λ ls. ls ++ lines_of more) (sym (lines_complete front ended))
@@ -59,8 +58,8 @@ ended_more (other ∷ turns) turn (first, are) is = (first, ended_more turns tur
 
 -- one more line was typed and answered
 pub answers_more : {style : AnswerStyle} (turns : List Turn) (session middle left : Session)
-    (first last : List (Request × Response))
-    (old : Streams) {between new : Streams} → AnswersLines style turns session first old between middle
+    (first last : List (Request × Response)) (old : Streams) {between new : Streams}
+    → AnswersLines style turns session first old between middle
     → AnswersLine style middle last between new true (Ok tt) left
     → (turn : Turn) × AnswersLines style (turns ++ turn ∷ []) session (first ++ last) old new left
 answers_more {style} turns session middle left first last old done one =
@@ -69,14 +68,15 @@ answers_more {style} turns session middle left first last old done one =
       turn,
       record {
         ended = ended_more turns turn done.ended one.taken.0;
-        taken = one.taken.1 ∙ ap (λ taken. taken_after taken one.text) done.taken ∙ taken_twice old.taken (typed turns)
-            one.text ∙ ap (λ text. taken_after old.taken text) (sym (one_more (λ (t : Turn). t.script) turns turn));
+        taken = one.taken.1 ∙ ap (λ taken. taken_after taken one.text) done.taken
+            ∙ taken_twice old.taken (typed turns) one.text
+            ∙ ap (λ text. taken_after old.taken text) (sym (one_more (λ (t : Turn). t.script) turns turn));
         prints = rw (
           one_more (λ (t : Turn). t.script) turns turn,
           one_more (λ (t : Turn). t.answers) turns turn,
           lines_more (typed turns) one.text (typed_ends turns done.ended),
-        ) (prints_join session (lines_of (typed turns)) first _ middle (lines_of one.text) last answers left done.prints
-            prints);
+        ) (prints_join session (lines_of (typed turns)) first _ middle
+            (lines_of one.text) last answers left done.prints prints);
         given = rw (one_more (exchange_text style) turns turn)
             (Appends-trans _ _ _ (flat_map (exchange_text style) turns) (exchange_text style turn) done.given
             (Appends-trans _ _ _ prompt (turn_text style turn) one.prompted.0 written.0));
@@ -91,7 +91,5 @@ pub ends_typed : {style : AnswerStyle} {session : Session} {steps : List (Reques
     → MatchResult result (λ _. IsWritten mid.output after (codes "\n")) (λ why. (why ≡ fault.Write) × IsCutOff
     mid.output after (codes "\n"))
     → EndsExchanges style session steps old (record { taken = mid.taken; output = after }) result left
-ends_typed mid after (Ok u) last written =
-    inr (record { between = mid.output; last = last; ends = written })
-ends_typed mid after (Err why) last (is, cut) =
-    inr (is, record { between = mid.output; last = last; ends = cut })
+ends_typed mid after (Ok u) last written = inr (record { between = mid.output; last = last; ends = written })
+ends_typed mid after (Err why) last (is, cut) = inr (is, record { between = mid.output; last = last; ends = cut })

@@ -24,8 +24,8 @@ use Rattle.pos_store.specs.Standing.{LeavesOneOf, Standing}
 
 -- a run from this machine is one from an equal one, with the same moments
 moved : {D : Type 0} (state : D → DiskState) {d e : D} {after : DiskState} (end : Machine) {m n : Machine}
-    (steps : List (Request × Response)) → d ≡ e
-    → m ≡ n → (run : Run m steps end) → LeavesOnly (state d) after (IsLeftDuring m steps end run)
+    (steps : List (Request × Response)) → d ≡ e → m ≡ n → (run : Run m steps end)
+    → LeavesOnly (state d) after (IsLeftDuring m steps end run)
     → (again : Run n steps end) × LeavesOnly (state e) after (IsLeftDuring n steps end again)
 moved {D} state {d} {after} end {n} steps here same run any_moment =
     let P : D → Machine → Type 0 =
@@ -50,9 +50,8 @@ leaves_steps {D} bound {contents} {disk} {counter} {end} made steps through ends
     (record { end = last; run = run; any_moment = any_moment })
 
 -- no run
-pub leaves_nothing : {D : Type 0} (bound : DiskGhosts D)
-    → ((disk : D) (bytes : List ℕ) → bound.honest disk → (bound.state disk).left_since (bound.state disk).moment bytes
-    → MayLeave (bound.state disk) bytes)
+pub leaves_nothing : {D : Type 0} (bound : DiskGhosts D) → ((disk : D) (bytes : List ℕ) → bound.honest disk
+    → (bound.state disk).left_since (bound.state disk).moment bytes → MayLeave (bound.state disk) bytes)
     → (contents : Contents) (disk : D) {after : D} (left : List Standing) → after ≡ disk → bound.honest disk
     → LeavesOneOf left (bound.state disk) → LeavesSteps contents left (bound.state disk) (bound.state after) []
 leaves_nothing {D} bound only contents disk left same honest leaves =

@@ -35,9 +35,8 @@ module _ {A : Type 0} (xs : List A) (i : ℕ) (d : A) (lt : i < length xs) where
 
 -- one more script was read
 pub reads_more : {S F : Type 0} (system : SystemGhosts S F) (them : S) (paths : List (Bor (List ℕ)))
-    (scripts : List Script) {path : Bor (List ℕ)}
-    (script : Script) → AreRead system them paths scripts → ReadsScript system them path script
-    → AreRead system them (paths ++ path ∷ []) (scripts ++ script ∷ [])
+    (scripts : List Script) {path : Bor (List ℕ)} (script : Script) → AreRead system them paths scripts
+    → ReadsScript system them path script → AreRead system them (paths ++ path ∷ []) (scripts ++ script ∷ [])
 reads_more system them [] [] script are one = (one, tt)
 reads_more system them [] (other ∷ scripts) script are one = absurd are
 reads_more system them (other ∷ paths) [] script are one = absurd are
@@ -51,8 +50,8 @@ one_more f turns turn = flat_map-append f turns (turn ∷ []) ∙ ap (λ xs. fla
 
 -- scripts, and then one more
 pub turns_join : {style : AnswerStyle} (turns : List Turn) (turn : Turn) {session middle left : Session}
-    {first : List (Request × Response)} (last : List (Request × Response))
-    {old between new : Output} → PrintsTurns style turns session first old between middle
+    {first : List (Request × Response)} (last : List (Request × Response)) {old between new : Output}
+    → PrintsTurns style turns session first old between middle
     → LinesPrint middle (turn_lines turn) last turn.answers left → IsWritten between new (turn_text style turn)
     → PrintsTurns style (turns ++ turn ∷ []) session (first ++ last) old new left
 turns_join {style} turns turn last done prints written = record {
@@ -64,8 +63,8 @@ turns_join {style} turns turn last done prints written = record {
 }
 
 pub are_join : (scripts : List Script) (turns : List Turn) (script : Script) (turn : Turn)
-    → script_run turn ≡ script_of script
-    → AreTurns scripts turns → AreTurns (scripts ++ script ∷ []) (turns ++ turn ∷ [])
+    → script_run turn ≡ script_of script → AreTurns scripts turns
+    → AreTurns (scripts ++ script ∷ []) (turns ++ turn ∷ [])
 are_join scripts turns script turn same are =
     map-append script_run turns (turn ∷ []) ∙ ap (λ xs. xs ++ script_run turn ∷ []) are
     ∙ ap (λ x. map script_of scripts ++ x ∷ []) same ∙ sym (map-append script_of scripts (script ∷ []))

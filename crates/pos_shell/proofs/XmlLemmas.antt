@@ -27,15 +27,10 @@ in_hex : (byte : ℕ) → is_harmless (hex_byte byte) ≡ true
 in_hex byte = or_true (is_escape (hex_byte byte)) (rw (digit (byte / 16), digit (byte % 16)) refl)
 
 harmless : (is_known : Bool) (byte : ℕ) → is_harmless (piece is_known byte) ≡ true
-harmless is_known byte =
-    by_test (byte == 38) _ _ (λ _. refl) (λ one.
-    by_test (byte == 60) _ _ (λ _. refl) (λ two.
-    by_test (byte == 62) _ _ (λ _. refl) (λ _.
-    by_test (byte == 34) _ _ (λ _. refl) (λ three.
-    by_test (byte == 9) _ _ (λ _. refl) (λ _.
-    by_test (byte == 10) _ _ (λ _. refl) (λ _.
-    by_test (byte == 13) _ _ (λ _. refl) (λ _.
-    by_test (nat_lt byte 32) _ _ (λ _. in_hex byte) (λ _.
+harmless is_known byte = by_test (byte == 38) _ _ (λ _. refl)
+    (λ one. by_test (byte == 60) _ _ (λ _. refl) (λ two. by_test (byte == 62) _ _ (λ _. refl) (λ _. by_test (byte == 34)
+    _ _ (λ _. refl) (λ three. by_test (byte == 9) _ _ (λ _. refl) (λ _. by_test (byte == 10) _ _ (λ _. refl)
+    (λ _. by_test (byte == 13) _ _ (λ _. refl) (λ _. by_test (nat_lt byte 32) _ _ (λ _. in_hex byte) (λ _.
     by_test (nat_lt byte 128 || is_known) _ _ (λ _. plain byte (rw (one, two, three) refl)) (λ _. in_hex byte)))))))))
 
 pub all_harmless : (bytes : List ℕ) (known : ℕ) → list_all is_harmless (pieces_from known bytes) ≡ true
@@ -45,6 +40,5 @@ all_harmless (byte ∷ bytes) known = rw (harmless (nat_lt 0 (known_at known byt
 -- one more is at the end of what all are mapped to
 pub mapped_more : {A B : Type 0} (f : A → List B) (xs : List A) {i : ℕ} {x : A} → i < length xs → x ≡ get_or xs i x
     → flat_map f (take (i + 1) xs) ≡ flat_map f (take i xs) ++ f x
-mapped_more f xs {i} {x} lt is =
-    ap (flat_map f) (one_taken xs i x lt is) ∙ flat_map-append f (take i xs) (x ∷ [])
+mapped_more f xs {i} {x} lt is = ap (flat_map f) (one_taken xs i x lt is) ∙ flat_map-append f (take i xs) (x ∷ [])
     ∙ ap (λ ys. flat_map f (take i xs) ++ ys) (append-nil (f x))

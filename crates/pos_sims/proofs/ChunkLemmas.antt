@@ -14,9 +14,8 @@ fitting zero segment le = refl
 fitting (suc most) segment le = rw le-leb
 
 -- it does not
-passing : (most : ℕ) {chars : ℕ} (segment : List SegmentCharacter) → chars < length segment
-    → in_chunks (suc most) chars segment ≡ after_items (overflowed chars segment ∷ [])
-    (in_chunks most chars (drop chars segment))
+passing : (most : ℕ) {chars : ℕ} (segment : List SegmentCharacter) → chars < length segment → in_chunks (suc most) chars
+    segment ≡ after_items (overflowed chars segment ∷ []) (in_chunks most chars (drop chars segment))
 passing most segment lt = rw lt-leb
 
 -- items before do not matter
@@ -37,8 +36,7 @@ more_fits most segment s lt = grind (arith, nat_tests, fitting, length_push, map
 more_ends : (most : ℕ) {chars : ℕ} (segment : List SegmentCharacter) (s : SegmentCharacter) → 0 < chars
     → length segment ≡ chars
     → in_chunks (suc most) chars (segment ++ s ∷ []) ≡ put chars s.alignment s.character (in_chunks most chars segment)
-more_ends most segment s some e =
-    grind (arith, nat_tests, fitting, passing, drop_at, take_at, length_push, length-map)
+more_ends most segment s some e = grind (arith, nat_tests, fitting, passing, drop_at, take_at, length_push, length-map)
 
 -- one more character behind a segment
 pub chunked_more : (most chars : ℕ) (segment : List SegmentCharacter) (s : SegmentCharacter) → 0 < chars
@@ -58,11 +56,10 @@ chunked_more (suc most) chars segment s some le = elim (cases_order (length segm
 pub chunked_some : (most chars : ℕ) (segment : List SegmentCharacter) → 0 < length segment
     → 0 < length (in_chunks most chars segment).buffer
 chunked_some zero chars segment lt = omega (arith, length-map segment (λ (x : SegmentCharacter). x.character))
-chunked_some (suc most) chars segment lt =
-    grind (
-      arith,
-      nat_tests,
-      chunked_some most chars (drop chars segment),
-      length-drop,
-      length-map segment (λ (x : SegmentCharacter). x.character),
-    )
+chunked_some (suc most) chars segment lt = grind (
+  arith,
+  nat_tests,
+  chunked_some most chars (drop chars segment),
+  length-drop,
+  length-map segment (λ (x : SegmentCharacter). x.character),
+)

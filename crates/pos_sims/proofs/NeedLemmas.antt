@@ -23,8 +23,7 @@ same_steps chars work (p ∷ ps) =
 -- the lines that a request needs
 pub needed : (chars : ℕ) (made : Printout) (ps : List Piece) → 0 < chars → length made.buffer ≤ chars
     → lines_needed (printed_by chars made.buffer ps).items ≡ (needs chars (need (length made.buffer) 0) ps).lines
-needed chars made ps some le =
-    sym (request_run made ps some le).1
+needed chars made ps some le = sym (request_run made ps some le).1
     ∙ ap (λ (n : Need). n.lines) (same_steps chars (record { style = plain; made = made; used = 0 }) ps)
 
 rises_step : (chars : ℕ) (n : Need) (p : Piece) → n.lines ≤ (need_step chars n p).lines

@@ -8,9 +8,8 @@ use Rattle.std.proofs.lemmas.List.Sums.{fold-append}
 use Rattle.pos_service.specs.declared.receipt_text.Piece.TheVariants as piece
 use Rattle.pos_sims.proofs.ChunkLemmas.{chunked_more, put_behind, chunked_some, fitting}
 
-made_put : (chars byte : ℕ) (work : Work)
-    → (step chars work (piece.Character byte)).made ≡ put chars work.style.alignment
-    (in_style work.style byte).character work.made
+made_put : (chars byte : ℕ) (work : Work) → (step chars work (piece.Character byte)).made
+    ≡ put chars work.style.alignment (in_style work.style byte).character work.made
 made_put chars byte work = grind arith
 
 put_segment : (chars : ℕ) → 0 < chars → (style : Style) (byte : ℕ) (segment : List SegmentCharacter) (items : List Item)
@@ -22,14 +21,13 @@ put_segment chars some style byte segment items =
     rw (put_behind, count, chunked_more (length segment) chars segment s some (omega arith))
 
 ended_segment : (chars : ℕ) (style : Style) (items : List Item) (segment : List SegmentCharacter)
-    → ended style.alignment (after_items items (chunks_of chars segment)) ≡ after_items
-    (items ++ lines_of chars style.alignment segment) (chunks_of chars [])
+    → ended style.alignment (after_items items (chunks_of chars segment))
+    ≡ after_items (items ++ lines_of chars style.alignment segment) (chunks_of chars [])
 ended_segment chars style items segment = simp (append_assoc, append-nil)
 
 begun_made : (chars : ℕ) (work : Work) (segment : List SegmentCharacter) (items : List Item)
-    → work.made ≡ after_items items (chunks_of chars segment)
-    → (end_begun work).made ≡ after_items (items ++ lines_if_begun chars work.style.alignment segment)
-    (chunks_of chars [])
+    → work.made ≡ after_items items (chunks_of chars segment) → (end_begun work).made
+    ≡ after_items (items ++ lines_if_begun chars work.style.alignment segment) (chunks_of chars [])
 begun_made chars work [] items h = grind (arith, append-nil)
 begun_made chars work (s ∷ segment) items h =
     grind (arith, append-nil, append_assoc, chunked_some (length (s ∷ segment)) chars (s ∷ segment) (omega arith))
@@ -43,15 +41,13 @@ same_made chars some [] work style segment items is h = h
 same_made chars some (piece.Character byte ∷ ps) work style segment items is h =
     same_made chars some ps (step chars work (piece.Character byte)) style (segment ++ in_style style byte ∷ []) items
     (grind arith) (grind (arith, made_put, put_segment chars some style byte segment items))
-same_made chars some (piece.LineEnd ∷ ps) work style segment items is h =
-    same_made chars some ps (end_line work) style [] (items ++ lines_of chars style.alignment segment) is
-    (grind (arith, ended_segment)) ∙ simp append_assoc
+same_made chars some (piece.LineEnd ∷ ps) work style segment items is h = same_made chars some ps (end_line work) style
+    [] (items ++ lines_of chars style.alignment segment) is (grind (arith, ended_segment)) ∙ simp append_assoc
 same_made chars some (piece.Return ∷ ps) work style segment items is h =
     same_made chars some ps (end_begun work) style [] (items ++ lines_if_begun chars style.alignment segment)
     (grind arith) (grind (arith, begun_made chars work segment items h)) ∙ simp append_assoc
-same_made chars some (piece.Cut n ∷ ps) work style segment items is h =
-    same_made chars some ps (add_cut n (end_begun work)) style []
-    (items ++ (lines_if_begun chars style.alignment segment ++ CutAt n ∷ []))
+same_made chars some (piece.Cut n ∷ ps) work style segment items is h = same_made chars some ps
+    (add_cut n (end_begun work)) style [] (items ++ (lines_if_begun chars style.alignment segment ++ CutAt n ∷ []))
     (grind arith) (rw (begun_made chars work segment items h, is) (simp (append_assoc, append-nil))) ∙ simp append_assoc
 same_made chars some (piece.Bold ∷ ps) work style segment items is h =
     same_made chars some ps (step chars work piece.Bold) _ segment items (rw is) h
@@ -82,8 +78,7 @@ counts chars (p ∷ ps) work = grind (arith, counts_step chars work p, counts ch
 -- paper that ends within the pieces ends before their end
 pub past_front : (chars : ℕ) (work : Work) {all : Work} (front back : List Piece) {ps : List Piece} {limit : ℕ}
     → ps ≡ front ++ back → steps chars work ps ≡ all → limit < (steps chars work front).used → limit < all.used
-past_front chars work front back e is lt =
-    grind (arith, fold-append, counts chars back (steps chars work front))
+past_front chars work front back e is lt = grind (arith, fold-append, counts chars back (steps chars work front))
 
 -- one line end of some
 pub next_line : (count i : ℕ) → i < count
@@ -106,8 +101,8 @@ pub request_run : {chars : ℕ} (made : Printout) (ps : List Piece) → 0 < char
     × (end.used ≡ lines_needed (printed_by chars made.buffer ps).items)
 request_run {chars} made ps some le =
     let first : Work = record { style = plain; made = made; used = 0 } in
-    let is = same_made chars some ps first plain (begun_segment made.buffer) made.items refl
-    (begins_so made.items le) in
+    let is =
+    same_made chars some ps first plain (begun_segment made.buffer) made.items refl (begins_so made.items le) in
     let lines = (counts chars ps first).lines in (
       is,
       omega (

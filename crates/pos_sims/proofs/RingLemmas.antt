@@ -132,8 +132,8 @@ module _ (rows columns first units : ℕ) (old new : List DisplayCell) (lt : fir
 
 -- a run that has room in its row has it in the ring
 ring_room : (rows columns first row column : ℕ) {start count place long : ℕ} → start ≡ first * columns
-    → count ≡ rows * columns → first < rows → row < rows →
-    column + long ≤ columns → 1 ≤ long → StandsAt (row * columns + column) start count place → place + long ≤ count
+    → count ≡ rows * columns → first < rows → row < rows → column + long ≤ columns → 1 ≤ long
+    → StandsAt (row * columns + column) start count place → place + long ≤ count
 ring_room rows columns first row column {long} e f first_lt lt room some stands =
     let end = in_rows rows columns (first + row) (column + long - 1) (omega arith) in
     let last = in_rows rows columns row (column + long - 1) (omega arith) in
@@ -142,11 +142,10 @@ ring_room rows columns first row column {long} e f first_lt lt room some stands 
 
 -- a run of characters in turn, where its row isn't cut
 pub run_turned : (rows columns first row column start place : ℕ) (attribute : Attribute) (run : List ℕ)
-    (cells : List DisplayCell)
-    → start ≡ first * columns → length cells ≡ rows * columns → first < rows → row < rows
+    (cells : List DisplayCell) → start ≡ first * columns → length cells ≡ rows * columns → first < rows → row < rows
     → column + length run ≤ columns → 1 ≤ length run → StandsAt (row * columns + column) start (length cells) place
-    → (place + length run ≤ length cells) × (turned start (with_run_at place attribute run cells) ≡ with_run_at
-    (row * columns + column) attribute run (turned start cells))
+    → (place + length run ≤ length cells) × (turned start (with_run_at place attribute run cells)
+    ≡ with_run_at (row * columns + column) attribute run (turned start cells))
 run_turned rows columns first row column start place attribute run cells e count first_lt lt room some stands =
     let fits = ring_room rows columns first row column e count first_lt lt room some stands in
     let within = mul-le-mul_right {m = first} {n = rows} columns (omega arith) in

@@ -27,26 +27,23 @@ run_count at attribute run cells le = grind (arith, length-append, length-take, 
 
 -- the cell at a place
 pub run_at : (at : ℕ) (attribute : Attribute) (run : List ℕ) (cells : List DisplayCell) (k : ℕ)
-    → at + length run ≤ length cells
-    → get_or (with_run_at at attribute run cells) k blank ≡ (if nat_le at k && nat_lt k (at + length run) then cell_with
-    attribute (get_or run (k - at) 0) else get_or cells k blank)
+    → at + length run ≤ length cells → get_or (with_run_at at attribute run cells) k blank ≡ (if nat_le at k
+    && nat_lt k (at + length run) then cell_with attribute (get_or run (k - at) 0) else get_or cells k blank)
 run_at at attribute run cells k le = grind (arith, nat_tests, parts, get_or-map, length-map)
 
 -- a character more behind a run
 pub run_more : (at : ℕ) (attribute : Attribute) (run : List ℕ) (cells : List DisplayCell) (n : ℕ)
-    → at + length run ≤ length cells → n < length run
-    → set (with_run_at at attribute (take n run) cells) (at + n) (cell_with attribute (get_or run n 0))
-    ≡ with_run_at at attribute (take (n + 1) run) cells
-run_more at attribute run cells n le lt = ext_get_or blank _ _ (grind (arith, parts, length-set, length-map)) (λ k h.
-    grind (arith, nat_tests, parts, run_at, get_or-set_at, get_or-set_other, length-set))
+    → at + length run ≤ length cells → n < length run → set (with_run_at at attribute (take n run) cells) (at + n)
+    (cell_with attribute (get_or run n 0)) ≡ with_run_at at attribute (take (n + 1) run) cells
+run_more at attribute run cells n le lt = ext_get_or blank _ _ (grind (arith, parts, length-set, length-map))
+    (λ k h. grind (arith, nat_tests, parts, run_at, get_or-set_at, get_or-set_other, length-set))
 
 -- a character before a run
 run_first : (at : ℕ) (attribute : Attribute) (b : ℕ) (run : List ℕ) (cells : List DisplayCell)
-    → at + length (b ∷ run) ≤ length cells
-    → with_run_at (at + 1) attribute run (set cells at (cell_with attribute b)) ≡ with_run_at at attribute
-    (b ∷ run) cells
-run_first at attribute b run cells le = ext_get_or blank _ _ (grind (arith, parts, length-set, length-map)) (λ k h.
-    grind (arith, nat_tests, parts, run_at, get_or-set_at, get_or-set_other, length-set))
+    → at + length (b ∷ run) ≤ length cells → with_run_at (at + 1) attribute run
+    (set cells at (cell_with attribute b)) ≡ with_run_at at attribute (b ∷ run) cells
+run_first at attribute b run cells le = ext_get_or blank _ _ (grind (arith, parts, length-set, length-map))
+    (λ k h. grind (arith, nat_tests, parts, run_at, get_or-set_at, get_or-set_other, length-set))
 
 -- a row has no room for a character only where it is full
 pub row_full : (b : ℕ) {column columns : ℕ} → b ≢ 10 → b ≢ 13 → column ≤ columns
@@ -54,19 +51,18 @@ pub row_full : (b : ℕ) {column columns : ℕ} → b ≢ 10 → b ≢ 13 → co
 row_full b e f le stops = grind (arith, nat_tests)
 
 -- so much of a text, and bytes behind it
-pub text_further : (columns : ℕ) (start : Place) (bytes : List ℕ) (i n : ℕ) → 0 < columns
-    → text_from columns start (take (i + n) bytes) ≡ with_text columns [] (take n (drop i bytes))
-    (text_from columns start (take i bytes))
+pub text_further : (columns : ℕ) (start : Place) (bytes : List ℕ) (i n : ℕ) → 0 < columns → text_from columns start
+    (take (i + n) bytes) ≡ with_text columns [] (take n (drop i bytes)) (text_from columns start (take i bytes))
 text_further columns start bytes i n some =
     rw (take-add, with_text_append columns [] (take i bytes) (take n (drop i bytes)) (strip_at [] start) some)
 
 -- a run of characters in the window
 pub run_here : (style : TextStyle) (old : List DisplayCell) (run : List ℕ) (cells : List DisplayCell) (strip : Strip)
-    (place : Place)
-    → IsWithin style cells place → list_all is_character run ≡ true → place.column + length run ≤ style.columns
-    → Follows style old strip cells place
-    → Follows style old (with_text style.columns [] run strip) (with_run_at (place.row * style.columns + place.column)
-    style.attribute run cells) (place_at place.row (place.column + length run))
+    (place : Place) → IsWithin style cells place → list_all is_character run ≡ true
+    → place.column + length run ≤ style.columns → Follows style old strip cells place
+    → Follows style old (with_text style.columns [] run strip)
+    (with_run_at (place.row * style.columns + place.column) style.attribute run cells)
+    (place_at place.row (place.column + length run))
 run_here style old [] cells strip place within all room h =
     let at : place.row * style.columns + place.column + 0 ≡ place.row * style.columns + place.column = omega arith in
     rw (at, take-append-drop)
@@ -83,8 +79,7 @@ run_here style old (b ∷ run) cells strip place within all room h =
       count = length-set cells at first ∙ within.count;
       some = within.some;
       row = within.row;
-      column =
-          omega arith;
+      column = omega arith;
     }) parts.1 (omega arith) one in
     grind (
       arith,

@@ -18,9 +18,8 @@ items_of_more (mark.Line a n ∷ marks) characters more le =
 items_of_more (mark.Cut n ∷ marks) characters more le = rw (items_of_more marks characters more le)
 
 -- marks behind marks
-pub items_append : (marks more : List Mark) (characters : List PrintedCharacter)
-    → items_from (marks ++ more) characters ≡ items_from marks characters ++ items_from more
-    (drop (characters_in marks) characters)
+pub items_append : (marks more : List Mark) (characters : List PrintedCharacter) → items_from (marks ++ more) characters
+    ≡ items_from marks characters ++ items_from more (drop (characters_in marks) characters)
 items_append [] more characters = refl
 items_append (mark.Line b m ∷ marks) more characters = rw (items_append marks more (drop m characters), drop-drop)
 items_append (mark.Cut m ∷ marks) more characters = rw (items_append marks more characters)
@@ -44,9 +43,8 @@ adds_more h k = record {
 
 -- a request on a tape, by the run of its pieces
 pub asked : (tape : Tape) (chars : ℕ) (first next : Work) (ps : List Piece) → chars ≡ tape.chars
-    → first ≡ record { style = plain; made = printed_on tape; used = 0 } → next ≡ steps chars first ps
-    → (next.made ≡ after_items (printed_on tape).items (request_on tape ps))
-    × (next.used ≡ lines_needed (request_on tape ps).items)
+    → first ≡ record { style = plain; made = printed_on tape; used = 0 } → next ≡ steps chars first ps → (next.made
+    ≡ after_items (printed_on tape).items (request_on tape ps)) × (next.used ≡ lines_needed (request_on tape ps).items)
 asked tape chars first next ps e h is =
     let short : length (drop tape.start tape.characters.items) ≤ tape.chars =
     omega (arith, length-drop tape.start tape.characters.items, tape.characters.ok.0, tape.bounded) in

@@ -55,31 +55,28 @@ module _ {D : Type 0} {bound : Ghosts D} {log : LogView D} {files after : List F
   among : (then_sequence : ℕ) → sequence_after layout log.tail changes log.images.sequence ≡ then_sequence
       → (c : List ℕ) → Around then_sequence c
       → StandsForOneOf (left_by layout files log.images.sequence log.tail changes) c
-  among then_sequence is c either =
-      rw (is, given.outcome) (⊎_elim (λ old. ⊎_elim (λ this. inl this) (λ none. absurd none) old)
-      (λ new. inr new) either)
+  among then_sequence is c either = rw (is, given.outcome)
+      (⊎_elim (λ old. ⊎_elim (λ this. inl this) (λ none. absurd none) old) (λ new. inr new) either)
 
   -- the old records, with the new one or without
   pub appending_stands : bound.honest log.images.disk → (c : List ℕ)
       → KeepsRecords layout log.images.body log.images.sequence (image.log_of (bound.state log.images.disk).reading)
-      (group_spelling changes) c
-      → Around log.images.sequence c
+      (group_spelling changes) c → Around log.images.sequence c
   appending_stands honest c keeps =
       let holds = given.holds honest in
       grind (arith, still_holds holds (shows honest) c, holds_more holds (shows honest) c step, keeps.log holds.texts)
 
   -- the old image with its records, or the new one with none
   pub renewing_stands : (body : List ℕ) → IsDirectory (limits_of layout) after → body ≡ spelling after
-      → bound.honest log.images.disk → (c : List ℕ)
-      → HasOldOrNew log.images (image.log_of (bound.state log.images.disk).reading) layout body
-      (log.images.sequence + 1) c → Around (log.images.sequence + 1) c
+      → bound.honest log.images.disk → (c : List ℕ) → HasOldOrNew log.images
+      (image.log_of (bound.state log.images.disk).reading) layout body (log.images.sequence + 1) c
+      → Around (log.images.sequence + 1) c
   renewing_stands body sound spelled honest c either = grind (arith, old_or_new_holds, shows)
 
   -- a commit that met a fault of the disk
   pub failed_commits : (failed : D) (now : Layout) (then_sequence : ℕ) → now ≡ layout
       → sequence_after layout log.tail changes log.images.sequence ≡ then_sequence
-      → (IsExhausted layout log.tail changes log.images.sequence → ⊥)
-      → (bound.honest log.images.disk
+      → (IsExhausted layout log.tail changes log.images.sequence → ⊥) → (bound.honest log.images.disk
       → LeavesOnly (bound.state log.images.disk) (bound.state failed) (Around then_sequence))
       → (bound.honest log.images.disk → (bytes : List ℕ)
       → CountsNow (bound.state failed) (bound.state log.images.disk).moment bytes)
@@ -112,8 +109,8 @@ module _ {D : Type 0} {bound : Ghosts D} {log : LogView D} {files after : List F
         → sequence_after layout log.tail changes log.images.sequence ≡ then_sequence
         → new.images.sequence ≡ then_sequence → new.tail ≡ tail_after layout log.tail changes
         → (IsExhausted layout log.tail changes log.images.sequence → ⊥) → IsReady bound new.images → HasAfter
-        → (bound.honest log.images.disk → LeavesOnly (bound.state log.images.disk) (bound.state new.images.disk)
-        (Around then_sequence))
+        → (bound.honest log.images.disk
+        → LeavesOnly (bound.state log.images.disk) (bound.state new.images.disk) (Around then_sequence))
         → (bound.honest log.images.disk → HasNotFailed (bound.state log.images.disk) (bound.state new.images.disk))
         → KeepsDisk bound log.images.disk new.images.disk
         → Commits bound (ready_with log files) changes (Ok tt) (ready_with new after)
@@ -140,8 +137,8 @@ module _ {D : Type 0} {bound : Ghosts D} {log : LogView D} {files after : List F
 
       pub appended_commits : Commits bound (ready_with log files) changes (Ok tt) (ready_with new after)
       appended_commits =
-          let moments = λ (h : bound.honest log.images.disk). weaker _ _ _ _ (appending_stands h)
-          (appends.any_moment h) in
+          let moments =
+          λ (h : bound.honest log.images.disk). weaker _ _ _ _ (appending_stands h) (appends.any_moment h) in
           grind (arith, put_commits log.images.sequence, kept, same_sequence, appended_holds)
 
     module _ (over : fits_behind layout log.tail changes ≡ false) (body : List ℕ)

@@ -15,9 +15,9 @@ use Rattle.pos_log.specs.Records as log
 
 -- what is shown is the body in the current slot
 shown : (none damaged fits : Bool) (by : Layout) {layout : Layout} {there body : List ℕ} (number : ℕ) {sequence : ℕ}
-    → cond none image.NoImage (cond damaged image.DamagedImage
-    (cond fits (image.OneImage by there number) image.DamagedImage)) ≡ image.OneImage layout body sequence
-    → there ≡ body
+    → cond none image.NoImage
+    (cond damaged image.DamagedImage (cond fits (image.OneImage by there number) image.DamagedImage))
+    ≡ image.OneImage layout body sequence → there ≡ body
 shown none damaged fits by number is = grind arith
 
 body_bytes : (bytes : List ℕ) {layout : Layout} {body : List ℕ} {sequence : ℕ} → IsBytes bytes
@@ -59,17 +59,16 @@ carried_out : {limits : Limits} (files : List File) {text : List ℕ} (first : C
     → IsGroup (first ∷ changes) → text ≡ group_spelling (first ∷ changes)
     → (outcome : Result (List File) DirectoryFault) → outcome_of_all limits files (first ∷ changes) ≡ outcome
     → StepOrNone limits files text
-carried_out files first changes group spelled (Ok next) is =
-    inl (
-      next,
-      record {
-        changes = first ∷ changes;
-        group = group;
-        some = (λ none. absurd cc);
-        spelled = spelled;
-        outcome = is;
-      },
-    )
+carried_out files first changes group spelled (Ok next) is = inl (
+  next,
+  record {
+    changes = first ∷ changes;
+    group = group;
+    some = (λ none. absurd cc);
+    spelled = spelled;
+    outcome = is;
+  },
+)
 carried_out {limits} files first changes group spelled (Err cause) is = inr (λ next step.
     let same = one_group_spelling step.changes (first ∷ changes) step.group group (sym step.spelled ∙ spelled) in
     let ok = sym is ∙ ap (outcome_of_all limits files) (sym same) ∙ step.outcome in cc)
@@ -89,19 +88,16 @@ texts_or_none : (limits : Limits) (texts : List (List ℕ)) (files : List File) 
     ⊎ ((last : List File) → Applies limits files texts last → ⊥)
 texts_or_none limits [] files each = inl (files, refl)
 texts_or_none limits (text ∷ texts) files each =
-    ⊎_elim
-    (λ step. ⊎_elim
-    (λ more. inl (more.0, (step.0, step.1, more.1)))
-    (λ none. inr (λ last applies. none last (rw (one_step limits files text applies.0 step.0 applies.1 step.1) at
-    applies.2))) (texts_or_none limits texts step.0 each.1))
-    (λ none. inr (λ last applies. none applies.0 applies.1)) (step_or_none limits files text each.0 (group_at text)
-    refl)
+    ⊎_elim (λ step. ⊎_elim (λ more. inl (more.0, (step.0, step.1, more.1))) (λ none.
+    inr (λ last applies. none last (rw (one_step limits files text applies.0 step.0 applies.1 step.1) at applies.2)))
+    (texts_or_none limits texts step.0 each.1)) (λ none. inr (λ last applies. none applies.0 applies.1))
+    (step_or_none limits files text each.0 (group_at text) refl)
 
 module _ (bytes : List ℕ) (each : IsBytes bytes) {layout : Layout} where
   -- an image whose body spells files
   with_base : (base : List File) (body : List ℕ) (sequence : ℕ)
-      → image.image_on bytes ≡ image.OneImage layout body sequence
-      → directory_at (limits_of layout) body ≡ Some base → (standing : Standing) × StandsFor standing bytes
+      → image.image_on bytes ≡ image.OneImage layout body sequence → directory_at (limits_of layout) body ≡ Some base
+      → (standing : Standing) × StandsFor standing bytes
   with_base base body sequence is read =
       let takes = directory_takes (limits_of layout) body base (body_bytes bytes each is) read in
       ⊎_elim (λ held. ⊎_elim (λ last. (
@@ -123,8 +119,8 @@ module _ (bytes : List ℕ) (each : IsBytes bytes) {layout : Layout} where
       omega (arith, long, some)))
 
   with_body : {body : List ℕ} {sequence : ℕ} → image.image_on bytes ≡ image.OneImage layout body sequence
-      → (read : Option (List File))
-      → directory_at (limits_of layout) body ≡ read → (standing : Standing) × StandsFor standing bytes
+      → (read : Option (List File)) → directory_at (limits_of layout) body ≡ read
+      → (standing : Standing) × StandsFor standing bytes
   with_body is None read = grind (arith, no_body_stands, no_body, writable)
   with_body {body} {sequence} is (Some base) read = with_base base body sequence is read
 

@@ -31,12 +31,11 @@ module _ {D : Type 0} (bound : Ghosts D) (log : LogView D) (files : List File) (
     (holds : bound.honest log.images.disk
     → HoldsFiles (layout_of log.images.slot) files log.images.sequence (bound.state log.images.disk).reading) where
   -- a migration that is refused without a call of the disk
-  pub refused_migrates : (cause : StoreFault)
-      → AnswersMigration (Ready files log.images.sequence) (layout_of log.images.slot) (ready_with log files)
-      (Err cause) (ready_with log files)
-      → (IsErrOf {T = Unit {0}} (Err cause) fault.Device → ⊥)
-      → ((c : List ℕ) → bound.honest log.images.disk → (bound.state log.images.disk).left_since
-      (bound.state log.images.disk).moment c → MayLeave (bound.state log.images.disk) c)
+  pub refused_migrates : (cause : StoreFault) → AnswersMigration (Ready files log.images.sequence)
+      (layout_of log.images.slot) (ready_with log files) (Err cause) (ready_with log files)
+      → (IsErrOf {T = Unit {0}} (Err cause) fault.Device → ⊥) → ((c : List ℕ) → bound.honest log.images.disk
+      → (bound.state log.images.disk).left_since (bound.state log.images.disk).moment c
+      → MayLeave (bound.state log.images.disk) c)
       → Migrates bound (ready_with log files) (Err cause) (ready_with log files)
   refused_migrates cause answer none only =
       let rest : bound.honest log.images.disk
@@ -94,11 +93,9 @@ module _ {D : Type 0} {bound : Ghosts D} {log : LogView D} {files : List File} {
       }
 
     -- a migration that met a fault of the disk
-    pub failed_migrates : Renews bound log Layout2 body 1 (Err images.Device) new
-        → (bound.honest log.images.disk → (bytes : List ℕ)
-        → CountsNow (bound.state new.images.disk) (bound.state log.images.disk).moment bytes)
+    pub failed_migrates : Renews bound log Layout2 body 1 (Err images.Device) new → (bound.honest log.images.disk
+        → (bytes : List ℕ) → CountsNow (bound.state new.images.disk) (bound.state log.images.disk).moment bytes)
         → (bound.honest log.images.disk
-        → KeepsFirstLayout (bound.state log.images.disk).reading (bound.state new.images.disk).reading)
-        → Migrates bound (ready_with log files) (Err fault.Device)
-        (view_of (which.Off new.images.disk (layout_of new.images.slot)))
+        → KeepsFirstLayout (bound.state log.images.disk).reading (bound.state new.images.disk).reading) → Migrates bound
+        (ready_with log files) (Err fault.Device) (view_of (which.Off new.images.disk (layout_of new.images.slot)))
     failed_migrates renews counts rest = grind (arith, weaker, moving_stands)

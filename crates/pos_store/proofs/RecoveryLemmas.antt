@@ -16,40 +16,35 @@ use Rattle.pos_store.specs.declared.fault.StoreFault.TheVariants as fault
 
 -- a recovery that only looked at the disk of a store that was off
 pub off_recovers : {D : Type 0} (bound : Ghosts D) (disk : D) (layout : Layout) (result : Result (Unit {0}) StoreFault)
-    (new : StoreView D)
-    → FindsStanding (DiskStandsFor bound disk) result new.layout new.state → (IsErr result → new.layout ≡ layout)
-    → (bound.honest disk → Watches (bound.state disk) (bound.state new.disk))
+    (new : StoreView D) → FindsStanding (DiskStandsFor bound disk) result new.layout new.state
+    → (IsErr result → new.layout ≡ layout) → (bound.honest disk → Watches (bound.state disk) (bound.state new.disk))
     → (bound.honest disk → LeavesItsFiles new.layout new.state (bound.state new.disk))
-    → (bound.honest disk → OnOk result (EndsAt new.layout new.tail (bound.state disk).reading))
-    → (bound.honest disk → IsErrOf result fault.Device → Rises (bound.state disk).failures
-    (bound.state new.disk).failures)
+    → (bound.honest disk → OnOk result (EndsAt new.layout new.tail (bound.state disk).reading)) → (bound.honest disk
+    → IsErrOf result fault.Device → Rises (bound.state disk).failures (bound.state new.disk).failures)
     → (bound.honest disk → IsErrOf result fault.Device ⊎ HasNotFailed (bound.state disk) (bound.state new.disk))
     → KeepsDisk bound disk new.disk → Recovers bound (view_of (which.Off disk layout)) result new
 off_recovers bound disk layout result new finds kept watches now ends device counts keeps =
-    let stands = λ (h : bound.honest disk).
-    finds_so (DiskStandsFor bound disk) (λ standing. StandsFor standing (bound.state disk).reading)
-    (λ standing stands. stands h) result _ new.state finds in
-    let one_of = λ (h : bound.honest disk) (candidates : List Standing).
-    recovers_one candidates _ _ result new.layout new.state (stands h) (watches h) in
+    let stands = λ (h : bound.honest disk). finds_so (DiskStandsFor bound disk)
+    (λ standing. StandsFor standing (bound.state disk).reading) (λ standing stands. stands h) result _ new.state finds
+    in
+    let one_of = λ (h : bound.honest disk)
+    (candidates : List Standing). recovers_one candidates _ _ result new.layout new.state (stands h) (watches h) in
     grind (arith, watches)
 
 -- a recovery that was refused for another cause than a fault of the disk
 pub refused_recovers : {D : Type 0} {bound : Ghosts D} {disk end : D} {layout : Layout} (cause : StoreFault)
-    → (IsErrOf {T = Unit {0}} (Err cause) fault.Device → ⊥)
-    → FindsStanding (DiskStandsFor bound disk) (Err cause) layout Off
-    → (bound.honest disk → Watches (bound.state disk) (bound.state end))
+    → (IsErrOf {T = Unit {0}} (Err cause) fault.Device → ⊥) → FindsStanding (DiskStandsFor bound disk)
+    (Err cause) layout Off → (bound.honest disk → Watches (bound.state disk) (bound.state end))
     → (bound.honest disk → HasNotFailed (bound.state disk) (bound.state end)) → KeepsDisk bound disk end
     → Recovers bound (view_of (which.Off disk layout)) (Err cause) (view_of (which.Off end layout))
-refused_recovers {bound} {disk} {layout} cause none finds watches same keeps =
-    off_recovers bound disk layout (Err cause) _ finds (λ err. refl) watches (λ h. tt) (λ h. tt)
-    (λ h is. absurd (none is)) (λ h. inr (same h)) keeps
+refused_recovers {bound} {disk} {layout} cause none finds watches same keeps = off_recovers bound disk layout
+    (Err cause) _ finds (λ err. refl) watches (λ h. tt) (λ h. tt) (λ h is. absurd (none is)) (λ h. inr (same h)) keeps
 
 -- what is found where the images weren't opened
 pub told_finds : (P : Standing → Type 0) (layout : Layout) {cause : ImageFault} (told : StoreFault)
     → ReportsImages cause told → ((cause ≡ images.Unformatted) ⊎ (cause ≡ images.TooSmall) → P Unformatted)
-    → (cause ≡ images.Damaged → P Damaged)
-    → (cause ≡ images.TooSmall) ⊎ ((cause ≡ images.Unformatted) ⊎ ((cause ≡ images.Damaged)
-    ⊎ ((cause ≡ images.Device) ⊎ (cause ≡ images.NoMemory))))
+    → (cause ≡ images.Damaged → P Damaged) → (cause ≡ images.TooSmall) ⊎ ((cause ≡ images.Unformatted)
+    ⊎ ((cause ≡ images.Damaged) ⊎ ((cause ≡ images.Device) ⊎ (cause ≡ images.NoMemory))))
     → FindsStanding P (Err told) layout Off
 told_finds P layout told tells unformatted damaged known = grind arith
 
@@ -64,22 +59,21 @@ damaged_stands bytes same = grind arith
 
 -- and so is one whose body spells no directory
 pub no_body_stands : (bytes : List ℕ) (layout : Layout) (body : List ℕ) (sequence : ℕ)
-    → image_on bytes ≡ image.OneImage layout body sequence
-    → ¬ (IsBody (limits_of layout) body) → StandsFor Damaged bytes
+    → image_on bytes ≡ image.OneImage layout body sequence → ¬ (IsBody (limits_of layout) body)
+    → StandsFor Damaged bytes
 no_body_stands bytes layout body sequence same none = grind (arith, same_image)
 
 -- one behind which no records stand
 pub no_log_stands : (bytes : List ℕ) (layout : Layout) (body : List ℕ) (sequence : ℕ)
-    → image_on bytes ≡ image.OneImage layout body sequence
-    → ¬ (HoldsSome (image.log_of bytes)) → StandsFor Damaged bytes
+    → image_on bytes ≡ image.OneImage layout body sequence → ¬ (HoldsSome (image.log_of bytes))
+    → StandsFor Damaged bytes
 no_log_stands bytes layout body sequence same none = grind arith
 
 -- and one whose records spell no applicable groups
 pub no_groups_stand : (bytes : List ℕ) (layout : Layout) (body : List ℕ) (sequence : ℕ) (base : List File)
-    (texts : List (List ℕ))
-    → image_on bytes ≡ image.OneImage layout body sequence → IsDirectory (limits_of layout) base → body ≡ spelling base
-    → HoldsRecords texts (image.log_of bytes) → ((last : List File) → ¬ (Applies (limits_of layout) base texts last))
-    → StandsFor Damaged bytes
+    (texts : List (List ℕ)) → image_on bytes ≡ image.OneImage layout body sequence → IsDirectory (limits_of layout) base
+    → body ≡ spelling base → HoldsRecords texts (image.log_of bytes)
+    → ((last : List File) → ¬ (Applies (limits_of layout) base texts last)) → StandsFor Damaged bytes
 no_groups_stand bytes layout body sequence base texts same sound spelled held none = (
   (λ empty. let is = sym same ∙ empty in cc),
   (λ by files after holds.
@@ -111,9 +105,8 @@ pub never_failed : {T E : Type 0} (before now : ℕ) (made : T) (device : E) →
 never_failed before now made device counts = ⊎_elim (λ is. absurd cc) (λ same. same) counts
 
 -- what is found where the records weren't applied
-pub told_text_finds : (P : Standing → Type 0) (layout : Layout) {cause : StoreFault}
-    → (cause ≡ fault.Damaged) ⊎ (cause ≡ fault.NoMemory)
-    → (cause ≡ fault.Damaged → P Damaged) → FindsStanding P (Err cause) layout Off
+pub told_text_finds : (P : Standing → Type 0) (layout : Layout) {cause : StoreFault} → (cause ≡ fault.Damaged)
+    ⊎ (cause ≡ fault.NoMemory) → (cause ≡ fault.Damaged → P Damaged) → FindsStanding P (Err cause) layout Off
 told_text_finds P layout known damaged = ⊎_elim (λ is. rw is (damaged is, refl)) (λ is. rw is refl) known
 
 -- two runs of calls keep the disk

@@ -12,9 +12,8 @@ same_front xs position at is = grind (arith, is, take_all)
 -- a read that found bytes took those behind the position
 pub takes_more : (xs buffer : List ℕ) {front : List ℕ} (position ends : ℕ) {at : ℕ} (count : ℕ)
     → at ≡ min position (length xs) → count ≡ min (length buffer) (length xs - at) → (count ≡ 0 → ⊥)
-    → front ≡ take ((at + count) - at) (drop at xs)
-    → TakesBytes (taken_with (take position xs) ends 0 (Some xs)) (front ++ drop count buffer) (Ok count)
-    (taken_with (take (at + count) xs) ends 0 (Some xs))
+    → front ≡ take ((at + count) - at) (drop at xs) → TakesBytes (taken_with (take position xs) ends 0 (Some xs))
+    (front ++ drop count buffer) (Ok count) (taken_with (take (at + count) xs) ends 0 (Some xs))
 takes_more xs buffer position ends zero begins fits some is = absurd (some refl)
 takes_more xs buffer {front} position ends {at} (suc n) begins fits some is =
     let same : (at + suc n) - at ≡ suc n = omega arith in

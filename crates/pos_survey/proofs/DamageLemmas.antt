@@ -41,8 +41,7 @@ no_files {bytes} {body} {slot} {sequence} (fault.Damaged at (rule.NoFiles flaw))
         current = current;
         none = none;
         within = within;
-        place_is =
-            place_is;
+        place_is = place_is;
         has = has;
       },
     )
@@ -56,16 +55,14 @@ no_step rule.LongBody flaw step = flaw
 no_step (rule.NoFiles why) flaw step = flaw
 no_step rule.LongRecord flaw step = flaw
 no_step rule.NoGroup flaw step = flaw (step.changes, step.group, step.spelled)
-no_step rule.EmptyGroup flaw step =
-    step.some (one_group_spelling step.changes [] step.group (record { count = omega arith; each = tt })
-    (sym step.spelled ∙ flaw))
+no_step rule.EmptyGroup flaw step = step.some (one_group_spelling step.changes [] step.group
+    (record { count = omega arith; each = tt }) (sym step.spelled ∙ flaw))
 no_step {limits} {files} {text} (rule.NotApplicable cause) (changes, group, spelled, refused) {next} step =
     refused_step limits files text changes cause group spelled refused next step
 
 -- what goes on behind a text does so behind the files before it
 goes_on : {limits : Limits} (base : List File) (before : List (List ℕ)) {text : List ℕ} (behind : List (List ℕ))
-    (last : List File)
-    → Applies limits base (before ++ text ∷ behind) last
+    (last : List File) → Applies limits base (before ++ text ∷ behind) last
     → (files : List File) × Applies limits base before files × ((next : List File) × IsStep limits files text next)
 goes_on base [] behind last (next, step, more) = (base, refl, (next, step))
 goes_on base (one ∷ before) behind last (next, step, more) =
@@ -86,8 +83,8 @@ bad_rule : {bytes : List ℕ} {at : ℕ} {broken : Rule} → HasBadRecord bytes 
 bad_rule bad = let flaw = bad.stops.flaw in grind arith
 
 module _ (bytes body : List ℕ) (slot : Slot) (base : List File) (sequence : ℕ)
-    (current : IsCurrent bytes slot body sequence)
-    (sound : IsDirectory (limits_of (layout_of slot)) base) (spelled : body ≡ spelling base) where
+    (current : IsCurrent bytes slot body sequence) (sound : IsDirectory (limits_of (layout_of slot)) base)
+    (spelled : body ≡ spelling base) where
   has_base : HasBase bytes slot base sequence
   has_base = record { current = rw spelled at current; directory = sound }
 
@@ -126,7 +123,6 @@ module _ (bytes body : List ℕ) (slot : Slot) (base : List File) (sequence : �
       image = has_base;
       texts = texts;
       held = held;
-      stops =
-          stops;
+      stops = stops;
     }),
   )

@@ -30,20 +30,19 @@ ends_within before behind text is =
 
 -- the first text that isn't applied
 pub stops : (limits : Limits) (base files : List File) {texts : List (List ℕ)} (before behind : List (List ℕ))
-    (text : List ℕ) (first : ℕ) {at : ℕ} (cause : SurveyFault)
-    → texts ≡ before ++ text ∷ behind → at ≡ first + length (spelling before) → Applies limits base before files
-    → IsRefused limits files text at cause → StopsFor limits base texts first cause
+    (text : List ℕ) (first : ℕ) {at : ℕ} (cause : SurveyFault) → texts ≡ before ++ text ∷ behind
+    → at ≡ first + length (spelling before) → Applies limits base before files → IsRefused limits files text at cause
+    → StopsFor limits base texts first cause
 stops limits base files before behind text first fault.NoMemory is place applies flaw = tt
 stops limits base files before behind text first fault.TooSmall is place applies flaw = flaw
 stops limits base files before behind text first fault.Unformatted is place applies flaw = flaw
-stops limits base files before behind text first (fault.Damaged there broken) is place applies (same, flaw) =
-    record {
-      before = before;
-      text = text;
-      behind = behind;
-      files = files;
-      texts_are = is;
-      place_is = same ∙ place;
-      applies = applies;
-      flaw = flaw;
-    }
+stops limits base files before behind text first (fault.Damaged there broken) is place applies (same, flaw) = record {
+  before = before;
+  text = text;
+  behind = behind;
+  files = files;
+  texts_are = is;
+  place_is = same ∙ place;
+  applies = applies;
+  flaw = flaw;
+}

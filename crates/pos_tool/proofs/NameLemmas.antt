@@ -34,9 +34,8 @@ module _ {A : Type 0} (xs : List A) (i : ℕ) (d : A) (lt : i < length xs) where
 
 -- one more path was found
 pub finds_more : {S : Type 0} (folder : FolderGhosts S) (them : S) (paths : List (Bor (List ℕ))) (found : List (List ℕ))
-    (path : Bor (List ℕ))
-    (more : List (List ℕ)) → FindsAll folder them paths found → FindsAt folder them path.now (Ok more)
-    → FindsAll folder them (paths ++ path ∷ []) (found ++ more)
+    (path : Bor (List ℕ)) (more : List (List ℕ)) → FindsAll folder them paths found
+    → FindsAt folder them path.now (Ok more) → FindsAll folder them (paths ++ path ∷ []) (found ++ more)
 finds_more folder them [] found path more are one =
     (more, [], one, refl, ap (λ xs. xs ++ more) are ∙ sym (append-nil more))
 finds_more folder them (first ∷ paths) found path more (here, others, at, rest, split) one = (

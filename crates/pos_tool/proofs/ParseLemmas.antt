@@ -46,8 +46,8 @@ module _ (app : App) (words : List Text) (same : app ≡ program_line) where
 
   -- what is made of an error is what the words ask for
   pub told : (error : Error) (result : Result Task WordsFault)
-      → (is_simple_and_free app ≡ true → HasKind (fault_of app words) error)
-      → PrintsWhy error result → Chooses words result
+      → (is_simple_and_free app ≡ true → HasKind (fault_of app words) error) → PrintsWhy error result
+      → Chooses words result
   told error (Ok Help) kinds why = inr (rw why at (among error kinds (λ memory. cc)))
   told error (Ok Version) kinds why = inr (rw why at (among error kinds (λ memory. cc)))
   told error (Ok (Explain code)) kinds why = absurd why
@@ -77,9 +77,8 @@ begun name new unnamed started is first second =
     (ap app_of_fields first ∙ ap (on_top (λ s. record s { no_binary_name = true })) is)
 
 -- a version on a command line
-pub versioned : (text : Bor Text) (old new : Command) (before : App) → app_of old ≡ before
-    → fields_of new ≡ record (fields_of old) { version = Some text }
-    → app_of new ≡ on_top (λ s. record s { has_version = true }) before
+pub versioned : (text : Bor Text) (old new : Command) (before : App) → app_of old ≡ before → fields_of new
+    ≡ record (fields_of old) { version = Some text } → app_of new ≡ on_top (λ s. record s { has_version = true }) before
 versioned text old new before is third = ap app_of_fields third ∙ ap (on_top (λ s. record s { has_version = true })) is
 
 -- the words of a place in the matches of a command

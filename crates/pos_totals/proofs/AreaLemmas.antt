@@ -46,8 +46,8 @@ no_other_reclaimed whose holder claim (tag ∷ tags) own apart =
     (grind (arith, nat_tests, apart.0), no_other_reclaimed whose holder claim tags own apart.1)
 
 pub apart_reclaimed : (whose : ClaimScope) (area claim : Option ℕ) (tags : List FileTag)
-    → IfSome area (λ holder. is_foreign holder claim ≡ false)
-    → IsApart area tags → IsApart area (map (reclaimed whose claim) tags)
+    → IfSome area (λ holder. is_foreign holder claim ≡ false) → IsApart area tags
+    → IsApart area (map (reclaimed whose claim) tags)
 apart_reclaimed whose None claim tags own apart = tt
 apart_reclaimed whose (Some holder) claim tags own apart = no_other_reclaimed whose holder claim tags own apart
 
@@ -71,10 +71,9 @@ no_other_left control (tag ∷ tags) none =
     (grind (arith, nat_tests), no_other_left control tags (grind (arith, nat_tests)))
 
 pub sound_claimed : {layout : Layout} (state : State) (tail : ℕ) {holdings : Holdings} {control : ℕ}
-    → is_area_taken (totals_at state tail holdings) control ≡ false
-    → IsSound layout state holdings → IsSound layout state (record holdings { area = Some control })
-sound_claimed StoreOff tail free sound =
-    record { found = tt; handles = tt; buffers = sound.buffers; apart = tt }
+    → is_area_taken (totals_at state tail holdings) control ≡ false → IsSound layout state holdings
+    → IsSound layout state (record holdings { area = Some control })
+sound_claimed StoreOff tail free sound = record { found = tt; handles = tt; buffers = sound.buffers; apart = tt }
 sound_claimed (StoreReady files sequence) tail {holdings} {control} free sound = record {
   found = sound.found;
   handles = sound.handles;

@@ -42,8 +42,7 @@ edits_keep (first ∷ files) handle edit fit =
 
 -- what is buffered stays so after a change that nothing refuses
 pub buffered_after : {layout : Layout} {files : List File} {next control : ℕ} {spent : Option ℕ}
-    (change buffered : Change)
-    → IsUnrefused layout files next control spent change → IsBuffered files next buffered
+    (change buffered : Change) → IsUnrefused layout files next control spent change → IsBuffered files next buffered
     → IsBuffered (files_after next files change) (next_after next change) buffered
 buffered_after {files} {next} (Create name size) (Edit handle edit) may is = (
   given_more handle (omega arith) is.0,
@@ -74,18 +73,17 @@ keeps_all files next (Edit handle edit ∷ changes) all =
     let rest = keeps_all (files_after next files (Edit handle edit)) next changes
     (all_so _ _ changes (λ change is. same_buffered files _ next change (sym same) is) others) in (
       rest.0 ∙ same,
-      rest.1 ∙ kept tag_of (is_called handle)
-          (λ file. record file { bytes = edited edit file.bytes }) files (λ file. refl),
+      rest.1 ∙ kept tag_of (is_called handle) (λ file. record file { bytes = edited edit file.bytes }) files
+          (λ file. refl),
       rest.2,
     )
 keeps_all files next (other ∷ changes) all = absurd all.0
 
 -- where no file is gone, the group of all that is buffered makes of the plain files those after it
 pub makes_all : (layout : Layout) (files : List File) (next : ℕ) (changes : List Change)
-    → AreDistinct (handles_of files)
-    → AllByRecursion (IsBuffered files next) changes → list_any (is_of_none files) changes ≡ false
-    → outcome_of_all (limits_of layout) (plain files) (group_of files changes) ≡ Ok
-    (plain (files_after_all next files changes))
+    → AreDistinct (handles_of files) → AllByRecursion (IsBuffered files next) changes
+    → list_any (is_of_none files) changes ≡ false → outcome_of_all (limits_of layout) (plain files)
+    (group_of files changes) ≡ Ok (plain (files_after_all next files changes))
 makes_all layout files next [] distinct all there = refl
 makes_all layout files next (Edit handle edit ∷ changes) distinct all there =
     let after = files_after next files (Edit handle edit) in
@@ -113,8 +111,7 @@ held_at mode next (first ∷ others) (suc control) all is = held_at mode next ot
 
 -- another transaction of a control that may be held
 pub held_with : (mode : Mode) (next : ℕ) (transactions : List (Option (List Change))) (control : ℕ)
-    (transaction : Option (List Change))
-    → HaveBuffers mode next transactions → MayHold mode next transaction
+    (transaction : Option (List Change)) → HaveBuffers mode next transactions → MayHold mode next transaction
     → HaveBuffers mode next (slice_set transactions control transaction)
 held_with mode next [] control transaction all may = tt
 held_with mode next (first ∷ others) zero transaction all may = (may, all.1)

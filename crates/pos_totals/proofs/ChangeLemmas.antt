@@ -40,16 +40,14 @@ is_group (StoreReady files sequence) tail holdings control change directory soun
     let old = totals_at (StoreReady files sequence) tail holdings in
     where_let old (is_none (first_refusal (refusals_of_change old control change)) && not (in_transaction old control))
     (change ∷ []) (λ is.
-    let may : IsUnrefused holdings.layout (files_of old.mode) holdings.handles.next control
-    (spent_by old control) change =
-    record { theirs = sound_files holdings directory sound.handles; rows = grind (arith, nat_tests) } in
+    let may : IsUnrefused holdings.layout (files_of old.mode) holdings.handles.next control (spent_by old control)
+    change = record { theirs = sound_files holdings directory sound.handles; rows = grind (arith, nat_tests) } in
     rw (makes change may) refl)
 
 pub stays : {D : Type 0} {bound : Ghosts D} {store : StoreView D} {holdings : Holdings} → Begins bound store holdings
     → {control : ℕ} {change : Change} {outcome : Result Answer NoMemory}
     → Changed (HasFailed bound store.disk store.disk) (totals_of store holdings) control change outcome
-    (totals_of store holdings)
-    → Changes bound (view_of store holdings) control change outcome (view_of store holdings)
+    (totals_of store holdings) → Changes bound (view_of store holdings) control change outcome (view_of store holdings)
 stays {store} {holdings} begins {control} {change} {outcome} changed = record {
   answer = changed;
   disk = rests begins _ outcome (is_group store.state store.tail holdings control change begins.directory begins.sound);
@@ -60,8 +58,7 @@ pub refuses : {D : Type 0} {bound : Ghosts D} {store : StoreView D} {holdings : 
     → {control : ℕ} {change : Change} {refusal : Answer}
     → ChecksAt (totals_of store holdings) control change (Err refusal)
     → Changes bound (view_of store holdings) control change (Ok refusal) (view_of store holdings)
-refuses begins checks =
-    stays begins (record { outcome = rw checks (refl, refl) })
+refuses begins checks = stays begins (record { outcome = rw checks (refl, refl) })
 
 -- ---- what may be buffered
 
@@ -89,8 +86,8 @@ is_buffered : {layout : Layout} {files : List File} {next control : ℕ} {spent 
 is_buffered {files} {next} (Edit handle edit) may inside =
     let fit = edit_fits may in
     let found = fitting (find (is_called handle) files) edit fit in (
-      found_has (is_called handle) (λ file. IsGiven next handle) files found.0
-          (given_below handle files next may.theirs.below) found.1,
+      found_has (is_called handle)
+          (λ file. IsGiven next handle) files found.0 (given_below handle files next may.theirs.below) found.1,
       all_fit files handle edit may.theirs.distinct fit,
       (length found.0.bytes, found.2),
     )
@@ -99,8 +96,7 @@ is_buffered {spent = Some spent} other may inside = absurd (let rows = may.rows 
 
 -- one more is held with what a control has buffered
 may_hold : (mode : Mode) (next : ℕ) (transactions : List (Option (List Change))) (control : ℕ) {buffer : List Change}
-    (change : Change)
-    → HaveBuffers mode next transactions → transaction_at transactions control ≡ Some buffer
+    (change : Change) → HaveBuffers mode next transactions → transaction_at transactions control ≡ Some buffer
     → IsBuffered (files_of mode) next change → MayHold mode next (Some (buffer ++ change ∷ []))
 may_hold Off next transactions control change held some is =
     absurd (let none = held_at Off next transactions control held some in cc)
@@ -130,8 +126,7 @@ abbrev pub kept_holdings : Holdings → FileChange → Holdings
 kept_holdings holdings made = record holdings {
   handles = record {
     given = given_after holdings.handles.given holdings.handles.next made;
-    next =
-        following holdings.handles.next made;
+    next = following holdings.handles.next made;
   };
 }
 
@@ -160,8 +155,7 @@ allowed (StoreReady files sequence) {holdings} begins checks = record {
   passes = checks.1;
   unrefused_here = record {
     theirs = sound_files holdings begins.directory begins.sound.handles;
-    rows =
-        checks.1.unrefused;
+    rows = checks.1.unrefused;
   };
   tags = tags_in holdings.handles.given files begins.sound.handles.count;
 }
@@ -193,8 +187,7 @@ module _ {D : Type 0} {bound : Ghosts D} {store : StoreView D} {holdings : Holdi
   -- the change is buffered
   added : (buffer : List Change) → transaction_at holdings.transactions control ≡ Some buffer
       → let later = record holdings {
-        transactions =
-            slice_set holdings.transactions control (Some (buffer ++ change ∷ []));
+        transactions = slice_set holdings.transactions control (Some (buffer ++ change ∷ []));
       } in
       Changes bound (view_of store holdings) control change (Ok (answer.Done value.Empty)) (view_of store later)
       × IsSound store.layout store.state later
@@ -210,17 +203,15 @@ module _ {D : Type 0} {bound : Ghosts D} {store : StoreView D} {holdings : Holdi
       )
 
   -- it is, or finds no memory for it
-  pub buffers : is_some (transaction_at holdings.transactions control) ≡ true
-      → (outcome : Result Answer NoMemory) (new : List (Option (List Change)))
-      → Buffers holdings.transactions control made outcome new
-      → Changes bound (view_of store holdings) control change outcome
-      (view_of store (record holdings { transactions = new }))
+  pub buffers : is_some (transaction_at holdings.transactions control) ≡ true → (outcome : Result Answer NoMemory)
+      (new : List (Option (List Change))) → Buffers holdings.transactions control made outcome new → Changes bound
+      (view_of store holdings) control change outcome (view_of store (record holdings { transactions = new }))
       × IsSound store.layout store.state (record holdings { transactions = new })
   buffers inside (Err want) new same = rw same (wants, may.begins.sound)
   buffers inside (Ok result) new did =
       let some = some_of (transaction_at holdings.transactions control) inside in
-      let edits = rw may.passes.made at (only_edits (files_of old.mode) next change
-      (is_buffered change may.unrefused_here (rw some.1 refl))) in
+      let edits = rw may.passes.made
+      at (only_edits (files_of old.mode) next change (is_buffered change may.unrefused_here (rw some.1 refl))) in
       let is : new ≡ slice_set holdings.transactions control (Some (some.0 ++ change ∷ [])) =
       did.1.added ∙ ap (with_buffered holdings.transactions control) (same_asked made.handle (edit_in made.change) edits
       may.passes.asked did.1.asked) ∙ ap (λ (t : Option (List Change)). slice_set holdings.transactions control
@@ -229,19 +220,16 @@ module _ {D : Type 0} {bound : Ghosts D} {store : StoreView D} {holdings : Holdi
 
   module _ (free : is_some (transaction_at holdings.transactions control) ≡ false) where
     -- what a change does outside a transaction, by the row for its handle
-    outside : (F : Type 0) (result : Answer) (new : Totals)
-        → Decided (number_rows old change) result (new ≡ old)
+    outside : (F : Type 0) (result : Answer) (new : Totals) → Decided (number_rows old change) result (new ≡ old)
         (RunsOut old (change ∷ []) result new ⊎ Done F old (change ∷ []) (given_by next change) result new)
         → Changed F old control change (Ok result) new
     outside F result new does = record {
-      outcome =
-          rw (may.unrefused, none_of (transaction_at holdings.transactions control) free) does;
+      outcome = rw (may.unrefused, none_of (transaction_at holdings.transactions control) free) does;
     }
 
     -- a change that has no handle
-    pub lacking : lacks next made.change ≡ true
-        → Changes bound (view_of store holdings) control change (Ok (answer.Refused code.Failure 0))
-        (view_of store holdings)
+    pub lacking : lacks next made.change ≡ true → Changes bound (view_of store holdings) control change
+        (Ok (answer.Refused code.Failure 0)) (view_of store holdings)
     lacking out = stays may.begins (outside _ _ _ (record { outcome = rw (lacks_so true out) (refl, refl) }))
 
     -- its group, and what it is answered, the handle being there
@@ -296,13 +284,11 @@ module _ {D : Type 0} {bound : Ghosts D} {disk : D} {files : List PlainFile} {se
   }
 
 -- the store has done it, or met a fault
-pub put_down : {D : Type 0} {bound : Ghosts D} {store : StoreView
-    D} {holdings : Holdings} {control : ℕ} {change : Change} {made : CheckedUpdate}
-    → IsFound holdings store → Allowed bound store holdings control change made
-    → is_some (transaction_at holdings.transactions control) ≡ false
-    → lacks holdings.handles.next made.change ≡ false → {new : StoreView D} {result : Result (Unit {0}) StoreFault}
-    → Commits bound store (made.change ∷ []) result new → let now =
-    later_holdings holdings (kept_holdings holdings made.change) result in
+pub put_down : {D : Type 0} {bound : Ghosts D} {store : StoreView D} {holdings : Holdings} {control : ℕ}
+    {change : Change} {made : CheckedUpdate} → IsFound holdings store → Allowed bound store holdings control change made
+    → is_some (transaction_at holdings.transactions control) ≡ false → lacks holdings.handles.next made.change ≡ false
+    → {new : StoreView D} {result : Result (Unit {0}) StoreFault} → Commits bound store (made.change ∷ []) result new
+    → let now = later_holdings holdings (kept_holdings holdings made.change) result in
     Changes bound (view_of store holdings) control change (answer_by (value_after holdings.handles.next made.change)
     result) (view_of new now) × IsSound new.layout new.state now
 put_down {holdings} {change} (FoundFile disk files sequence tail) may free left {new} {result} commits =

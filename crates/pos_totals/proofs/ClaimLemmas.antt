@@ -43,8 +43,7 @@ with_claims holdings whose claim = record holdings
 reclaims : {layout : Layout} (state : State) (tail : ℕ) {holdings : Holdings} (whose : ClaimScope) (claim : Option ℕ)
     → IsSound layout state holdings → IfSome holdings.area (λ holder. is_foreign holder claim ≡ false)
     → (totals_at state tail (with_claims holdings whose claim) ≡ record (totals_at state tail holdings) {
-      mode =
-          with_files (with_each (meets whose) (claimed claim)) (mode_of holdings.handles.given state);
+      mode = with_files (with_each (meets whose) (claimed claim)) (mode_of holdings.handles.given state);
     }) × IsSound layout state (with_claims holdings whose claim)
 reclaims StoreOff tail whose claim sound own =
     (refl, record { found = tt; handles = tt; buffers = sound.buffers; apart = tt })
@@ -72,16 +71,15 @@ reclaims (StoreReady files sequence) tail {holdings} whose claim sound own =
 -- ---- the claim of a file
 
 pub claim_changes : {layout : Layout} {state : State} (tail : ℕ) {holdings : Holdings} (control : ℕ) {handle : ℤ}
-    (claiming : ClaimRequest) {number : ℕ}
-    → LetsThroughAt (totals_at state tail holdings) control (arrangement_by handle claiming) handle (Ok number)
-    → IsSound layout state holdings
+    (claiming : ClaimRequest) {number : ℕ} → LetsThroughAt (totals_at state tail holdings) control
+    (arrangement_by handle claiming) handle (Ok number) → IsSound layout state holdings
     → let later = with_claims holdings (whose.File number) (claim_after control claiming) in
     Arranges (totals_at state tail holdings) control (arrangement_by handle claiming) (answer.Done value.Empty)
     (totals_at state tail later) × IsSound layout state later
 claim_changes {state} tail {holdings} control {handle} claiming {number} through sound =
     let passes = through.0 in
-    let both = reclaims state tail (whose.File number) (claim_after control claiming) sound
-    (grind (arith, nat_tests)) in
+    let both =
+    reclaims state tail (whose.File number) (claim_after control claiming) sound (grind (arith, nat_tests)) in
     (record { outcome = rw passes (refl, both.0 ∙ after claiming) }, both.1)
   where
     after : (how : ClaimRequest) → record (totals_at state tail holdings) {
@@ -96,18 +94,16 @@ claim_changes {state} tail {holdings} control {handle} claiming {number} through
 abbrev pub without : Holdings → ℕ → Holdings
 without holdings control = record holdings {
   area = foreign_area control holdings.area;
-  transactions =
-      slice_set holdings.transactions control None;
+  transactions = slice_set holdings.transactions control None;
 }
 
 pub control_dropped : {layout : Layout} {state : State} (tail : ℕ) {holdings : Holdings} (control : ℕ)
     → IsSound layout state holdings → let later = with_claims (without holdings control) (whose.Control control) None in
     (totals_at state tail later ≡ without_control (totals_at state tail holdings) control) × IsSound layout state later
-control_dropped {state} tail {holdings} control sound =
-    reclaims state tail (whose.Control control) None (record {
-      found = sound.found;
-      handles = sound.handles;
-      buffers = held_with (mode_of holdings.handles.given state) holdings.handles.next holdings.transactions control
-          None sound.buffers (none_held (mode_of holdings.handles.given state) holdings.handles.next);
-      apart = apart_left state holdings.area control holdings.handles.given sound.apart;
-    }) (grind (arith, nat_tests))
+control_dropped {state} tail {holdings} control sound = reclaims state tail (whose.Control control) None (record {
+  found = sound.found;
+  handles = sound.handles;
+  buffers = held_with (mode_of holdings.handles.given state) holdings.handles.next holdings.transactions control
+      None sound.buffers (none_held (mode_of holdings.handles.given state) holdings.handles.next);
+  apart = apart_left state holdings.area control holdings.handles.given sound.apart;
+}) (grind (arith, nat_tests))

@@ -29,8 +29,8 @@ ready_so state tail holdings control passes = grind (arith, nat_tests)
 
 -- all that is buffered for files is one group
 one_group : {layout : Layout} (state : State) (tail : ℕ) {holdings : Holdings} (control : ℕ) {buffer : List Change}
-    → HasDirectory holdings.layout state
-    → IsSound layout state holdings → first_refusal (refusals_of_commit (totals_at state tail holdings) control) ≡ None
+    → HasDirectory holdings.layout state → IsSound layout state holdings
+    → first_refusal (refusals_of_commit (totals_at state tail holdings) control) ≡ None
     → transaction_at holdings.transactions control ≡ Some buffer → IsOneGroup (totals_at state tail holdings) buffer
 one_group StoreOff tail control directory sound passes some = absurd (grind (arith, nat_tests))
 one_group (StoreReady files sequence) tail {holdings} control {buffer} directory sound passes some =
@@ -54,13 +54,12 @@ is_group state tail holdings control directory sound =
 
 -- its group is applicable
 pub applicable : {layout : Layout} (state : State) (tail : ℕ) {holdings : Holdings} (control : ℕ)
-    {group : List FileChange} → HasDirectory holdings.layout state
-    → IsSound layout state holdings → first_refusal (refusals_of_commit (totals_at state tail holdings) control) ≡ None
+    {group : List FileChange} → HasDirectory holdings.layout state → IsSound layout state holdings
+    → first_refusal (refusals_of_commit (totals_at state tail holdings) control) ≡ None
     → Gathers (files_of (totals_at state tail holdings).mode) (transaction_at holdings.transactions control) group
     → IsApplicable layout state group
-applicable state tail control directory sound passes gathered =
-    rw gathered.made (group_applies state tail (gathered.first ∷ gathered.others) sound
-    (one_group state tail control directory sound passes gathered.buffered))
+applicable state tail control directory sound passes gathered = rw gathered.made (group_applies state tail
+    (gathered.first ∷ gathered.others) sound (one_group state tail control directory sound passes gathered.buffered))
 
 -- ---- where the disk isn't used
 
@@ -74,8 +73,7 @@ module _ {D : Type 0} {bound : Ghosts D} {store : StoreView D} {holdings : Holdi
       → CommitsBuffer bound (view_of store holdings) control outcome (view_of store holdings)
   stays outcome answer = record {
     answer = answer;
-    disk =
-        rests begins _ outcome (is_group store.state store.tail holdings control begins.directory begins.sound);
+    disk = rests begins _ outcome (is_group store.state store.tail holdings control begins.directory begins.sound);
   }
 
   -- a commit that is refused
@@ -94,9 +92,8 @@ module _ {D : Type 0} {bound : Ghosts D} {store : StoreView D} {holdings : Holdi
 
   -- a commit of nothing
   ends : first_refusal (refusals_of_commit totals control) ≡ None
-      → transaction_at holdings.transactions control ≡ Some []
-      → CommitsBuffer bound (view_of store holdings) control (Ok (answer.Done value.Empty)) (view_of store ended)
-      × IsSound store.layout store.state ended
+      → transaction_at holdings.transactions control ≡ Some [] → CommitsBuffer bound (view_of store holdings) control
+      (Ok (answer.Done value.Empty)) (view_of store ended) × IsSound store.layout store.state ended
   ends passes none = (
     record {
       answer = record { outcome = rw (passes, none) (refl, refl) };
@@ -175,11 +172,10 @@ module _ {D : Type 0} {bound : Ghosts D} {disk : D} {files : List PlainFile} {se
 
 -- a group that the store has answered: it is put down, or the store refused it
 pub put_down : {D : Type 0} {bound : Ghosts D} {store : StoreView D} {holdings : Holdings} → IsFound holdings store
-    → (begins : Begins bound store holdings)
-    {control : ℕ} → first_refusal (refusals_of_commit (totals_of store holdings) control) ≡ None → {new : StoreView D}
-    {result : Result (Unit {0}) StoreFault}
-    → PutsBuffer bound store (files_of (mode_of holdings.handles.given store.state))
-    (transaction_at holdings.transactions control) result new
+    → (begins : Begins bound store holdings) {control : ℕ}
+    → first_refusal (refusals_of_commit (totals_of store holdings) control) ≡ None
+    → {new : StoreView D} {result : Result (Unit {0}) StoreFault} → PutsBuffer bound store
+    (files_of (mode_of holdings.handles.given store.state)) (transaction_at holdings.transactions control) result new
     → let now = later_holdings holdings (ended begins control) result in
     CommitsBuffer bound (view_of store holdings) control (answer_by value.Empty result) (view_of new now)
     × IsSound new.layout new.state now
@@ -190,19 +186,17 @@ put_down (FoundFile disk files sequence tail) begins {control} passes {new} {res
 
 -- a store whose commit is let through
 pub found : {D : Type 0} {bound : Ghosts D} {store : StoreView D} {holdings : Holdings} → Begins bound store holdings
-    → (control : ℕ)
-    → first_refusal (refusals_of_commit (totals_of store holdings) control) ≡ None → IsFound holdings store
+    → (control : ℕ) → first_refusal (refusals_of_commit (totals_of store holdings) control) ≡ None
+    → IsFound holdings store
 found {store} {holdings} begins control passes =
     as_found begins (ready_so store.state store.tail holdings control passes)
 
 -- a commit that is done, with a group on the disk or with nothing to do
 pub done : {D : Type 0} {bound : Ghosts D} {store : StoreView D} {holdings : Holdings}
     (begins : Begins bound store holdings) (control : ℕ) {new : StoreView D}
-    → first_refusal (refusals_of_commit (totals_of store holdings) control) ≡ None
-    → EndsBuffer bound store (files_of (mode_of holdings.handles.given store.state))
-    (transaction_at holdings.transactions control) new
+    → first_refusal (refusals_of_commit (totals_of store holdings) control) ≡ None → EndsBuffer bound store
+    (files_of (mode_of holdings.handles.given store.state)) (transaction_at holdings.transactions control) new
     → CommitsBuffer bound (view_of store holdings) control (Ok (answer.Done value.Empty))
     (view_of new (ended begins control)) × IsSound new.layout new.state (ended begins control)
 done begins control passes (inl none) = rw none.1 (ends begins control passes none.0)
-done begins control passes (inr puts) =
-    put_down (found begins control passes) begins passes puts
+done begins control passes (inr puts) = put_down (found begins control passes) begins passes puts

@@ -17,9 +17,8 @@ keeps_size (SetAll n) old fit = length-replicate (length old) (nat_abs n)
 
 -- the directory after it has the file with the bytes after it
 pub makes_edit : (limits : Limits) (files : List PlainFile) (index : ℕ) (edit : FileEdit) {file : PlainFile}
-    → slice_get files index ≡ Some file → fits (length file.bytes) edit ≡ true
-    → outcome limits files (edit_change index edit) ≡ Ok (slice_set files index
-    (record file { bytes = edited edit file.bytes }))
+    → slice_get files index ≡ Some file → fits (length file.bytes) edit ≡ true → outcome limits files
+    (edit_change index edit) ≡ Ok (slice_set files index (record file { bytes = edited edit file.bytes }))
 makes_edit limits files index (Write offset bytes) at fit = rw at (grind (arith, nat_tests))
 makes_edit limits files index (SetAll n) at fit = rw at refl
 

@@ -80,9 +80,8 @@ up_to limit (negsuc n) fits = absurd cc
 
 -- the one file with a handle, changed in its place
 set_plain : (files : List File) (handle : ℤ) (f : File) (change : File → File) → AreDistinct (handles_of files)
-    → find (is_called handle) files ≡ Some f
-    → set (plain files) (index_of (is_called handle) files) (plain_file (change f)) ≡ plain
-    (with_each (is_called handle) change files)
+    → find (is_called handle) files ≡ Some f → set (plain files) (index_of (is_called handle) files)
+    (plain_file (change f)) ≡ plain (with_each (is_called handle) change files)
 set_plain files handle f change distinct found =
     rw (one_changed (is_called handle) change files f (only_called files handle distinct) found, map-set) refl
 
@@ -93,8 +92,8 @@ fitting None edit fit = absurd cc
 fitting (Some f) edit fit = (f, refl, fit)
 
 pub made_edit : (layout : Layout) (files : List File) (handle : ℤ) (edit : FileEdit) (next : ℕ)
-    → AreDistinct (handles_of files)
-    → fits_file (find (is_called handle) files) edit ≡ true → Makes layout files (Edit handle edit) next
+    → AreDistinct (handles_of files) → fits_file (find (is_called handle) files) edit ≡ true
+    → Makes layout files (Edit handle edit) next
 made_edit layout files handle edit next distinct fit =
     let found = fitting (find (is_called handle) files) edit fit in
     makes_edit (limits_of layout) (plain files) (index_of (is_called handle) files) edit

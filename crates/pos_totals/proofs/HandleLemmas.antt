@@ -26,9 +26,8 @@ module _ {layout : Layout} {files : List File} {next control : ℕ} {spent : Opt
   given_is (Rename handle name) may =
       sym (kept tag_of (is_called handle) (λ file. record file { name = name }) files (λ file. refl))
   given_is (Edit handle edit) may =
-      (keeps_handles (index_of (is_called handle) files) edit).given (tags_of files) next
-      ∙ sym (kept tag_of (is_called handle) (λ file. record file { bytes = edited edit file.bytes }) files
-      (λ file. refl))
+      (keeps_handles (index_of (is_called handle) files) edit).given (tags_of files) next ∙ sym (kept tag_of
+      (is_called handle) (λ file. record file { bytes = edited edit file.bytes }) files (λ file. refl))
 
 -- what a change lacks, uses up and gives of the numbers
 pub numbers_are : (files : List File) (change : Change) (next : ℕ) → let made = file_change files change in
@@ -78,9 +77,8 @@ handles_after : (made : FileChange) (tags : List FileTag) (next : ℕ) → AreDi
 handles_after (file.Create name size) tags next distinct below =
     rw (map-append (λ (tag : FileTag). tag.handle) tags (new_tag next ∷ [])) (
       distinct_with (numbers_of tags) next distinct below,
-      all_with (λ handle. handle < next + 1) (numbers_of tags)
-          (all_so (λ handle. handle < next) (λ handle. handle < next + 1) (numbers_of tags)
-          (λ handle lt. omega (arith, lt)) below) (omega arith),
+      all_with (λ handle. handle < next + 1) (numbers_of tags) (all_so (λ handle. handle < next)
+          (λ handle. handle < next + 1) (numbers_of tags) (λ handle lt. omega (arith, lt)) below) (omega arith),
     )
 handles_after (file.Delete index) tags next distinct below =
     rw (map-remove (λ (tag : FileTag). tag.handle) tags index) (

@@ -50,8 +50,7 @@ same_buffered xs ys next other same buffered = absurd buffered
 
 -- its group is the same, and it is of files that are gone in both alike
 pub same_group : (xs ys : List File) (next : ℕ) (changes : List Change) → outlines xs ≡ outlines ys
-    → AllByRecursion (IsBuffered xs next) changes
-    → (group_of xs changes ≡ group_of ys changes)
+    → AllByRecursion (IsBuffered xs next) changes → (group_of xs changes ≡ group_of ys changes)
     × (list_any (is_of_none xs) changes ≡ list_any (is_of_none ys) changes)
 same_group xs ys next [] same all = (refl, refl)
 same_group xs ys next (Edit handle edit ∷ changes) same all =

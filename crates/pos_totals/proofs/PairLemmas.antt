@@ -19,8 +19,7 @@ tags_in tags files same = absurd (omega (arith, same))
 
 pub numbers_in : (tags : List FileTag) (files : List PlainFile) → length tags ≡ length files
     → handles_of (with_tags tags files) ≡ numbers_of tags
-numbers_in tags files same =
-    sym (map-map (λ (tag : FileTag). tag.handle) tag_of (with_tags tags files))
+numbers_in tags files same = sym (map-map (λ (tag : FileTag). tag.handle) tag_of (with_tags tags files))
     ∙ ap numbers_of (tags_in tags files same)
 
 pub called_again : (files : List File) → with_tags (tags_of files) (plain files) ≡ files
@@ -29,8 +28,7 @@ called_again (file ∷ files) = ap (λ rest. file ∷ rest) (called_again files)
 
 pub length-with_tags : (tags : List FileTag) (files : List PlainFile) → length tags ≡ length files
     → length (with_tags tags files) ≡ length files
-length-with_tags tags files same =
-    sym (length-map (with_tags tags files) plain_file)
+length-with_tags tags files same = sym (length-map (with_tags tags files) plain_file)
     ∙ ap (λ (fs : List PlainFile). length fs) (plain_of tags files same)
 
 -- a file at an index, and its tag

@@ -32,15 +32,14 @@ none_changed test change (first ∷ files) none = grind (arith, nat_tests, none_
 pub one_changed : (test : File → Bool) (change : File → File) (files : List File) (file : File) → OnlyOne test files
     → find test files ≡ Some file → with_each test change files ≡ set files (index_of test files) (change file)
 one_changed test change [] file only found = absurd cc
-one_changed test change (first ∷ files) file only found =
-    grind (
-      arith,
-      nat_tests,
-      one_changed test change files file only.1,
-      none_changed test change files,
-      only.0,
-      one-add (index_of test files),
-    )
+one_changed test change (first ∷ files) file only found = grind (
+  arith,
+  nat_tests,
+  one_changed test change files file only.1,
+  none_changed test change files,
+  only.0,
+  one-add (index_of test files),
+)
 
 -- a change keeps what it keeps of each file
 pub kept : {X : Type 0} (f : File → X) (test : File → Bool) (change : File → File) (files : List File)
@@ -58,12 +57,11 @@ none_gone test (first ∷ files) none = grind (arith, nat_tests, none_gone test 
 pub one_gone : (test : File → Bool) (files : List File) (file : File) → OnlyOne test files → find test files ≡ Some file
     → filter (λ file. not (test file)) files ≡ remove files (index_of test files)
 one_gone test [] file only found = absurd cc
-one_gone test (first ∷ files) file only found =
-    grind (
-      arith,
-      nat_tests,
-      one_gone test files file only.1,
-      none_gone test files,
-      only.0,
-      one-add (index_of test files),
-    )
+one_gone test (first ∷ files) file only found = grind (
+  arith,
+  nat_tests,
+  one_gone test files file only.1,
+  none_gone test files,
+  only.0,
+  one-add (index_of test files),
+)

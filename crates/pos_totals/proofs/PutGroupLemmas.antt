@@ -46,8 +46,8 @@ answer_by given (Err cause) = answer_of cause
 
 -- what a store that is sound leaves, in the totals' words
 pub their_files : {layout : Layout} (state : State) {holdings : Holdings} (disk : DiskState)
-    → IsSound layout state holdings
-    → LeavesItsFiles layout state disk → LeavesTheirFiles holdings.layout (mode_of holdings.handles.given state) disk
+    → IsSound layout state holdings → LeavesItsFiles layout state disk
+    → LeavesTheirFiles holdings.layout (mode_of holdings.handles.given state) disk
 their_files StoreOff disk sound leaves = tt
 their_files (StoreReady files sequence) {holdings} disk sound leaves =
     rw (plain_of holdings.handles.given files sound.handles.count, ← sound.found) leaves
@@ -72,8 +72,7 @@ is_found : {D : Type 0} (disk : D) {layout : Layout} (state : State) (tail : ℕ
     → IsSound layout state holdings → IsReady (mode_of holdings.handles.given state)
     → IsFound holdings (record { disk = disk; layout = layout; state = state; tail = tail })
 is_found disk StoreOff tail sound ready = absurd ready
-is_found disk (StoreReady files sequence) tail sound ready =
-    rw sound.found (FoundFile disk files sequence tail)
+is_found disk (StoreReady files sequence) tail sound ready = rw sound.found (FoundFile disk files sequence tail)
 
 -- a disk that no call has touched
 pub keeps : {D : Type 0} (bound : Ghosts D) (disk : D) → KeepsDisk bound disk disk
@@ -81,8 +80,7 @@ keeps bound disk = record { size = refl; honest = (λ h. h, λ h. h); later = λ
 
 -- a group for which it isn't touched
 passes_here : {disk : DiskState} (layout : Layout) (next : ℕ) (mode : Mode) (changes : List Change)
-    (left : List Standing)
-    → ((c : List ℕ) → disk.left_since disk.moment c → MayLeave disk c)
+    (left : List Standing) → ((c : List ℕ) → disk.left_since disk.moment c → MayLeave disk c)
     → WhenOff mode (LeavesOneOf left disk) → LeavesTheirFiles layout mode disk
     → Passes disk disk (settled layout mode left) (settled layout mode (in_doubt layout next left changes mode))
 passes_here {disk} layout next Off changes left only leaves their = stays disk left only leaves
@@ -134,8 +132,8 @@ module _ {D : Type 0} {bound : Ghosts D} {store : StoreView D} {holdings : Holdi
     unchanged = λ refused. inr (ap (λ (ts : List (Option (List Change))). view_of store
         (record holdings { transactions = ts })) (same refused));
     crash = λ h left leaves. passes_here holdings.layout holdings.handles.next
-        (mode_of holdings.handles.given store.state) changes left (λ c. begins.only c h) leaves
-        (their_files store.state (bound.state store.disk) begins.sound (begins.leaves h));
+        (mode_of holdings.handles.given store.state) changes left
+        (λ c. begins.only c h) leaves (their_files store.state (bound.state store.disk) begins.sound (begins.leaves h));
     counts = λ h. inr refl;
     kept = keeps bound store.disk;
   }
@@ -155,8 +153,8 @@ follows layout tail changes sequence left = grind (arith, nat_tests, left)
 
 -- files with one of these sequences
 stands_among : {layout : Layout} {files : List PlainFile} {sequence : ℕ} (sequences : List ℕ)
-    → IsAmong sequence sequences → {bytes : List ℕ}
-    → StandsFor (Stands layout files sequence) bytes → StandsForOneOf (map (λ n. Stands layout files n) sequences) bytes
+    → IsAmong sequence sequences → {bytes : List ℕ} → StandsFor (Stands layout files sequence) bytes
+    → StandsForOneOf (map (λ n. Stands layout files n) sequences) bytes
 stands_among [] among stands = absurd among
 stands_among {layout} {files} (first ∷ others) among {bytes} stands =
     ⊎_elim (λ same. inl (subst (λ (n : ℕ). StandsFor (Stands layout files n) bytes) same stands))
@@ -175,31 +173,29 @@ group_applies (StoreReady files sequence) tail {holdings} changes sound group =
 -- What a call is that puts a group on the disk of a store that is ready: its table answers it by what becomes of the
 -- group, and the files after the group are sound with the holdings that it has then.
 pub record Puts {D : Type 0} (bound : Ghosts D) (disk : D) (files : List PlainFile) (sequence tail : ℕ)
-    (holdings later : Holdings) (change : Change)
-    (changes : List Change) (given : Value) (A : Type 0 → Result Answer NoMemory → Totals → Type 0) : Type 1 where
+    (holdings later : Holdings) (change : Change) (changes : List Change) (given : Value)
+    (A : Type 0 → Result Answer NoMemory → Totals → Type 0) : Type 1 where
   pub begins : Begins bound (ready_store disk files sequence tail holdings) holdings
   pub group : IsOneGroup (totals_at (StoreReady files sequence) tail holdings) (change ∷ changes)
   pub wants : (F : Type 0) → A F (Err (record {})) (totals_at (StoreReady files sequence) tail holdings)
   pub does : (F : Type 0) (result : Answer) (totals : Totals)
       → RunsOut (totals_at (StoreReady files sequence) tail holdings) (change ∷ changes) result totals
       ⊎ Done F (totals_at (StoreReady files sequence) tail (record holdings { transactions = later.transactions }))
-      (change ∷ changes) given result totals
-      → A F (Ok result) totals
+      (change ∷ changes) given result totals → A F (Ok result) totals
   pub ended : without_transactions later.transactions ≡ without_transactions holdings.transactions
-  pub after : let sequence_then =
-      sequence_after holdings.layout tail
+  pub after : let sequence_then = sequence_after holdings.layout tail
       (group_of (with_tags holdings.handles.given files) (change ∷ changes)) sequence in
-      let tail_then = tail_after holdings.layout tail
-      (group_of (with_tags holdings.handles.given files) (change ∷ changes)) in
+      let tail_then =
+      tail_after holdings.layout tail (group_of (with_tags holdings.handles.given files) (change ∷ changes)) in
       let files_then =
       plain (files_after_all holdings.handles.next (with_tags holdings.handles.given files) (change ∷ changes)) in
       (totals_at (StoreReady files_then sequence_then) tail_then later ≡ after_changes
       (totals_at (StoreReady files sequence) tail (record holdings { transactions = later.transactions }))
       (change ∷ changes) sequence_then) × IsSound holdings.layout (StoreReady files_then sequence_then) later
 
-module _ {D : Type 0} {bound : Ghosts D} {disk : D} {files : List PlainFile} {sequence tail : ℕ} {holdings
-    later : Holdings} {change : Change}
-    {changes : List Change} {given : Value} {A : Type 0 → Result Answer NoMemory → Totals → Type 0}
+module _ {D : Type 0} {bound : Ghosts D} {disk : D} {files : List PlainFile} {sequence tail : ℕ}
+    {holdings later : Holdings} {change : Change} {changes : List Change} {given : Value}
+    {A : Type 0 → Result Answer NoMemory → Totals → Type 0}
     (it : Puts bound disk files sequence tail holdings later change changes given A) where
   abbrev layout : Layout
   layout = holdings.layout
@@ -234,10 +230,9 @@ module _ {D : Type 0} {bound : Ghosts D} {disk : D} {files : List PlainFile} {se
   among : ¬ (IsExhausted layout tail all sequence) → (bytes : List ℕ)
       → StandsForOneOf (store.left_by layout files sequence tail all) bytes
       → StandsForOneOf (before_or_after layout holdings.handles.next (Ready xs sequence) (change ∷ changes)) bytes
-  among left bytes stands = rw plain_is (⊎_elim (λ before. inl before)
-      (λ rest. ⊎_elim (λ behind. inr (stands_among (next_sequences sequence) (follows layout tail all sequence left)
-      behind))
-      (λ none. absurd none) rest) (rw made at stands))
+  among left bytes stands = rw plain_is
+      (⊎_elim (λ before. inl before) (λ rest. ⊎_elim (λ behind. inr (stands_among (next_sequences sequence)
+      (follows layout tail all sequence left) behind)) (λ none. absurd none) rest) (rw made at stands))
 
   -- what a crash leaves around the store's commit, by the files of the totals before it and the store's state after it
   passes : {result : Result (Unit {0}) StoreFault} (new : StoreView D) (state : State)
@@ -263,16 +258,16 @@ module _ {D : Type 0} {bound : Ghosts D} {disk : D} {files : List PlainFile} {se
       let both = it.after in
       let now : A (HasFailed bound disk new.disk) (Ok (answer.Done given))
       (totals_at (StoreReady (plain after) then_sequence) then_tail later)
-      × PutsGroup bound (view_of old holdings) (change ∷ changes) (Ok (answer.Done given))
-      (record { disk = new.disk; totals = totals_at (StoreReady (plain after) then_sequence) then_tail later }) =
-      rw both.0 (
+      × PutsGroup bound (view_of old holdings) (change ∷ changes) (Ok (answer.Done given)) (record {
+        disk = new.disk;
+        totals = totals_at (StoreReady (plain after) then_sequence) then_tail later;
+      }) = rw both.0 (
         it.does _ _ _ (inr (inl (
           refl,
           record {
             sequence = then_sequence;
             follows = follows layout tail all sequence down.0;
-            is =
-                refl;
+            is = refl;
             totals = refl;
           },
         ))),
@@ -286,8 +281,7 @@ module _ {D : Type 0} {bound : Ghosts D} {disk : D} {files : List PlainFile} {se
         },
       ) in
       rw (down.1, down.2, commits.layout) (now.0, now.1, both.1)
-  puts new (Err fault.NoMemory) commits =
-      rw (put_down (Err fault.NoMemory) new commits.answer)
+  puts new (Err fault.NoMemory) commits = rw (put_down (Err fault.NoMemory) new commits.answer)
       (it.wants _, rests it.begins (change ∷ changes) _ it.group, it.begins.sound)
   puts new (Err fault.Exhausted) commits =
       let (refused, is_same) = put_down (Err fault.Exhausted) new commits.answer in
@@ -315,8 +309,7 @@ module _ {D : Type 0} {bound : Ghosts D} {disk : D} {files : List PlainFile} {se
           found = tt;
           handles = tt;
           buffers = none_hold Off holdings.handles.next holdings.transactions;
-          apart =
-              tt;
+          apart = tt;
         },
       )
   puts new (Err other) commits = absurd (put_down (Err other) new commits.answer)

@@ -17,8 +17,7 @@ use Rattle.pos_totals.specs.declared.fault.RecoveryFault.TheVariants as fault
 -- ---- a recovery of totals that are ready
 
 pub ready_recovers : {D : Type 0} {bound : Ghosts D} {disk : D} {layout : Layout} (state : State) (tail : ℕ)
-    {holdings : Holdings}
-    → IsSound layout state holdings → {sequence : ℕ} → mode.Ready sequence ≡ store_mode_of state
+    {holdings : Holdings} → IsSound layout state holdings → {sequence : ℕ} → mode.Ready sequence ≡ store_mode_of state
     → (bound.honest disk → LeavesItsFiles layout state (bound.state disk))
     → let old = view_of (record { disk = disk; layout = layout; state = state; tail = tail }) holdings in
     Recovers bound old (Ok tt) old
@@ -38,8 +37,7 @@ ready_recovers {bound} {disk} (StoreReady files sequence) tail sound ready leave
 
 -- a fault of the store, which is off
 told_finds : (P : Standing → Type 0) (holdings : Holdings) (why : StoreFault) {result : RecoveryFault} (layout : Layout)
-    {state : State}
-    → store.FindsStanding P (Err why) layout state → told_as why ≡ Some result
+    {state : State} → store.FindsStanding P (Err why) layout state → told_as why ≡ Some result
     → (state ≡ StoreOff) × FindsFiles P (totals_at StoreOff 0 holdings) (Err result) (totals_at StoreOff 0 holdings)
 told_finds P holdings why layout finds tells = grind (arith, nat_tests)
 
@@ -60,8 +58,8 @@ off_recovers : {D : Type 0} {bound : Ghosts D} {disk : D} {layout : Layout} {tai
     {result : Result (Unit {0}) StoreFault} {mid : StoreView D} (holdings : Holdings)
     → store.Recovers bound (record { disk = disk; layout = layout; state = StoreOff; tail = tail }) result mid
     → {told : Result (Unit {0}) RecoveryFault} (state : State) (later : Holdings)
-    → ((P : Standing → Type 0) → store.FindsStanding P result mid.layout mid.state → FindsFiles P
-    (totals_at StoreOff 0 holdings) told (totals_at state mid.tail later))
+    → ((P : Standing → Type 0) → store.FindsStanding P result mid.layout mid.state
+    → FindsFiles P (totals_at StoreOff 0 holdings) told (totals_at state mid.tail later))
     → (IsErrOf told fault.Device ↔ IsErrOf result cause.Device)
     → (bound.honest disk → LeavesTheirFiles later.layout (mode_of later.handles.given state) (bound.state mid.disk))
     → Recovers bound (record { disk = disk; totals = totals_at StoreOff 0 holdings }) told
@@ -69,11 +67,10 @@ off_recovers : {D : Type 0} {bound : Ghosts D} {disk : D} {layout : Layout} {tai
 off_recovers holdings recovers state later finds device now = record {
   ready = tt;
   answer = finds _ recovers.answer;
-  one_of = λ h candidates leaves. let one =
-      recovers.one_of h candidates leaves in record {
-        found = finds _ one.found;
-        passes = settles later.layout (stored (mode_of later.handles.given state)) _ _ candidates one.passes (now h);
-      };
+  one_of = λ h candidates leaves. let one = recovers.one_of h candidates leaves in record {
+    found = finds _ one.found;
+    passes = settles later.layout (stored (mode_of later.handles.given state)) _ _ candidates one.passes (now h);
+  };
   reading = recovers.reading;
   now = now;
   device = λ is h. recovers.device h (device.0 is);
@@ -120,28 +117,29 @@ module _ {D : Type 0} {bound : Ghosts D} where
 
   pub store_failed : {old mid : StoreView D} → IsOff old → {holdings : Holdings} → IsSound old.layout old.state holdings
       → {why : StoreFault} {result : RecoveryFault} → store.Recovers bound old (Err why) mid → told_as why ≡ Some result
-      → Recovers bound (view_of old holdings) (Err result) (view_of mid holdings) × IsSound mid.layout mid.state
-      holdings
+      → Recovers bound (view_of old holdings) (Err result) (view_of mid holdings)
+      × IsSound mid.layout mid.state holdings
   store_failed {mid} (WasOff disk layout tail) {holdings} sound {why} did tells =
       let none = (told_finds (store.DiskStandsFor bound disk) holdings why mid.layout did.answer tells).0 in
       let still : IsSound mid.layout mid.state holdings =
       rw none (record { found = tt; handles = tt; buffers = sound.buffers; apart = tt }) in (
         off_recovers holdings did mid.state holdings
-            (λ P finds. rw none (told_finds P holdings why mid.layout finds tells).1)
-            ((λ e. grind (arith, nat_tests)), (λ e. grind (arith, nat_tests)))
-            (λ h. their_files mid.state (bound.state mid.disk) still (did.now h)),
+            (λ P finds. rw none (told_finds P holdings why mid.layout finds tells).1) (
+              (λ e. grind (arith, nat_tests)),
+              (λ e. grind (arith, nat_tests)),
+            ) (λ h. their_files mid.state (bound.state mid.disk) still (did.now h)),
         still,
       )
 
   -- the files that it found got handles
   pub store_found : {old mid : StoreView D} {files : List PlainFile} → IsOff old → Shows files mid
-      → {holdings : Holdings}
-      → IsSound old.layout old.state holdings → {table : HandleTable} → store.Recovers bound old (Ok tt) mid
+      → {holdings : Holdings} → IsSound old.layout old.state holdings → {table : HandleTable}
+      → store.Recovers bound old (Ok tt) mid
       → Numbers holdings.handles.given holdings.handles.next (length files) true table.given table.next
       → Recovers bound (view_of old holdings) (Ok tt) (view_of mid (found_by holdings mid.layout table))
       × IsSound mid.layout mid.state (found_by holdings mid.layout table)
-  store_found {files} (WasOff disk layout tail)
-      (Shown after found sequence end) {holdings} sound did numbers = rw (numbers.1, numbers.2) (
+  store_found {files} (WasOff disk layout tail) (Shown after found sequence end)
+      {holdings} sound did numbers = rw (numbers.1, numbers.2) (
       let next = holdings.handles.next in
       let later = found_by holdings found (found_table next (length files)) in
       let still : IsSound found (StoreReady files sequence) later = record {
@@ -171,11 +169,10 @@ module _ {D : Type 0} {bound : Ghosts D} where
       → store.Recovers bound old (Ok tt) mid
       → Numbers holdings.handles.given holdings.handles.next (length files) false table.given table.next
       → new ≡ record { disk = mid.disk; layout = Layout1; state = StoreOff; tail = 0 }
-      → Recovers bound (view_of old holdings) (Err fault.Handles) (view_of new (with_table holdings table)) × IsSound
-      new.layout new.state (with_table holdings table)
-  store_found_more {files} (WasOff disk layout tail)
-      (Shown after found sequence end) {holdings} sound did numbers turned =
-      rw (turned, numbers.1, numbers.2) (
+      → Recovers bound (view_of old holdings) (Err fault.Handles) (view_of new (with_table holdings table))
+      × IsSound new.layout new.state (with_table holdings table)
+  store_found_more {files} (WasOff disk layout tail) (Shown after found sequence end)
+      {holdings} sound did numbers turned = rw (turned, numbers.1, numbers.2) (
         let many = numbers.0 in
             off_recovers holdings did StoreOff holdings (λ P finds. (
               record {
@@ -183,8 +180,7 @@ module _ {D : Type 0} {bound : Ghosts D} where
                 files = files;
                 sequence = sequence;
                 found = finds;
-                handles =
-                    λ few. omega (arith, few, many);
+                handles = λ few. omega (arith, few, many);
               },
               refl,
             )) ((λ e. absurd cc), (λ e. absurd cc)) (λ h. tt),

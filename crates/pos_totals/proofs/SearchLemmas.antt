@@ -18,8 +18,7 @@ index_by_name tags files name same = absurd (omega (arith, same))
 pub index_by_handle : (tags : List FileTag) (files : List PlainFile) (handle : ℕ) → length tags ≡ length files
     → index_of (is_called (pos handle)) (with_tags tags files) ≡ position_or_len (λ tag. nat_eq tag.handle handle) tags
 index_by_handle [] [] handle same = refl
-index_by_handle (first ∷ tags) (file ∷ files) handle same =
-    ap (λ n. cond (not (nat_eq first.handle handle)) (1 + n) 0)
+index_by_handle (first ∷ tags) (file ∷ files) handle same = ap (λ n. cond (not (nat_eq first.handle handle)) (1 + n) 0)
     (index_by_handle tags files handle (omega (arith, same)))
 index_by_handle tags files handle same = absurd (omega (arith, same))
 
@@ -50,9 +49,8 @@ called_found handle files (Some f) is =
 -- a tag
 pub shows : {layout : Layout} (state : State) {holdings : Holdings} {directory : DirectoryView}
     → IsSound layout state holdings → Some directory.files ≡ store_files_of state → directory.limits ≡ limits_of layout
-    → IsDirectory directory.limits directory.files
-    → HasDirectory holdings.layout state × IsDirectory (limits_of holdings.layout) directory.files
-    × (length holdings.handles.given ≡ length directory.files)
+    → IsDirectory directory.limits directory.files → HasDirectory holdings.layout state
+    × IsDirectory (limits_of holdings.layout) directory.files × (length holdings.handles.given ≡ length directory.files)
 shows StoreOff sound is limits within = absurd cc
 shows (StoreReady files sequence) {holdings} {directory} sound is limits within =
     let same : directory.files ≡ files = cc in

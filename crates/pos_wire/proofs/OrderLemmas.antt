@@ -39,9 +39,8 @@ opens asked (mechanism.Printer printed) is fits = absurd is
 
 -- a pulse for it
 pulses : (settings : WireSettings) (is_new : Bool) (end : JobEnd) (asked : Order) (old : Mechanism) (bytes : List ℕ)
-    → IsMechanismOf kind.Drawer old
-    → ((width : ℕ) → AllDo is_new width [] (kick_pulse (kick_of settings) ∷ [])
-    (asked_first is_new ++ asked_last end) bytes)
+    → IsMechanismOf kind.Drawer old → ((width : ℕ)
+    → AllDo is_new width [] (kick_pulse (kick_of settings) ∷ []) (asked_first is_new ++ asked_last end) bytes)
     → Sends settings is_new end asked old (mechanism.Drawer true) bytes
 pulses settings is_new end asked (mechanism.Drawer was) bytes is all = all
 pulses settings is_new end asked mechanism.Scanner bytes is all = grind arith
@@ -49,10 +48,9 @@ pulses settings is_new end asked (mechanism.Display shown) bytes is all = grind 
 pulses settings is_new end asked (mechanism.Printer printed) bytes is all = grind arith
 
 pub drawer_sends : {settings : WireSettings} {is_new : Bool} {end : JobEnd} {state : PeripheralState} {asked : Order}
-    {bytes : List ℕ}
-    → IsOn state.plant → IsPlantOf kind.Drawer state.plant → order_fits kind.Drawer asked ≡ true
-    → ((width : ℕ) → AllDo is_new width [] (kick_pulse (kick_of settings) ∷ [])
-    (asked_first is_new ++ asked_last end) bytes)
+    {bytes : List ℕ} → IsOn state.plant → IsPlantOf kind.Drawer state.plant → order_fits kind.Drawer asked ≡ true
+    → ((width : ℕ)
+    → AllDo is_new width [] (kick_pulse (kick_of settings) ∷ []) (asked_first is_new ++ asked_last end) bytes)
     → SendsOrder settings is_new end state asked bytes
 drawer_sends {settings} {is_new} {end} {state} {asked} {bytes} is_on is fits all =
     let there = opens asked state.plant.mechanism is fits in
@@ -63,8 +61,7 @@ drawer_sends {settings} {is_new} {end} {state} {asked} {bytes} is_on is fits all
     }
 
 -- a printer that gives a pulse alone
-pub kicks_alone : (width : ℕ) (kick : DrawerKick) (sent : List ℕ)
-    → ((press : Press) → press.begun ≡ []
+pub kicks_alone : (width : ℕ) (kick : DrawerKick) (sent : List ℕ) → ((press : Press) → press.begun ≡ []
     → press_after width press sent ≡ record press { pulses = press.pulses ++ kick_pulse kick ∷ [] })
     → AllDo false width [] (kick_pulse kick ∷ []) [] sent
 kicks_alone width kick sent h press ready =
@@ -89,10 +86,8 @@ prints_alone width sent h press ready =
     }
 
 pub printer_sends : {settings : WireSettings} {is_new : Bool} {end : JobEnd} {state : PeripheralState} {asked : Order}
-    {roll : Printer} {bytes : List ℕ}
-    → Adds state.plant asked roll
-    → AllDo is_new settings.width (all_on_paper (cut_of settings) roll.items) []
-    (asked_first is_new ++ asked_last end) bytes
+    {roll : Printer} {bytes : List ℕ} → Adds state.plant asked roll → AllDo is_new settings.width
+    (all_on_paper (cut_of settings) roll.items) [] (asked_first is_new ++ asked_last end) bytes
     → SendsOrder settings is_new end state asked bytes
 printer_sends {settings} {is_new} {end} {state} {asked} {roll} {bytes} adds all =
     let printer = adds.printer in
@@ -110,9 +105,9 @@ lit_is : {plant : Plant} {shown : Display} → IsOn plant → plant.mechanism �
 lit_is is_on is = grind arith
 
 pub display_sends : {settings : WireSettings} {is_new : Bool} (end : JobEnd) {state : PeripheralState} {asked : Order}
-    {old : Display} (new : Display) {bytes : List ℕ}
-    → IsOn state.plant → state.plant.mechanism ≡ mechanism.Display old → Performs asked (lit old) reply.Done (lit new)
-    → AllShow settings is_new old new bytes → SendsOrder settings is_new end state asked bytes
+    {old : Display} (new : Display) {bytes : List ℕ} → IsOn state.plant → state.plant.mechanism ≡ mechanism.Display old
+    → Performs asked (lit old) reply.Done (lit new) → AllShow settings is_new old new bytes
+    → SendsOrder settings is_new end state asked bytes
 display_sends {settings} {is_new} end {asked} new {bytes} is_on is done shows = record {
   new = lit new;
   done = subst (λ (plant : Plant). Performs asked plant reply.Done (lit new)) (sym (lit_is is_on is)) done;
@@ -123,8 +118,8 @@ display_sends {settings} {is_new} end {asked} new {bytes} is_on is done shows = 
 
 -- a printer that adds nothing carries nothing out
 printer_stays : (chars near : ℕ) {plant : Plant} (asked : Order) (old : Mechanism) → plant.mechanism ≡ old
-    → IsMechanismOf (kind.Printer chars near) old
-    → PrintsNothing plant asked → (new : Plant) → Performs asked plant reply.Done new → ⊥
+    → IsMechanismOf (kind.Printer chars near) old → PrintsNothing plant asked → (new : Plant)
+    → Performs asked plant reply.Done new → ⊥
 printer_stays chars near asked (mechanism.Printer printed) is kind_is nothing = nothing printed is
 printer_stays chars near asked (mechanism.Drawer was) is kind_is nothing = absurd kind_is
 printer_stays chars near asked mechanism.Scanner is kind_is nothing = absurd kind_is
@@ -154,9 +149,8 @@ adds_misfit chars near is_new state {asked} {roll} is adds misfit =
     let by_items : all_fit chars (printed_by printer.chars printer.buffer (pieces_ordered asked)).items ≡ false =
     subst (λ (items : List Item). all_fit chars items ≡ false) adds.items misfit in
     let by_chars : all_fit printer.chars (printed_by printer.chars printer.buffer (pieces_ordered asked)).items
-    ≡ false =
-    subst (λ (k : ℕ). all_fit k (printed_by printer.chars printer.buffer (pieces_ordered asked)).items ≡ false)
-    (sym same) by_items in
+    ≡ false = subst (λ (k : ℕ). all_fit k (printed_by printer.chars printer.buffer (pieces_ordered asked)).items
+    ≡ false) (sym same) by_items in
     inr (
       record state.plant { mechanism = left },
       adds.done,

@@ -32,10 +32,9 @@ Pieces = (reader : Reader) (first next : List ℕ) → reading_of reader (first 
 -- what comes of a byte behind what has begun: a reply, with none begun behind it; or all is none; or the byte begins a
 -- reply, and what had begun is none; or it goes on what has begun
 abbrev Comes : List ℕ → Reader → ℕ → Step → Type 0
-Comes begun reader b step =
-    ((step.received.reply ≡ None → ⊥) × (step.reader.begun ≡ [])) ⊎ ((step ≡ skips_all begun reader)
-    ⊎ (((step ≡ reads_none (length begun) (b ∷ []) reader) × (byte_received (idle reader) b ≡ reads_none 0 (b ∷ [])
-    reader)) ⊎ (step ≡ reads_none 0 (begun ++ b ∷ []) reader)))
+Comes begun reader b step = ((step.received.reply ≡ None → ⊥) × (step.reader.begun ≡ []))
+    ⊎ ((step ≡ skips_all begun reader) ⊎ (((step ≡ reads_none (length begun) (b ∷ []) reader)
+    × (byte_received (idle reader) b ≡ reads_none 0 (b ∷ []) reader)) ⊎ (step ≡ reads_none 0 (begun ++ b ∷ []) reader)))
 
 -- the bytes of a step are counted
 abbrev pub Counts : List ℕ → Step → Type 0
@@ -53,8 +52,7 @@ lone_comes : (asked : Option OrderStatus) (b : ℕ) (reader : Reader) → Comes 
 lone_comes None b reader = inr (inl refl)
 lone_comes (Some status) b reader = ⊎_elim (λ (plain : is_plain b ≡ true).
     let is : lone_received (Some status) b reader ≡ reads_reply 0 (reply.InOrder status (order_status status b))
-    (record reader { asked_in_order = None }) =
-    rw plain refl in
+    (record reader { asked_in_order = None }) = rw plain refl in
     subst (λ (step : Step). Comes [] reader b step) (sym is) (inl ((λ none. some_reply none), refl)))
     (λ (other : is_plain b ≡ false).
     let is : lone_received (Some status) b reader ≡ skips_all [] reader = rw other refl in
@@ -170,8 +168,7 @@ at_start (asked.InOrder status) bytes = record { read = refl; same = refl; again
 -- one byte more
 read_more : Pieces → {start reader next : Reader} {bytes : List ℕ} {place none : ℕ} (b : ℕ) {received : Received}
     → At start reader bytes place none → take (place + 1) bytes ≡ take place bytes ++ b ∷ []
-    → step_of received next ≡ byte_received reader b
-    → reading_of start (take (place + 1) bytes)
+    → step_of received next ≡ byte_received reader b → reading_of start (take (place + 1) bytes)
     ≡ record { replies = replies_before received.reply []; skipped = none + received.skipped; reader = next }
 read_more pieces {start} {reader} {next} {bytes} {place} {none} b {received} at more is =
     let count : received.skipped + 0 ≡ received.skipped = omega arith in
@@ -202,40 +199,37 @@ goes_past pieces {reader} {next} {bytes} {place} {none} {b} {received} at within
           record { replies = replies_before r []; skipped = none + received.skipped; reader = next }) told;
       same = at.same ∙ sym after.same;
       again = after.again;
-      rest = ap (drop (none + received.skipped)) more ∙ sym (drop-drop received.skipped none (prefix ++ b ∷ [])) ∙ ap
-          (drop received.skipped) (drop-append-le none prefix (b ∷ []) (omega (arith, at.count))) ∙ ap
-          (λ (xs : List ℕ). drop received.skipped (xs ++ b ∷ [])) at.rest ∙ after.rest;
+      rest = ap (drop (none + received.skipped)) more ∙ sym (drop-drop received.skipped none (prefix ++ b ∷ []))
+          ∙ ap (drop received.skipped) (drop-append-le none prefix (b ∷ []) (omega (arith, at.count)))
+          ∙ ap (λ (xs : List ℕ). drop received.skipped (xs ++ b ∷ [])) at.rest ∙ after.rest;
       count = omega (arith, at.count, count, zero);
     }
 
 -- none has begun behind a reply
 none_begun : (begun : List ℕ) (reader : Reader) {b : ℕ} {step : Step} {told : PrinterReply}
     → step.received.reply ≡ Some told → Comes begun reader b step → step.reader.begun ≡ []
-none_begun begun reader {b} {step} is = ⊎_elim
-    (λ (ends : (step.received.reply ≡ None → ⊥) × (step.reader.begun ≡ [])). ends.1)
-    (⊎_elim (λ (e : step ≡ skips_all begun reader). absurd (some_reply (sym is ∙ ap (λ (s : Step). s.received.reply)
-    e))) (⊎_elim (λ (e : (step ≡ reads_none (length begun) (b ∷ []) reader)
-    × (byte_received (idle reader) b ≡ reads_none 0 (b ∷ []) reader)). absurd
-    (some_reply (sym is ∙ ap (λ (s : Step). s.received.reply) e.0)))
-    (λ (e : step ≡ reads_none 0 (begun ++ b ∷ []) reader). absurd (some_reply
-    (sym is ∙ ap (λ (s : Step). s.received.reply) e)))))
+none_begun begun reader {b}
+    {step} is = ⊎_elim (λ (ends : (step.received.reply ≡ None → ⊥) × (step.reader.begun ≡ [])). ends.1) (⊎_elim
+    (λ (e : step ≡ skips_all begun reader). absurd (some_reply (sym is ∙ ap (λ (s : Step). s.received.reply) e)))
+    (⊎_elim (λ (e : (step ≡ reads_none (length begun) (b ∷ []) reader) × (byte_received (idle reader) b ≡ reads_none 0
+    (b ∷ []) reader)). absurd (some_reply (sym is ∙ ap (λ (s : Step). s.received.reply) e.0))) (λ (e : step
+    ≡ reads_none 0 (begun ++ b ∷ []) reader). absurd (some_reply (sym is ∙ ap (λ (s : Step). s.received.reply) e)))))
 
 pub one_ends : Pieces → {start reader next : Reader} {bytes : List ℕ} {place none b : ℕ} {received : Received}
-    {told : PrinterReply} {read : ReplyRead}
-    → At start reader bytes place none → place < length bytes → get_or bytes place 0 ≡ b
-    → step_of received next ≡ byte_received reader b
-    → Counts reader.begun (step_of received next) → received.reply ≡ Some told
-    → read.used ≡ place + 1 → read.skipped ≡ none + received.skipped → EndsWith start bytes read told
-one_ends pieces {start} {reader} {next} {bytes} {place} {none} {b} {received} {told} at within here is count ends used
-    skipped =
+    {told : PrinterReply} {read : ReplyRead} → At start reader bytes place none → place < length bytes
+    → get_or bytes place 0 ≡ b → step_of received next ≡ byte_received reader b
+    → Counts reader.begun (step_of received next) → received.reply ≡ Some told → read.used ≡ place + 1
+    → read.skipped ≡ none + received.skipped → EndsWith start bytes read told
+one_ends pieces {start} {reader} {next} {bytes} {place} {none} {b} {received}
+    {told} at within here is count ends used skipped =
     let more : take (place + 1) bytes ≡ take place bytes ++ b ∷ [] = byte_taken bytes within here in
     let counted : Counts reader.begun (byte_received reader b) = subst (λ (s : Step). Counts reader.begun s) is count in
     let comes : Comes reader.begun reader b (step_of received next) =
     subst (λ (s : Step). Comes reader.begun reader b s) (sym is) (byte_comes reader counted) in
     record {
       left = next;
-      one = ap (λ (k : ℕ). reading_of start (take k bytes)) used ∙ read_more pieces b at more is ∙ ap
-          (λ (r : Option PrinterReply). record {
+      one = ap (λ (k : ℕ). reading_of start (take k bytes)) used ∙ read_more pieces b at more is
+          ∙ ap (λ (r : Option PrinterReply). record {
             replies = replies_before r [];
             skipped = none + received.skipped;
             reader = next;

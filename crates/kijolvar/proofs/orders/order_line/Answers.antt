@@ -10,9 +10,9 @@ pub loop-argument-preserved : goal.loop-argument-preserved
 loop-argument-preserved c =
     let rest = λ (line : List ℕ) (left : List (Option Argument)). with_arguments line
     (filter_map (λ (given : Option Argument). given) left) in
-    let step = at_drop_more (rest c.loop-argument.line.items) c.arguments-arguments.result
-    c.loop-argument.argument-index c.argument-item.result
-    (omega (arith, c.type_inv.argument-items, c.loop-argument-test.true)) in
+    let step =
+    at_drop_more (rest c.loop-argument.line.items) c.arguments-arguments.result c.loop-argument.argument-index
+    c.argument-item.result (omega (arith, c.type_inv.argument-items, c.loop-argument-test.true)) in
     elim c.match-argument.branch [
       | in-Some+in_ok-add_argument w ↦ grind (arith, step, c.loop-argument.invariant, c.argument-item.is, w)
       | in_default w ↦ grind (arith, step, c.loop-argument.invariant, c.argument-item.is, w)

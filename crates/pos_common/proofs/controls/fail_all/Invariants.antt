@@ -7,7 +7,7 @@ abbrev pub invariant-loop-control : goal.invariant-loop-control
 invariant-loop-control l =
     let before = controls_of l.fn.controls in
     record {
-      failed : controls_of l.controls ≡ map (if_listening l.place failed) (take l.control-index before)
-          ++ drop l.control-index before;
+      failed : controls_of l.controls
+          ≡ map (if_listening l.place failed) (take l.control-index before) ++ drop l.control-index before;
       room : All (HasRoom l.place fault_events) (drop l.control-index l.controls);
     }

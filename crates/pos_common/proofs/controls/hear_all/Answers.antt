@@ -15,8 +15,8 @@ loop-control-preserved c =
       left = λ count all.
           let so_far = c.loop-control.invariant.left count all in
           let before = first_of_rest (HasRoom place (sign_events + count)) hs _ c.control-item.result lt so_far.1 in (
-            front_after_set (HasRoom place count) hs _ _ lt (room_left place c.args.old c.args.new _
-                c.hear.ensures.heard c.hear.ensures.room before) so_far.0,
+            front_after_set (HasRoom place count) hs _ _ lt
+                (room_left place c.args.old c.args.new _ c.hear.ensures.heard c.hear.ensures.room before) so_far.0,
             rest_after_set (HasRoom place (sign_events + count)) hs _ _ lt so_far.1,
           );
     }

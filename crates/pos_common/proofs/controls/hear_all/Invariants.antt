@@ -10,7 +10,7 @@ invariant-loop-control l =
       heard : controls_of l.controls ≡ map (if_listening l.place (heard_signs l.old l.new))
           (take l.control-index before) ++ drop l.control-index before;
       room : All (HasRoom l.place sign_events) (drop l.control-index l.controls);
-      left : (count : ℕ) → All (HasRoom l.place (sign_events + count)) l.fn.controls →
-          All (HasRoom l.place count) (take l.control-index l.controls)
+      left : (count : ℕ) → All (HasRoom l.place (sign_events + count)) l.fn.controls
+          → All (HasRoom l.place count) (take l.control-index l.controls)
           × All (HasRoom l.place (sign_events + count)) (drop l.control-index l.controls);
     }

@@ -40,6 +40,6 @@ loop-control-preserved c =
 pub returns : goal.returns
 returns c =
     let left = into_iter_items c.loop-control.control-iterator in
-    let none : left ≡ [] = nil_from_length left
-    (omega (arith, c.loop-control.invariant.count, c.in-None.ensures.steps.0)) in
+    let none : left ≡ [] =
+    nil_from_length left (omega (arith, c.loop-control.invariant.count, c.in-None.ensures.steps.0)) in
     λ place scan are. rw none at (c.loop-control.invariant.reads place scan are)

@@ -9,6 +9,6 @@ invariant-loop-control l =
     let left = into_iter_items l.control-iterator in
     record {
       count : into_iter_len l.control-iterator ≡ length left;
-      reads : (place : ℕ) (scan : Scan) → AreCopies scan place l.fn.controls l.fn.copies.items →
-          Reads (all_listening place (read scan) (controls_of l.fn.controls)) left l.controls;
+      reads : (place : ℕ) (scan : Scan) → AreCopies scan place l.fn.controls l.fn.copies.items
+          → Reads (all_listening place (read scan) (controls_of l.fn.controls)) left l.controls;
     }

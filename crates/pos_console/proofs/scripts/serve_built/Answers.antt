@@ -21,6 +21,5 @@ pub returns-in_default-new_disk : goal.returns-in_default-new_disk
 returns-in_default-new_disk g c = served_nothing _ _ (refl, (refl, refl))
 
 pub returns : goal.returns
-returns g c =
-    serves_built in_memory c.in-Ok.profile c.in-Ok-new_disk.disk _ _ _ c.in-Ok.ensures tt c.in-Ok-new_disk.ensures refl
-    c.run_over_profile-outcome.ensures.leaves
+returns g c = serves_built in_memory c.in-Ok.profile c.in-Ok-new_disk.disk _ _ _ c.in-Ok.ensures tt
+    c.in-Ok-new_disk.ensures refl c.run_over_profile-outcome.ensures.leaves

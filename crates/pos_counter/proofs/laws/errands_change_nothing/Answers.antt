@@ -18,5 +18,4 @@ pub returns-clause-after : goal.returns-clause-after
 returns-clause-after g c left steps old mid same = same_after g.D.Disk _ same c.args.counter.now left steps
 
 pub returns-clause-join : goal.returns-clause-join
-returns-clause-join g c left steps more first mid runs =
-    runs_on g.D.Disk _ first mid left steps more runs
+returns-clause-join g c left steps more first mid runs = runs_on g.D.Disk _ first mid left steps more runs

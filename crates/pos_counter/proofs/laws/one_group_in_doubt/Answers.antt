@@ -42,8 +42,7 @@ disabled left failures = with_one one_opened Off 1 left failures
 
 -- a recovery finds these files, which are one of those that are left
 abbrev recovered : List PlainFile → ℕ → ℕ → Machine
-recovered files sequence failures =
-    with_one one_enabled (Ready (numbered 1 files) sequence) (1 + length files)
+recovered files sequence failures = with_one one_enabled (Ready (numbered 1 files) sequence) (1 + length files)
     (Stands Layout1 (plain (numbered 1 files)) sequence ∷ []) failures
 
 recovers : {left : List Standing} (failures : ℕ) (files : List PlainFile) {sequence : ℕ}
@@ -82,12 +81,11 @@ pub returns-clause-doubt : goal.returns-clause-doubt
 returns-clause-doubt c = record { last = in_doubt; run = behind_doubt [] in_doubt refl; is = refl }
 
 pub returns-clause-kept : goal.returns-clause-kept
-returns-clause-kept c =
-    record {
-      last = recovered (a_file ∷ []) 2 1;
-      run = decided (a_file ∷ []) 2 (inr (inr (inl refl))) (omega arith);
-      is = refl;
-    }
+returns-clause-kept c = record {
+  last = recovered (a_file ∷ []) 2 1;
+  run = decided (a_file ∷ []) 2 (inr (inr (inl refl))) (omega arith);
+  is = refl;
+}
 
 pub returns-clause-dropped : goal.returns-clause-dropped
 returns-clause-dropped c = record { last = recovered [] 1 1; run = decided [] 1 (inl refl) (omega arith); is = refl }

@@ -9,8 +9,8 @@ returns-in_default c = λ body. no_body c.args.limits c.args.bytes.now body.0
 pub returns-in_err-files : goal.returns-in_err-files
 returns-in_err-files c =
     let found = c.in-Some.ensures in
-    let takes = directory_takes c.args.limits c.args.bytes.now found.0
-    (λ i. omega (arith, c.type_inv.bytes i)) found.1 in
+    let takes =
+    directory_takes c.args.limits c.args.bytes.now found.0 (λ i. omega (arith, c.type_inv.bytes i)) found.1 in
     let p = err_from_is_err_and c.from_residual.result c.from_residual.ensures.1 in
     rw (p.1, p.2, c.in_err-files.ensures) (found.0, takes.0, takes.1)
 

@@ -13,10 +13,9 @@ returns-in_err-changes c =
     rw (p.1, p.2, c.in_err-changes.ensures) (found.0, takes.0, takes.1)
 
 pub invariant_of-result : goal.invariant_of-result
-invariant_of-result c =
-    (group_takes c.args.bytes.now c.in_ok-changes.changes.items (λ i. omega (arith, c.type_inv.bytes i))
-    (grind arith)).0
+invariant_of-result c = (group_takes c.args.bytes.now c.in_ok-changes.changes.items
+    (λ i. omega (arith, c.type_inv.bytes i)) (grind arith)).0
 
 pub returns : goal.returns
-returns c = group_takes c.args.bytes.now c.in_ok-changes.changes.items (λ i. omega (arith, c.type_inv.bytes i))
-    (grind arith)
+returns c = group_takes c.args.bytes.now c.in_ok-changes.changes.items
+    (λ i. omega (arith, c.type_inv.bytes i)) (grind arith)

@@ -46,8 +46,8 @@ unfolding directory_at
 unreachable-requires c =
     let passes = c.in-Ok.ensures.passed in
     let none : c.in-Ok.rest.now ≡ [] = nil_from_length c.in-Ok.rest.now (grind (arith, nat_tests)) in
-    let takes = directory_takes c.args.limits c.args.bytes.now passes.files (λ i. omega (arith, c.type_inv.bytes i))
-    (grind (arith, nat_tests, passes)) in
+    let takes = directory_takes c.args.limits c.args.bytes.now passes.files
+    (λ i. omega (arith, c.type_inv.bytes i)) (grind (arith, nat_tests, passes)) in
     c.requires (passes.files, takes.0, takes.1)
 
 pub overflow_sub-result-in-Ok : goal.overflow_sub-result-in-Ok

@@ -22,8 +22,8 @@ loop-change-preserved g c =
     let each : AllByRecursion IsChange changes = rw c.deref-change-items.ensures.value c.group.invariant.each in
     let i = c.loop-change.change-index in
     let change = c.change-item.result in
-    let takes : IsChange change = rw c.change-item.is
-    (All-from_recursion IsChange changes each i change c.loop-change-test.true) in
+    let takes : IsChange change =
+    rw c.change-item.is (All-from_recursion IsChange changes each i change c.loop-change-test.true) in
     stage_on c.args.limits c.loop-change.outlines.items changes i change (outcome_of_all c.args.limits c.args.files.now
     c.args.group.now) c.loop-change-test.true c.change-item.is c.loop-change.invariant c.check.new.outlines.items takes
     c.in_ok-check.ensures

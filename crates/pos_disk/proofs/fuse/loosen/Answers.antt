@@ -18,8 +18,7 @@ loop-place-preserved g c =
       honest = search rules;
       loosens = λ h.
           let start = inv.honest.0 h in
-          let fits : from + (k - from) + 1 ≤ length (D.state c.loop-place.disk).reading =
-          omega (
+          let fits : from + (k - from) + 1 ≤ length (D.state c.loop-place.disk).reading = omega (
             arith,
             inv.from,
             inv.size,

@@ -11,9 +11,9 @@ loop-row-preserved c =
     let after = c.split_at-in-loop-row.ensures in
     let more : rows - row ≡ suc (rows - (row + 1)) = omega arith in
     record {
-      written = rw (before.back, after.back) (row_written c.args.protocol columns (row + 1) c.loop-row.old.now
-          c.loop-row.new.now c.loop-row.out.items more (rw (before.front, after.front) at c.in_ok-push_row.ensures)
-          c.loop-row.invariant.written);
+      written = rw (before.back, after.back)
+          (row_written c.args.protocol columns (row + 1) c.loop-row.old.now c.loop-row.new.now c.loop-row.out.items more
+          (rw (before.front, after.front) at c.in_ok-push_row.ensures) c.loop-row.invariant.written);
       old = left_length _ columns more (before.back_len ∙ c.loop-row.invariant.old);
       new = left_length _ columns more (after.back_len ∙ c.loop-row.invariant.new);
     }

@@ -5,6 +5,5 @@ use Rattle.pos_escpos.proofs.printer_bytes.fits.Given as goal
 
 -- all fit if those do that are left
 abbrev pub invariant-loop-mark : goal.invariant-loop-mark
-invariant-loop-mark l =
-    all_fit l.columns (items_from (drop l.mark-index l.marks) l.rest)
+invariant-loop-mark l = all_fit l.columns (items_from (drop l.mark-index l.marks) l.rest)
     ≡ all_fit l.columns (items_from l.marks l.characters)

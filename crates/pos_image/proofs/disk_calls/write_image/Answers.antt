@@ -12,24 +12,22 @@ IsBehind slot old new = IsRun (start slot + 1) (slot_size (layout_of slot) - 1) 
 
 first_run : (g : Over) (c : After-write g) → g.D.Disk.honest c.args.disk.now
     → IsBehind c.args.image.now.slot (g.D.Disk.state c.args.disk.now) (g.D.Disk.state c.write.new.self)
-first_run g c honest =
-    run_write (omega (arith, c.start-at.ensures)) (omega (
-      arith,
-      places c.args.image.now.slot,
-      c.start-at.ensures,
-      ap length c.head_of.ensures.bytes,
-    )) (c.write.ensures.writes honest) (run_start (λ f left. g.met.D.Disk.only_now c.args.disk.now f honest left))
+first_run g c honest = run_write (omega (arith, c.start-at.ensures)) (omega (
+  arith,
+  places c.args.image.now.slot,
+  c.start-at.ensures,
+  ap length c.head_of.ensures.bytes,
+)) (c.write.ensures.writes honest) (run_start (λ f left. g.met.D.Disk.only_now c.args.disk.now f honest left))
 
 second_run : (g : Over) (c : After-write-2 g) → g.D.Disk.honest c.args.disk.now
     → IsBehind c.args.image.now.slot (g.D.Disk.state c.args.disk.now) (g.D.Disk.state c.write.new.self)
     → IsBehind c.args.image.now.slot (g.D.Disk.state c.args.disk.now) (g.D.Disk.state c.write-2.new.self)
-second_run g c honest run =
-    run_write (omega (arith, c.start-at.ensures)) (omega (
-      arith,
-      places c.args.image.now.slot,
-      c.start-at.ensures,
-      c.requires.short,
-    )) (c.write-2.ensures.writes (c.write.ensures.honest.0 honest)) run
+second_run g c honest run = run_write (omega (arith, c.start-at.ensures)) (omega (
+  arith,
+  places c.args.image.now.slot,
+  c.start-at.ensures,
+  c.requires.short,
+)) (c.write-2.ensures.writes (c.write.ensures.honest.0 honest)) run
 
 third_run : (g : Over) (c : After-write-3 g) → g.D.Disk.honest c.args.disk.now
     → IsBehind c.args.image.now.slot (g.D.Disk.state c.args.disk.now) (g.D.Disk.state c.write-2.new.self)

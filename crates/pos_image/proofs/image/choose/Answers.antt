@@ -18,13 +18,13 @@ returns-then-head-longest-clause-damaged c bytes heads _ =
     omega (arith, most, ap (λ s. s.1.length) is) in
     let first = first_of c.args.heads.layout in
     elim c.if-first.branch [
-      | in-true-true v ↦ first_long heads v.in-true-true.is-0 (λ _. omega arith)
-          (over first c.args.heads.first (rw c.first-slot.ensures at v.slot-is))
+      | in-true-true v ↦ first_long heads v.in-true-true.is-0
+          (λ _. omega arith) (over first c.args.heads.first (rw c.first-slot.ensures at v.slot-is))
       | in-true-true-2 v ↦ second_long heads v.in-true-true.is-1 (λ _. omega arith)
           (over (other first) c.args.heads.second (rw (v.other.ensures, c.first-slot.ensures) at v.slot-is))
       | in-true-false v ↦ first_long heads v.in-true-false.is-0 (λ opened. absurd (cc (opened, v.in-true-false.is-1)))
           (over first c.args.heads.first (rw c.first-slot.ensures at v.slot-is))
-      | in-false-true v ↦ second_long heads v.in-false-true.is-1 (λ opened. absurd (cc (opened, v.in-false-true.is-0)))
-          (over (other first) c.args.heads.second
+      | in-false-true v ↦ second_long heads v.in-false-true.is-1
+          (λ opened. absurd (cc (opened, v.in-false-true.is-0))) (over (other first) c.args.heads.second
           (rw (v.other-in-false-true.ensures, c.first-slot.ensures) at v.slot-is))
     ]

@@ -10,8 +10,8 @@ watches : (g : Over) (c : After-read_body g) → g.D.Disk.honest c.args.disk.now
 watches g c honest =
     let honest1 = c.sync.ensures.honest.0 honest in
     let honest2 = c.read_heads.ensures.keeps.honest.0 honest1 in
-    let w1 = watches_sync _ _ (λ f left. g.met.D.Disk.only_now c.args.disk.now f honest left) _
-    (c.sync.ensures.syncs honest) in
+    let w1 =
+    watches_sync _ _ (λ f left. g.met.D.Disk.only_now c.args.disk.now f honest left) _ (c.sync.ensures.syncs honest) in
     watches_on _ _ _ (watches_on _ _ _ w1 (c.read_heads.ensures.watches honest1)) (c.read_body.ensures.watches honest2)
 
 pub returns-in_err-body-clause-watches : goal.returns-in_err-body-clause-watches

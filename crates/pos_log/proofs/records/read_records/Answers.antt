@@ -16,8 +16,8 @@ loop-alloc-preserved c =
     let ok : is_ok c.push.result ≡ true = c.is_err.ensures.negation ∙ ap not c.if-is_err.false in
     let items : c.push.new.self.items ≡ old ++ one ∷ [] =
     c.push.ensures.items ∙ ap (λ (b : Bool). cond b (old ++ one ∷ []) old) ok in
-    let groups : map (λ (v : Vec ℕ Global). v.items) c.push.new.self.items ≡ map (λ (v : Vec ℕ Global). v.items) old
-    ++ one.items ∷ [] =
+    let groups : map (λ (v : Vec ℕ Global). v.items) c.push.new.self.items
+    ≡ map (λ (v : Vec ℕ Global). v.items) old ++ one.items ∷ [] =
     ap (map (λ (v : Vec ℕ Global). v.items)) items ∙ map-append (λ (v : Vec ℕ Global). v.items) old (one ∷ []) in
     let size : c.loop-alloc.at + 5 + c.in-Some.length - (c.loop-alloc.at + 5) ≡ c.in-Some.length = omega arith in
     rw groups (begins_more (map (λ (v : Vec ℕ Global). v.items) old) c.loop-alloc.at c.in-Some.length c.args.span.now

@@ -16,8 +16,7 @@ complete-requires-clause-request g c =
     (c.hear_all.ensures.room 1 c.in_ok-room_all.ensures.room)
 
 pub fail-requires-clause-request : goal.fail-requires-clause-request
-fail-requires-clause-request g c =
-    room_for_first c.args.place c.in-Some.holder _ c.room_all.new.controls
+fail-requires-clause-request g c = room_for_first c.args.place c.in-Some.holder _ c.room_all.new.controls
     (sym c.has_work.ensures.work ∙ c.if-not-has_work.false) c.room_all.ensures.same c.in_ok-room_all.ensures.room
 
 pub returns-in-Done-clause-worked : goal.returns-in-Done-clause-worked

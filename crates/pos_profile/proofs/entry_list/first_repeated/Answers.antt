@@ -7,8 +7,8 @@ returns-then-not-is_new c =
     let entry = c.index-entries-place.result in
     let at = name_at c.args.entries.now c.loop-place.place entry c.as_str.result.now c.loop-place-test.true
     c.index-entries-place.is c.as_str.ensures in
-    let repeated = repeated_at c.as_str.result _ _ _ c.loop-place.invariant.so_far at c.in-Ok.is_new
-    c.in-Ok.ensures.added in
+    let repeated =
+    repeated_at c.as_str.result _ _ _ c.loop-place.invariant.so_far at c.in-Ok.is_new c.in-Ok.ensures.added in
     record { here = grind (arith, repeated); below = c.loop-place.invariant.single }
 
 pub loop-place-preserved : goal.loop-place-preserved
@@ -20,8 +20,8 @@ loop-place-preserved c =
     c.index-entries-place.is c.as_str.ensures in
     let repeated = repeated_at lent _ names place c.loop-place.invariant.so_far at c.in-Ok.is_new c.in-Ok.ensures.added
     in
-    let taken = names_taken lent _ names place c.loop-place.invariant.so_far at c.in-Ok.is_new c.in-Ok.ensures.added
-    c.if-not-is_new.false in
+    let taken = names_taken lent _ names place c.loop-place.invariant.so_far
+    at c.in-Ok.is_new c.in-Ok.ensures.added c.if-not-is_new.false in
     record {
       so_far = grind (arith, taken);
       single = below_more (λ n. is_repeated names n ≡ false) place c.loop-place.invariant.single
@@ -29,8 +29,7 @@ loop-place-preserved c =
     }
 
 pub returns : goal.returns
-returns c =
-    all_single (names_of c.args.entries.now) c.loop-place.place (omega (
-      arith,
-      length-map c.args.entries.now (λ (e : Entry). e.name),
-    )) c.loop-place.invariant.single
+returns c = all_single (names_of c.args.entries.now) c.loop-place.place (omega (
+  arith,
+  length-map c.args.entries.now (λ (e : Entry). e.name),
+)) c.loop-place.invariant.single

@@ -22,14 +22,14 @@ loop-place-preserved c =
     let entry = c.in-Ok-read_value.entry in
     let plain = rw c.deref.ensures.value at (sym c.is_second_totals.ensures ∙ c.if-is_second_totals.false) in
     record {
-      so_far = rw c.push_reserved.ensures.items (taken c.args.role _ _ _ at c.loop-place.invariant.sound entry
-          c.in-Ok-read_value.ensures _ c.loop-place.invariant.so_far);
-      sound = goes_on c.args.role _ _ _ at c.loop-place.invariant.sound entry c.in-Ok-read_value.ensures _
-          c.loop-place.invariant.so_far plain;
+      so_far = rw c.push_reserved.ensures.items (taken c.args.role _ _ _
+          at c.loop-place.invariant.sound entry c.in-Ok-read_value.ensures _ c.loop-place.invariant.so_far);
+      sound = goes_on c.args.role _ _ _
+          at c.loop-place.invariant.sound entry c.in-Ok-read_value.ensures _ c.loop-place.invariant.so_far plain;
       count = omega arith;
       room = omega arith;
     }
 
 pub returns : goal.returns
-returns c = all_read
-    (omega (arith, length-map c.args.values.now view)) c.loop-place.invariant.so_far c.loop-place.invariant.sound
+returns c = all_read (omega (arith, length-map c.args.values.now view)) c.loop-place.invariant.so_far
+    c.loop-place.invariant.sound

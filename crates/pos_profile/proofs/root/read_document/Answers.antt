@@ -12,9 +12,8 @@ returns-in-Err-Flawed-read_list c =
     )
 
 pub returns-in-Ok-read_list-2 : goal.returns-in-Ok-read_list-2
-returns-in-Ok-read_list-2 c =
-    document_read (table_view c.args.root.now) c.in-Ok.ensures c.in-Ok-read_list.devices.items c.in-Ok-read_list.ensures
-    c.in-Ok-read_list-2.ensures
+returns-in-Ok-read_list-2 c = document_read (table_view c.args.root.now) c.in-Ok.ensures c.in-Ok-read_list.devices.items
+    c.in-Ok-read_list.ensures c.in-Ok-read_list-2.ensures
 
 pub returns-in-Err-Flawed-read_list-2 : goal.returns-in-Err-Flawed-read_list-2
 returns-in-Err-Flawed-read_list-2 c =

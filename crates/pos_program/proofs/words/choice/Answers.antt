@@ -19,7 +19,6 @@ returns-in-Ok-try_get_matches_from g c =
     (met words c.in-Ok.ensures parse.matches parse.ensures.matches) c.task_of.ensures)
 
 pub returns-in-Err : goal.returns-in-Err
-returns-in-Err g c =
-    refused (map g.S.AsStr.text c.args.words.now) c.in-Ok.ensures c.in-Err.error c.fault_of_error.result
-    (some_texts g.S.AsStr.text c.args.words.now c.is_empty.ensures c.if-is_empty.false) c.in-Err.ensures.kinds
-    c.fault_of_error.ensures
+returns-in-Err g c = refused (map g.S.AsStr.text c.args.words.now) c.in-Ok.ensures c.in-Err.error
+    c.fault_of_error.result (some_texts g.S.AsStr.text c.args.words.now c.is_empty.ensures c.if-is_empty.false)
+    c.in-Err.ensures.kinds c.fault_of_error.ensures

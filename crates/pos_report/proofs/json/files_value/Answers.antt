@@ -14,9 +14,8 @@ loop-index-preserved c =
     let i = c.loop-index.index in
     let name = c.in-Some-Some.name.now in
     let bytes = c.in-Some-Some.bytes.now in
-    let pushed : map view c.push.new.self.items ≡ map view c.loop-index.files.items ++ view c.in_ok-file_value.field-0
-    ∷ [] =
-    ap (map view) c.in_ok-push.ensures.items
+    let pushed : map view c.push.new.self.items ≡ map view c.loop-index.files.items
+    ++ view c.in_ok-file_value.field-0 ∷ [] = ap (map view) c.in_ok-push.ensures.items
     ∙ map-append view c.loop-index.files.items (c.in_ok-file_value.field-0 ∷ []) in
     pushed ∙ ap (λ d. map view c.loop-index.files.items ++ d ∷ []) c.in_ok-file_value.ensures
     ∙ ap (λ ds. ds ++ file_data name bytes ∷ []) c.loop-index.invariant

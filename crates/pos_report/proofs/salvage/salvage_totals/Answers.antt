@@ -7,8 +7,8 @@ use Rattle.pos_report.proofs.salvage.salvage_totals.Goals as goal
 
 pub loop-turn-preserved : goal.loop-turn-preserved
 loop-turn-preserved c =
-    let steps = subst (λ b. Steps c.loop-turn.copy.items c.loop-turn.lost.items (Ok b) c.step.new.copy.items
-    c.step.new.lost.items) c.in-Ok-false.field-0-test c.in-Ok-false.ensures in
+    let steps = subst (λ b. Steps c.loop-turn.copy.items c.loop-turn.lost.items
+    (Ok b) c.step.new.copy.items c.step.new.lost.items) c.in-Ok-false.field-0-test c.in-Ok-false.ensures in
     goes_on c.args.bytes.now _ _ _ _ c.loop-turn.invariant steps
 
 pub returns-in_default-clause-refused : goal.returns-in_default-clause-refused

@@ -20,15 +20,13 @@ become_twice : {A B C : Type 0} (make : B → C) (first : A → B) (reading : Re
 become_twice make first reading = rw (twice make first reading.value) refl
 
 pub returns-in-Ok-clause-line : goal.returns-in-Ok-clause-line
-returns-in-Ok-clause-line g c =
-    rw (become_twice {C = LineRequest} (λ called. CallOf c.args.name.now called) call.Get
-    (one property_shape (words_of c.args.words.now))) (asks_by_words _ _ _ _ _ _ _ _ _
-    (λ property. CallOf c.args.name.now (call.Get property)) (one property_shape (words_of c.args.words.now))
-    (Ok c.in-Ok.property) c.in-Ok.ensures c.run_called.ensures.line)
+returns-in-Ok-clause-line g c = rw (become_twice {C = LineRequest}
+    (λ called. CallOf c.args.name.now called) call.Get (one property_shape (words_of c.args.words.now)))
+    (asks_by_words _ _ _ _ _ _ _ _ _ (λ property. CallOf c.args.name.now (call.Get property))
+    (one property_shape (words_of c.args.words.now)) (Ok c.in-Ok.property) c.in-Ok.ensures c.run_called.ensures.line)
 
 pub returns-in-Err-clause-line : goal.returns-in-Err-clause-line
-returns-in-Err-clause-line g c =
-    rw (become_twice {C = LineRequest} (λ called. CallOf c.args.name.now called) call.Get
+returns-in-Err-clause-line g c = rw (become_twice {C = LineRequest} (λ called. CallOf c.args.name.now called) call.Get
     (one property_shape (words_of c.args.words.now))) (asks_by_words _ _ _ _ _ _ _ _ _
     (λ property. CallOf c.args.name.now (call.Get property)) (one property_shape (words_of c.args.words.now))
     (Err c.in-Err.fault) c.in-Err.ensures (asks_nothing_unread _ _ _ _ _ _ _ c.in-Err.fault c.print_fault.ensures))

@@ -15,9 +15,8 @@ loop-entry-init g c = record {
 }
 
 pub simulate_mounted-requires : goal.simulate_mounted-requires
-simulate_mounted-requires g c =
-    simulable c.args.profile.now.devices c.is_profile.ensures.devices (rw c.devices-entry-items.ensures at
-    c.loop-entry-test.true) (rw c.devices-entry-items.ensures at c.entry-item.is)
+simulate_mounted-requires g c = simulable c.args.profile.now.devices c.is_profile.ensures.devices
+    (rw c.devices-entry-items.ensures at c.loop-entry-test.true) (rw c.devices-entry-items.ensures at c.entry-item.is)
 
 pub loop-entry-preserved-in_default-made : goal.loop-entry-preserved-in_default-made
 loop-entry-preserved-in_default-made g c =
@@ -27,9 +26,9 @@ loop-entry-preserved-in_default-made g c =
     record {
       sound = c.loop-entry.invariant.sound;
       totals = c.loop-entry.invariant.totals;
-      served = λ part. c.loop-entry.invariant.served part ∙ skips c.args.profile.now.devices c.loop-entry.entry-index
-          entry (rw c.devices-entry-items.ensures at c.loop-entry-test.true)
-          (rw c.devices-entry-items.ensures at c.entry-item.is) part none;
+      served = λ part. c.loop-entry.invariant.served part
+          ∙ skips c.args.profile.now.devices c.loop-entry.entry-index entry (rw c.devices-entry-items.ensures
+          at c.loop-entry-test.true) (rw c.devices-entry-items.ensures at c.entry-item.is) part none;
       mounted = c.loop-entry.invariant.mounted;
     }
 
@@ -51,17 +50,18 @@ loop-entry-preserved g c =
           (rw c.devices-entry-items.ensures at c.loop-entry-test.true)
           (rw c.devices-entry-items.ensures at c.entry-item.is) part (machine g.P.Peripheral c.loop-entry.counter part)
           (machine g.P.Peripheral c.offer.new.counter part) state step.0 some
-          (c.is_profile.ensures.names c.loop-entry.entry-index)
-          (c.loop-entry.invariant.served part) (rw c.as_bytes.ensures at (step.1.step part));
-      mounted = offered_mounted mounts entries c.offer.ensures.puts (mounted_as mounts entries
-          (rw c.devices-entry-items.ensures at c.loop-entry-test.true) (rw c.devices-entry-items.ensures at
-          c.entry-item.is) c.as_bytes.ensures there) c.loop-entry.invariant.mounted;
+          (c.is_profile.ensures.names c.loop-entry.entry-index) (c.loop-entry.invariant.served part)
+          (rw c.as_bytes.ensures at (step.1.step part));
+      mounted = offered_mounted mounts entries c.offer.ensures.puts
+          (mounted_as mounts entries (rw c.devices-entry-items.ensures at c.loop-entry-test.true)
+          (rw c.devices-entry-items.ensures at c.entry-item.is) c.as_bytes.ensures there)
+          c.loop-entry.invariant.mounted;
     }
 
 pub simulate_mounted-requires-in-loop-entry-2 : goal.simulate_mounted-requires-in-loop-entry-2
-simulate_mounted-requires-in-loop-entry-2 g c =
-    simulable c.args.profile.now.spares c.is_profile.ensures.spares (rw c.spares-entry-items.ensures at
-    c.loop-entry-2-test.true) (rw c.spares-entry-items.ensures at c.entry-item-in-loop-entry-2.is)
+simulate_mounted-requires-in-loop-entry-2 g c = simulable c.args.profile.now.spares c.is_profile.ensures.spares
+    (rw c.spares-entry-items.ensures at c.loop-entry-2-test.true)
+    (rw c.spares-entry-items.ensures at c.entry-item-in-loop-entry-2.is)
 
 pub loop-entry-2-preserved : goal.loop-entry-2-preserved
 loop-entry-2-preserved g c =
@@ -77,13 +77,13 @@ loop-entry-2-preserved g c =
         c.push_reserved.ensures.items,
         one_more spares i entry (rw c.spares-entry-items.ensures at c.loop-entry-2-test.true)
             (rw c.spares-entry-items.ensures at c.entry-item-in-loop-entry-2.is),
-      ) (spares_mounted mounts (take i spares) front entry made c.loop-entry-2.invariant.mounted
-          c.in-Ok-simulate_mounted-2.ensures.mounted);
+      ) (spares_mounted mounts
+          (take i spares) front entry made c.loop-entry-2.invariant.mounted c.in-Ok-simulate_mounted-2.ensures.mounted);
       states = rw (c.push_reserved.ensures.items, map-append state front (made ∷ []))
           (spares_more c.args.profile.now.spares c.loop-entry-2.entry-index c.entry-item-in-loop-entry-2.result
-          (rw c.spares-entry-items.ensures at c.loop-entry-2-test.true) (rw c.spares-entry-items.ensures at
-          c.entry-item-in-loop-entry-2.is) (map state front) (state made) c.loop-entry-2.invariant.states
-          c.in-Ok-simulate_mounted-2.ensures.state);
+          (rw c.spares-entry-items.ensures at c.loop-entry-2-test.true)
+          (rw c.spares-entry-items.ensures at c.entry-item-in-loop-entry-2.is) (map state front)
+          (state made) c.loop-entry-2.invariant.states c.in-Ok-simulate_mounted-2.ensures.state);
       count = omega (arith, c.push_reserved.ensures.len, c.loop-entry-2.invariant.count);
       room = omega (arith, c.push_reserved.ensures.capacity, c.loop-entry-2.invariant.room);
     }
@@ -92,8 +92,8 @@ pub new-requires-3 : goal.new-requires-3
 new-requires-3 g c =
     let spares = c.args.profile.now.spares in
     let i = c.loop-entry-2.entry-index in
-    let all : length spares ≤ i = subst (λ xs. length xs ≤ i) c.spares-entry-items.ensures
-    (omega (arith, c.loop-entry-2-test.false)) in
+    let all : length spares ≤ i =
+    subst (λ xs. length xs ≤ i) c.spares-entry-items.ensures (omega (arith, c.loop-entry-2-test.false)) in
     rw (c.loop-entry-2.invariant.states, take_all i spares all) (all_serve spares)
 
 pub returns-clause-made : goal.returns-clause-made

@@ -11,8 +11,8 @@ abbrev pub invariant-loop-entry : goal.invariant-loop-entry
 invariant-loop-entry g l = record {
   sound : IsCounterSound g.P.Peripheral l.counter;
   totals : l.counter.totals ≡ off_over l.fn.disk;
-  served : (part : TotalsPart) → machine g.P.Peripheral l.counter part
-      ≡ begun_partly l.fn.profile.devices l.entry-index part;
+  served : (part : TotalsPart)
+      → machine g.P.Peripheral l.counter part ≡ begun_partly l.fn.profile.devices l.entry-index part;
   mounted : AllByRecursion (HasMounted g.M.Mount.mounts l.fn.profile.devices) (slots_in l.counter.devices);
 }
 

@@ -10,8 +10,8 @@ returns-in_default-clause-script g c = (
   record {
     script = record { input = []; reader = (refl, refl); run = (refl, refl, refl) };
     through = runs_through g.D.Disk g.P.Peripheral
-        (λ disk bytes honest since. g.met.D.Disk.only_now disk bytes honest since)
-        c.args.counter.now c.args.counter.now [] refl;
+        (λ disk bytes honest since. g.met.D.Disk.only_now disk bytes honest since) c.args.counter.now c.args.counter.now
+        [] refl;
   },
 )
 
@@ -22,15 +22,15 @@ returns-clause-script g c =
     let Runs = IsRun g.D.Disk g.P.Peripheral in
     let result = c.run_named.result in
     let session = begun_session (spares_in g.P.Peripheral c.args.spares.now) in
-    let streams = streams_of g.R.Source c.args.reader.now c.run_named.new.reader g.W.Sink c.args.writer.now
-    c.run_named.new.writer in
+    let streams =
+    streams_of g.R.Source c.args.reader.now c.run_named.new.reader g.W.Sink c.args.writer.now c.run_named.new.writer in
     let left = session_with (names_of c.run_named.new.names) (spares_in g.P.Peripheral c.run_named.new.spares) in
     let script : RunsScript Runs old session streams result left new =
     subst (λ names. RunsScript Runs old (session_with names (spares_in g.P.Peripheral c.args.spares.now)) streams result
     left new) c.new-names.ensures c.run_named.ensures.script in
     let run = carried_run Runs (λ counter. refl) (runs_join g.D.Disk g.P.Peripheral) old session
-    (lines_read streams.reader_after.state script.input)
-    streams.writer streams.writer_after result left new script.run in (
+    (lines_read streams.reader_after.state script.input) streams.writer streams.writer_after result left new script.run
+    in (
       names_of c.run_named.new.names,
       record {
         script = script;

@@ -53,8 +53,8 @@ returns-in-Ok-run_end-clause-script g c =
       input = input;
       reader = end;
       run = (
-        rw (end.0, are) (finishes_join (runs_join g.D.Disk g.P.Peripheral)
-            (finishes_flushed done c.in-Ok.ensures.given) rest.0),
+        rw (end.0, are)
+            (finishes_join (runs_join g.D.Disk g.P.Peripheral) (finishes_flushed done c.in-Ok.ensures.given) rest.0),
         rest.1,
       );
     }
@@ -77,14 +77,14 @@ returns-in_default-run_piece-clause-script g c =
     let (keeps, input, took, stands, same, failed, done) = c.loop-reader.invariant in
     let piece = take c.in-Ok-read.count c.read.new.buffer in
     let more = goes_on (reading_of g.R.Source c.args.reader.now) (reading_of g.R.Source c.loop-reader.reader)
-    (reading_of g.R.Source c.read.new.self) input
-    c.read.new.buffer took c.in-Ok-read.count c.if-count-eq0.false c.in-Ok-read.ensures in
+    (reading_of g.R.Source c.read.new.self) input c.read.new.buffer took c.in-Ok-read.count c.if-count-eq0.false
+    c.in-Ok-read.ensures in
     let (lines, are, stops, none) = c.in_default-run_piece.ensures.piece input stands in
     record {
       input = input ++ piece;
       reader = (inl more.1, λ broken. absurd (grind (arith, more.0, broken)));
-      run = inl (rw (more.0, are) (stops_join (runs_join g.D.Disk g.P.Peripheral)
-          (finishes_flushed done c.in-Ok.ensures.given) stops));
+      run = inl (rw (more.0, are)
+          (stops_join (runs_join g.D.Disk g.P.Peripheral) (finishes_flushed done c.in-Ok.ensures.given) stops));
     }
 
 pub loop-reader-preserved : goal.loop-reader-preserved
@@ -92,8 +92,8 @@ loop-reader-preserved g c =
     let (keeps, input, took, stands, same, failed, done) = c.loop-reader.invariant in
     let piece = take c.in-Ok-read.count c.read.new.buffer in
     let more = goes_on (reading_of g.R.Source c.args.reader.now) (reading_of g.R.Source c.loop-reader.reader)
-    (reading_of g.R.Source c.read.new.self) input
-    c.read.new.buffer took c.in-Ok-read.count c.if-count-eq0.false c.in-Ok-read.ensures in
+    (reading_of g.R.Source c.read.new.self) input c.read.new.buffer took c.in-Ok-read.count c.if-count-eq0.false
+    c.in-Ok-read.ensures in
     let (lines, are, rest, then) = c.in-Ok-run_piece.ensures.piece input stands in (
       keeps_on g.P.Peripheral _ _ _ keeps c.in-Ok-run_piece.ensures.session,
       input ++ piece,

@@ -18,8 +18,9 @@ returns-then-is_out-clause-carried g c = (
 
 pub loop-line-init : goal.loop-line-init
 loop-line-init g c = record {
-  carries = carries_none g.D.Disk g.P.Peripheral c.args.counter.now (session_of g.P.Peripheral c.args.names.now
-      c.args.spares.now) c.args.lines.now.items (g.W.Sink.given c.args.writer.now);
+  carries = carries_none g.D.Disk g.P.Peripheral c.args.counter.now
+      (session_of g.P.Peripheral c.args.names.now c.args.spares.now) c.args.lines.now.items
+      (g.W.Sink.given c.args.writer.now);
   lines = c.requires.lines;
   sound = c.requires.sound;
   spares = c.requires.spares;
@@ -38,14 +39,14 @@ loop-line-preserved-in-Ok-Printed g c =
     let lines = subst (All IsOneLine) split c.loop-line.invariant.lines in
     let (line, is) = lines 0 c.in-Some.line.now (omega arith) in
     let told : c.run_settled.result ≡ Ok held.Printed = grind (arith, c.in-Ok-Printed.is, c.in-Ok-Printed.field-0-is) in
-    let (tells, ready) = leaves_as g.D.Disk g.P.Peripheral g.P.Awaits.course IsReady c.loop-line.counter
-    c.run_settled.new.counter old new line before after told
-    (c.run_settled.ensures.line line (ap lines_of c.as_slice.ensures.value ∙ is)) in
+    let (tells, ready) =
+    leaves_as g.D.Disk g.P.Peripheral g.P.Awaits.course IsReady c.loop-line.counter c.run_settled.new.counter old new
+    line before after told (c.run_settled.ensures.line line (ap lines_of c.as_slice.ensures.value ∙ is)) in
     record {
       carries = carries_line g.D.Disk g.P.Peripheral c.args.counter.now c.loop-line.counter first new
           (g.W.Sink.given c.args.writer.now) after is (subst (λ (xs : List (Vec ℕ Global)). CarriesOn g.D.Disk
-          g.P.Peripheral c.args.counter.now first c.args.lines.now.items xs (g.W.Sink.given c.args.writer.now) before
-          c.loop-line.counter old) split c.loop-line.invariant.carries) tells;
+          g.P.Peripheral c.args.counter.now first c.args.lines.now.items xs
+          (g.W.Sink.given c.args.writer.now) before c.loop-line.counter old) split c.loop-line.invariant.carries) tells;
       lines = All-tail IsOneLine c.in-Some.line.now rest lines;
       sound = c.run_settled.ensures.sound;
       spares = c.run_settled.ensures.spares;
@@ -58,13 +59,13 @@ returns-in-Ok-Waits-clause-carried g c =
     let new = session_of g.P.Peripheral c.run_settled.new.names c.run_settled.new.spares in
     let before = g.W.Sink.given c.loop-line.writer in
     let after = g.W.Sink.given c.run_settled.new.writer in
-    let split = first_of c.loop-line.lines.items
-    (grind (arith, c.in-Some.ensures.variant)) c.in-Some.ensures.lookup refl in
+    let split =
+    first_of c.loop-line.lines.items (grind (arith, c.in-Some.ensures.variant)) c.in-Some.ensures.lookup refl in
     let (line, is) = subst (All IsOneLine) split c.loop-line.invariant.lines 0 c.in-Some.line.now (omega arith) in
     let waits : c.run_settled.result ≡ Ok held.Waits = grind (arith, c.in-Ok-Waits.is, c.in-Ok-Waits.field-0-is) in
-    let (holds, out) = leaves_as g.D.Disk g.P.Peripheral g.P.Awaits.course IsReady c.loop-line.counter
-    c.run_settled.new.counter old new line before after waits
-    (c.run_settled.ensures.line line (ap lines_of c.as_slice.ensures.value ∙ is)) in (
+    let (holds, out) =
+    leaves_as g.D.Disk g.P.Peripheral g.P.Awaits.course IsReady c.loop-line.counter c.run_settled.new.counter old new
+    line before after waits (c.run_settled.ensures.line line (ap lines_of c.as_slice.ensures.value ∙ is)) in (
       carries_held g.D.Disk g.P.Peripheral c.args.counter.now c.loop-line.counter first new
           (g.W.Sink.given c.args.writer.now) after c.loop-line.invariant.carries holds,
       out,
@@ -77,14 +78,14 @@ returns-in-Ok-NoMemory-clause-carried g c =
     let new = session_of g.P.Peripheral c.run_settled.new.names c.run_settled.new.spares in
     let before = g.W.Sink.given c.loop-line.writer in
     let after = g.W.Sink.given c.run_settled.new.writer in
-    let split = first_of c.loop-line.lines.items
-    (grind (arith, c.in-Some.ensures.variant)) c.in-Some.ensures.lookup refl in
+    let split =
+    first_of c.loop-line.lines.items (grind (arith, c.in-Some.ensures.variant)) c.in-Some.ensures.lookup refl in
     let (line, is) = subst (All IsOneLine) split c.loop-line.invariant.lines 0 c.in-Some.line.now (omega arith) in
     let wants : c.run_settled.result ≡ Ok held.NoMemory =
     grind (arith, c.in-Ok-NoMemory.is, c.in-Ok-NoMemory.field-0-is) in
-    let (holds, reported) = leaves_as g.D.Disk g.P.Peripheral g.P.Awaits.course IsReady c.loop-line.counter
-    c.run_settled.new.counter old new line before after wants
-    (c.run_settled.ensures.line line (ap lines_of c.as_slice.ensures.value ∙ is)) in (
+    let (holds, reported) =
+    leaves_as g.D.Disk g.P.Peripheral g.P.Awaits.course IsReady c.loop-line.counter c.run_settled.new.counter old new
+    line before after wants (c.run_settled.ensures.line line (ap lines_of c.as_slice.ensures.value ∙ is)) in (
       carries_held g.D.Disk g.P.Peripheral c.args.counter.now c.loop-line.counter first new
           (g.W.Sink.given c.args.writer.now) after c.loop-line.invariant.carries holds,
       reported,
@@ -100,13 +101,13 @@ returns-in-Err-clause-carried g c =
     let split = first_of c.loop-line.lines.items
     (grind (arith, c.in-Some.ensures.variant)) c.in-Some.ensures.lookup c.pop_front-in-Err.ensures.rest in
     let (line, is) = subst (All IsOneLine) split c.loop-line.invariant.lines 0 c.in-Some.line.now (omega arith) in
-    let (cuts, ready) = leaves_as g.D.Disk g.P.Peripheral g.P.Awaits.course IsReady c.loop-line.counter
-    c.run_settled.new.counter old new line before after c.in-Err.is
-    (c.run_settled.ensures.line line (ap lines_of c.as_slice.ensures.value ∙ is)) in (
+    let (cuts, ready) =
+    leaves_as g.D.Disk g.P.Peripheral g.P.Awaits.course IsReady c.loop-line.counter c.run_settled.new.counter old new
+    line before after c.in-Err.is (c.run_settled.ensures.line line (ap lines_of c.as_slice.ensures.value ∙ is)) in (
       cuts_off g.D.Disk g.P.Peripheral c.args.counter.now c.loop-line.counter first new
           (g.W.Sink.given c.args.writer.now) after is (subst (λ (xs : List (Vec ℕ Global)). CarriesOn g.D.Disk
-          g.P.Peripheral c.args.counter.now first c.args.lines.now.items xs (g.W.Sink.given c.args.writer.now) before
-          c.loop-line.counter old) split c.loop-line.invariant.carries) cuts,
+          g.P.Peripheral c.args.counter.now first c.args.lines.now.items xs
+          (g.W.Sink.given c.args.writer.now) before c.loop-line.counter old) split c.loop-line.invariant.carries) cuts,
       ready,
     )
 

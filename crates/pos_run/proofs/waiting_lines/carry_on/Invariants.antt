@@ -8,9 +8,10 @@ use Rattle.pos_run.proofs.waiting_lines.carry_on.Given as goal
 -- some lines are carried out, and the others are left
 abbrev pub invariant-loop-line : goal.invariant-loop-line
 invariant-loop-line g l = record {
-  carries : CarriesOn g.D.Disk g.P.Peripheral l.initial.counter (session_of g.P.Peripheral l.initial.names
-      l.initial.spares) l.initial.lines.items l.lines.items (g.W.Sink.given l.initial.writer) (g.W.Sink.given l.writer)
-      l.counter (session_of g.P.Peripheral l.names l.spares);
+  carries : CarriesOn g.D.Disk g.P.Peripheral l.initial.counter
+      (session_of g.P.Peripheral l.initial.names l.initial.spares) l.initial.lines.items l.lines.items
+      (g.W.Sink.given l.initial.writer) (g.W.Sink.given l.writer) l.counter
+      (session_of g.P.Peripheral l.names l.spares);
   lines : All IsOneLine l.lines.items;
   sound : IsCounterSound g.P.Peripheral l.counter;
   spares : AreSparesSound g.P.Peripheral l.spares;

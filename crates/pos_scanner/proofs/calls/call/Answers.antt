@@ -6,28 +6,25 @@ use Rattle.pos_scanner.specs.ScannerCalls.{scanner_action}
 use Rattle.pos_scanner.proofs.calls.call.Goals as goal
 
 pub returns-in-Ok-clause-called : goal.returns-in-Ok-clause-called
-returns-in-Ok-clause-called g c =
-    done_call category.Scanner c.args.caller c.args.claims.now c.args.call.now _ _ (λ control. [])
-    (λ control. scanner_action c.args.call.now)
+returns-in-Ok-clause-called g c = done_call category.Scanner c.args.caller c.args.claims.now c.args.call.now _ _
+    (λ control. []) (λ control. scanner_action c.args.call.now)
     (given_at c.args.controls.now c.args.caller c.index-controls-caller.result c.requires.caller) _ _ _ _ _ _
     c.in-Ok.ensures.0 (c.in-Ok.ensures.2 []) c.plan.ensures.action c.plan.ensures.wants c.execute.ensures.done
 
 pub returns-in-Ok-clause-orders : goal.returns-in-Ok-clause-orders
-returns-in-Ok-clause-orders g c =
-    done_orders category.Scanner c.args.caller c.args.claims.now c.args.call.now _ _ (λ control. [])
-    (λ control. scanner_action c.args.call.now)
+returns-in-Ok-clause-orders g c = done_orders category.Scanner c.args.caller c.args.claims.now c.args.call.now _ _
+    (λ control. []) (λ control. scanner_action c.args.call.now)
     (given_at c.args.controls.now c.args.caller c.index-controls-caller.result c.requires.caller) _ _ _ _
     (c.in-Ok.ensures.2 []) c.plan.ensures.action c.execute.ensures.orders
 
 pub returns-in-Err-clause-called : goal.returns-in-Err-clause-called
-returns-in-Err-clause-called g c =
-    refused_call category.Scanner c.args.caller c.args.claims.now c.args.call.now _ _ (λ control. [])
-    (λ control. scanner_action c.args.call.now) (given_at c.args.controls.now c.args.caller
-    c.index-controls-caller.result c.requires.caller) _ _ (c.in-Err.ensures [])
+returns-in-Err-clause-called g c = refused_call category.Scanner c.args.caller c.args.claims.now c.args.call.now _ _
+    (λ control. []) (λ control. scanner_action c.args.call.now)
+    (given_at c.args.controls.now c.args.caller c.index-controls-caller.result c.requires.caller) _ _
+    (c.in-Err.ensures [])
 
 pub returns-in-Err-clause-orders : goal.returns-in-Err-clause-orders
-returns-in-Err-clause-orders g c =
-    refused_orders category.Scanner c.args.caller c.args.claims.now c.args.call.now _ _ (λ control. [])
-    (λ control. scanner_action c.args.call.now)
+returns-in-Err-clause-orders g c = refused_orders category.Scanner c.args.caller c.args.claims.now c.args.call.now _ _
+    (λ control. []) (λ control. scanner_action c.args.call.now)
     (given_at c.args.controls.now c.args.caller c.index-controls-caller.result c.requires.caller) _
     (g.P.Peripheral.state c.args.scanner.now).orders (c.in-Err.ensures [])

@@ -2,8 +2,7 @@ use Rattle.pos_script.proofs.WriteLemmas.{behind_two, failed_between, failed_fro
 use Rattle.pos_script.proofs.glyphs.write_glyphs.Goals as goal
 
 pub returns-in_err-write_characters : goal.returns-in_err-write_characters
-returns-in_err-write_characters g c =
-    failed_front _ _ _ _ c.from_residual.ensures.1 c.in_err-write_characters.ensures
+returns-in_err-write_characters g c = failed_front _ _ _ _ c.from_residual.ensures.1 c.in_err-write_characters.ensures
 
 pub returns-in_err-write_bytes : goal.returns-in_err-write_bytes
 returns-in_err-write_bytes g c = rw (← c.as_bytes.ensures.value) (failed_between _ _ _ _ _

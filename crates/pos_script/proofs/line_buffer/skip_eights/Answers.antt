@@ -13,9 +13,8 @@ loop-place-preserved c =
     let le : n + 8 ≤ length bytes = let h = c.loop-place-test.true in let k = c.loop-place.invariant.0 in
     grind (arith, nat_tests) in
     let size : n + 8 - n ≡ 8 = omega arith in
-    let eight : are_plain (take 8 (drop n bytes)) ≡ true =
-    ap (λ k. are_plain (take k (drop n bytes))) (sym size) ∙ sym c.are_eight_plain.ensures
-    ∙ c.if-are_eight_plain.true in (
+    let eight : are_plain (take 8 (drop n bytes)) ≡ true = ap (λ k. are_plain (take k (drop n bytes))) (sym size)
+    ∙ sym c.are_eight_plain.ensures ∙ c.if-are_eight_plain.true in (
       le,
       ap are_plain (take-add n 8 bytes) ∙ list_all-append is_plain (take n bytes) (take 8 (drop n bytes))
           ∙ ap (λ t. t && are_plain (take 8 (drop n bytes))) c.loop-place.invariant.1 ∙ eight,

@@ -14,8 +14,7 @@ pub returns-in_err-write_parts : goal.returns-in_err-write_parts
 returns-in_err-write_parts g c = failed_front _ _ _ _ c.from_residual.ensures.1 c.in_err-write_parts.ensures
 
 pub returns-in_err-write_hex : goal.returns-in_err-write_hex
-returns-in_err-write_hex g c =
-    rw (some_bytes c.args.bytes.now c.if-is_empty.ensures) (failed_between _ _ _ _ _
+returns-in_err-write_hex g c = rw (some_bytes c.args.bytes.now c.if-is_empty.ensures) (failed_between _ _ _ _ _
     c.from_residual-in_err-write_hex.ensures.1 c.in_ok-write_parts.ensures c.in_err-write_hex.ensures)
 
 pub returns : goal.returns

@@ -5,9 +5,8 @@ pub returns-in_err-write_parts : goal.returns-in_err-write_parts
 returns-in_err-write_parts g c = failed_front _ _ _ _ c.from_residual.ensures.1 c.in_err-write_parts.ensures
 
 pub returns-in_err-write_receipt : goal.returns-in_err-write_receipt
-returns-in_err-write_receipt g c =
-    failed_between _ _ _ _ _ c.from_residual-in_err-write_receipt.ensures.1 c.in_ok-write_parts.ensures
-    c.in_err-write_receipt.ensures
+returns-in_err-write_receipt g c = failed_between _ _ _ _ _ c.from_residual-in_err-write_receipt.ensures.1
+    c.in_ok-write_parts.ensures c.in_err-write_receipt.ensures
 
 pub returns : goal.returns
 returns g c = behind_two _ _ _ _ _ _ c.in_ok-write_parts.ensures c.in_ok-write_receipt.ensures c.write_parts-2.ensures

@@ -22,7 +22,5 @@ digits_decide word even =
     (λ bytes e. list_all-from_AllPass is_hex_digit word (decode_of-ok word bytes e).1)
 
 pub returns-then-word-eq0 : goal.returns-then-word-eq0
-returns-then-word-eq0 c =
-    c.all_hex_digits.ensures ∙ digits_decide c.args.word.now c.if-word-eq0.true
-    ∙ ap (λ hyphen. is_some (cond hyphen (Some []) (value_of (decode_of c.args.word.now))))
-    (sym (sym c.is.ensures ∙ c.if-is.false))
+returns-then-word-eq0 c = c.all_hex_digits.ensures ∙ digits_decide c.args.word.now c.if-word-eq0.true ∙ ap (λ hyphen.
+    is_some (cond hyphen (Some []) (value_of (decode_of c.args.word.now)))) (sym (sym c.is.ensures ∙ c.if-is.false))

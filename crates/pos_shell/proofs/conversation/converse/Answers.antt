@@ -31,8 +31,9 @@ loop-turn-preserved g c =
     let (last, ran, told) = c.exchange-told.ensures.told in
     let new = streams_of g.R.Source c.exchange-told.new.reader g.W.Sink c.exchange-told.new.writer in
     let left = session_of g.P.Peripheral c.exchange-told.new.names c.exchange-told.new.spares in
-    let one = subst (λ (told : Result Next ScriptsFault). PrintsExchange c.args.style.now middle last between new told
-    left) (c.in-Ok-Asked.is ∙ ap (λ (next : Next). Ok next) (rw c.in-Ok-Asked.is at c.in-Ok-Asked.field-0-is)) told in
+    let one =
+    subst (λ (told : Result Next ScriptsFault). PrintsExchange c.args.style.now middle last between new told left)
+    (c.in-Ok-Asked.is ∙ ap (λ (next : Next). Ok next) (rw c.in-Ok-Asked.is at c.in-Ok-Asked.field-0-is)) told in
     let (turn, more) = answers_more turns session middle left first last _ done one in (
       c.exchange-told.ensures.sound,
       c.exchange-told.ensures.spares,
@@ -52,8 +53,9 @@ returns-in-Ok-Ended-clause-told g c =
     let (last, ran, told) = c.exchange-told.ensures.told in
     let new = streams_of g.R.Source c.exchange-told.new.reader g.W.Sink c.exchange-told.new.writer in
     let left = session_of g.P.Peripheral c.exchange-told.new.names c.exchange-told.new.spares in
-    let one = subst (λ (told : Result Next ScriptsFault). PrintsExchange c.args.style.now middle last between new told
-    left) (c.in-Ok-Ended.is ∙ ap (λ (next : Next). Ok next) (rw c.in-Ok-Ended.is at c.in-Ok-Ended.field-0-is)) told in (
+    let one =
+    subst (λ (told : Result Next ScriptsFault). PrintsExchange c.args.style.now middle last between new told left)
+    (c.in-Ok-Ended.is ∙ ap (λ (next : Next). Ok next) (rw c.in-Ok-Ended.is at c.in-Ok-Ended.field-0-is)) told in (
       first ++ last,
       runs_join g.D.Disk g.P.Peripheral _ _ _ _ _ run ran,
       record {

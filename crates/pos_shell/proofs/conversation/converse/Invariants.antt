@@ -10,9 +10,9 @@ use Rattle.pos_shell.proofs.conversation.converse.Given as goal
 
 -- the lines so far were answered
 abbrev pub invariant-loop-turn : goal.invariant-loop-turn
-invariant-loop-turn g l =
-    IsCounterSound g.P.Peripheral l.counter × AreSparesSound g.P.Peripheral l.spares
-    × (steps : List (Request × Response)) × (turns : List Turn) × IsRun g.D.Disk g.P.Peripheral l.initial.counter steps
-    l.counter × (length turns ≡ l._turn) × AnswersLines l.style turns (session_of g.P.Peripheral l.initial.names
-    l.initial.spares) steps (streams_of g.R.Source l.initial.reader g.W.Sink l.initial.writer)
+invariant-loop-turn g l = IsCounterSound g.P.Peripheral l.counter × AreSparesSound g.P.Peripheral l.spares
+    × (steps : List (Request × Response)) × (turns : List Turn)
+    × IsRun g.D.Disk g.P.Peripheral l.initial.counter steps l.counter × (length turns ≡ l._turn)
+    × AnswersLines l.style turns (session_of g.P.Peripheral l.initial.names l.initial.spares) steps
+    (streams_of g.R.Source l.initial.reader g.W.Sink l.initial.writer)
     (streams_of g.R.Source l.reader g.W.Sink l.writer) (session_of g.P.Peripheral l.names l.spares)

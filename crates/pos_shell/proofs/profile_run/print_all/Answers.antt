@@ -16,16 +16,15 @@ returns-in-Some-clause-told g c =
       steps,
       names_of c.print_scripts.new.names,
       run,
-      subst (λ (lines : Lines). PrintsAll c.args.style.now lines (begun_session
-          (spares_in g.P.Peripheral c.args.spares.now)) steps (streams_of g.R.Source c.args.reader.now g.W.Sink
-          c.args.writer.now) (streams_of g.R.Source c.args.reader.now g.W.Sink c.print_scripts.new.writer)
+      subst (λ (lines : Lines). PrintsAll c.args.style.now lines
+          (begun_session (spares_in g.P.Peripheral c.args.spares.now)) steps (streams_of g.R.Source c.args.reader.now
+          g.W.Sink c.args.writer.now) (streams_of g.R.Source c.args.reader.now g.W.Sink c.print_scripts.new.writer)
           c.print_scripts.result (session_of g.P.Peripheral c.print_scripts.new.names c.print_scripts.new.spares))
           (sym (ap lines_in c.in-Some.is)) (inr (subst (λ (names : ControlNames). PrintsLines c.args.style.now
           (Some c.in-Some.scripts.now) (session_with names (spares_in g.P.Peripheral c.args.spares.now)) steps
-          (streams_of g.R.Source c.args.reader.now g.W.Sink c.args.writer.now)
-          (streams_of g.R.Source c.args.reader.now g.W.Sink c.print_scripts.new.writer) c.print_scripts.result
-          (session_of g.P.Peripheral c.print_scripts.new.names c.print_scripts.new.spares)) c.new-names.ensures
-          (refl, told))),
+          (streams_of g.R.Source c.args.reader.now g.W.Sink c.args.writer.now) (streams_of g.R.Source c.args.reader.now
+          g.W.Sink c.print_scripts.new.writer) c.print_scripts.result (session_of g.P.Peripheral
+          c.print_scripts.new.names c.print_scripts.new.spares)) c.new-names.ensures (refl, told))),
     )
 
 pub returns-clause-told : goal.returns-clause-told
@@ -34,13 +33,13 @@ returns-clause-told g c =
       steps,
       names_of c.converse.new.names,
       run,
-      subst (λ (lines : Lines). PrintsAll c.args.style.now lines (begun_session
-          (spares_in g.P.Peripheral c.args.spares.now)) steps (streams_of g.R.Source c.args.reader.now g.W.Sink
-          c.args.writer.now) (streams_of g.R.Source c.converse.new.reader g.W.Sink c.converse.new.writer)
-          c.converse.result (session_of g.P.Peripheral c.converse.new.names c.converse.new.spares))
-          (sym (ap lines_in c.in-None.is)) (inr (subst (λ (names : ControlNames). PrintsLines c.args.style.now None
-          (session_with names (spares_in g.P.Peripheral c.args.spares.now)) steps
+      subst (λ (lines : Lines). PrintsAll c.args.style.now lines
+          (begun_session (spares_in g.P.Peripheral c.args.spares.now)) steps
           (streams_of g.R.Source c.args.reader.now g.W.Sink c.args.writer.now)
+          (streams_of g.R.Source c.converse.new.reader g.W.Sink c.converse.new.writer) c.converse.result
+          (session_of g.P.Peripheral c.converse.new.names c.converse.new.spares)) (sym (ap lines_in c.in-None.is))
+          (inr (subst (λ (names : ControlNames). PrintsLines c.args.style.now None (session_with names (spares_in
+          g.P.Peripheral c.args.spares.now)) steps (streams_of g.R.Source c.args.reader.now g.W.Sink c.args.writer.now)
           (streams_of g.R.Source c.converse.new.reader g.W.Sink c.converse.new.writer) c.converse.result
           (session_of g.P.Peripheral c.converse.new.names c.converse.new.spares)) c.new-names.ensures told)),
     )

@@ -7,9 +7,8 @@ use Rattle.pos_shell.proofs.profile_run.run_lines.Goals as goal
 pub returns-in-Err : goal.returns-in-Err
 returns-in-Err g c = record {
   runs = inl (refl, refl, c.in-Err.ensures.handed_back);
-  moments = λ left honest leaves. leaves_nothing g.D.Disk
-      (λ disk bytes honest since. g.met.D.Disk.only_now disk bytes honest since) _ _ left
-      c.in-Err.ensures.handed_back honest leaves;
+  moments = λ left honest leaves. leaves_nothing g.D.Disk (λ disk bytes honest since. g.met.D.Disk.only_now disk bytes
+      honest since) _ _ left c.in-Err.ensures.handed_back honest leaves;
 }
 
 pub returns : goal.returns
@@ -29,6 +28,6 @@ returns g c =
         through = through;
         disk_left = c.end_counter-disk.ensures.disk;
       });
-      moments = λ left honest leaves.
-          leaves_steps g.D.Disk c.in-Ok.ensures.made steps through c.end_counter-disk.ensures.disk left honest leaves;
+      moments = λ left honest leaves. leaves_steps g.D.Disk c.in-Ok.ensures.made steps through
+          c.end_counter-disk.ensures.disk left honest leaves;
     }

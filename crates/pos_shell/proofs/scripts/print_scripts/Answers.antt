@@ -61,8 +61,8 @@ loop-script-preserved g c =
       first ++ last,
       turns ++ turn ∷ [],
       runs_join g.D.Disk g.P.Peripheral _ _ _ _ _ ran run,
-      subst (λ xs. AreTurns xs (turns ++ turn ∷ [])) (sym (one_taken scripts i script c.loop-script-test.true
-          c.script-item.is)) (are_join (take i scripts) turns script turn (ap (λ (t : List ℕ). (script.name.now, t))
-          c.deref.ensures.value) are),
+      subst (λ xs. AreTurns xs (turns ++ turn ∷ []))
+          (sym (one_taken scripts i script c.loop-script-test.true c.script-item.is)) (are_join (take i scripts) turns
+          script turn (ap (λ (t : List ℕ). (script.name.now, t)) c.deref.ensures.value) are),
       turns_join turns turn last done prints written,
     )

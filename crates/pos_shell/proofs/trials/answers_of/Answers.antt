@@ -2,8 +2,7 @@ use Rattle.pos_shell.proofs.TrialLemmas.{ok_map}
 use Rattle.pos_shell.proofs.trials.answers_of.Goals as goal
 
 pub returns : goal.returns
-returns c =
-    ok_map c.answer_all-answers.result (λ answers told.
+returns c = ok_map c.answer_all-answers.result (λ answers told.
     let (steps, names, run, prints) = told in
     record {
       disk = c.in-Ok.disk;

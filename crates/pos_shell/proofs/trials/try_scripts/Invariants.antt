@@ -6,6 +6,5 @@ use Rattle.pos_shell.proofs.trials.try_scripts.Given as goal
 
 -- the scripts so far were tried
 abbrev pub invariant-loop-name : goal.invariant-loop-name
-invariant-loop-name g l =
-    AreTried g.S.FileSystem l.system in_memory l.profile
+invariant-loop-name g l = AreTried g.S.FileSystem l.system in_memory l.profile
     (map (λ name. string_bytes name) (take l.name-index l.paths)) l.trials.items

@@ -9,7 +9,7 @@ pub returns-in_default : goal.returns-in_default
 returns-in_default c =
     let token = pieces_in c.next_token-token.result.0 in
     let next = pieces c.next_token-token.result.1.now in
-    let two = front_need c.args.chars c.loop-rest.n token next
-    (pieces c.loop-rest.rest.now) c.next_token-token.ensures.pieces in
+    let two =
+    front_need c.args.chars c.loop-rest.n token next (pieces c.loop-rest.rest.now) c.next_token-token.ensures.pieces in
     let more = rises c.args.chars (needs c.args.chars c.loop-rest.n token) next in
     grind (arith, nat_tests, two, more, c.loop-rest.invariant.same, c.in_default.ensures.none, c.in_default.is)

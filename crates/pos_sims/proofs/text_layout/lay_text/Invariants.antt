@@ -3,8 +3,8 @@ use Rattle.pos_sims.proofs.text_layout.lay_text.Given as goal
 
 abbrev pub invariant-loop-done : goal.invariant-loop-done
 invariant-loop-done g l = record {
-  follows : Follows l.style (g.W.Grid.shown l.fn.window).cells (text_from l.style.columns l.fn.start
-      (take l.done l.bytes)) (g.W.Grid.shown l.window).cells l.place;
+  follows : Follows l.style (g.W.Grid.shown l.fn.window).cells
+      (text_from l.style.columns l.fn.start (take l.done l.bytes)) (g.W.Grid.shown l.window).cells l.place;
   size : SameSize (g.W.Grid.shown l.fn.window) (g.W.Grid.shown l.window);
   within : IsWithin l.style (g.W.Grid.shown l.window).cells l.place;
   done : l.done ≤ length l.bytes;

@@ -25,8 +25,7 @@ module _ (g : Over) (c : After-make_draft g) where
         holds = holds;
         group = c.requires.group;
         some = search rules;
-        outcome =
-            rw limits at outcome;
+        outcome = rw limits at outcome;
       }
 
 pub returns-in-Ok : goal.returns-in-Ok

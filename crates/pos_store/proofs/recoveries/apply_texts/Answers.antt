@@ -6,8 +6,8 @@ use Rattle.pos_store.proofs.recoveries.apply_texts.Goals as goal
 pub loop-text-preserved : goal.loop-text-preserved
 loop-text-preserved c =
     let before = c.loop-text.invariant in
-    let rest = front_drop c.args.texts.now c.loop-text.text-index c.text-item.result c.loop-text-test.true
-    c.text-item.is in
+    let rest =
+    front_drop c.args.texts.now c.loop-text.text-index c.text-item.result c.loop-text-test.true c.text-item.is in
     let step = rw (before.limits, c.deref.ensures.value) at c.in-Ok.ensures.ok in
     record {
       limits = c.apply_text.ensures.limits ∙ before.limits;
@@ -20,7 +20,7 @@ loop-text-preserved c =
 
 pub returns-in-Err-clause-damaged : goal.returns-in-Err-clause-damaged
 returns-in-Err-clause-damaged c told last applies =
-    let rest = front_drop c.args.texts.now c.loop-text.text-index c.text-item.result c.loop-text-test.true
-    c.text-item.is in
+    let rest =
+    front_drop c.args.texts.now c.loop-text.text-index c.text-item.result c.loop-text-test.true c.text-item.is in
     let here = rw rest at (c.loop-text.invariant.back last applies) in
     c.in-Err.ensures.damaged told here.0 (rw (c.loop-text.invariant.limits, c.deref.ensures.value) here.1)

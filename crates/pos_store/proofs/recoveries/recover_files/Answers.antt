@@ -33,10 +33,10 @@ returns-in-Err-Malformed-clause-recovers g c =
     let opened = c.in-Ok.ensures in
     rw (c.in-Off.is, c.into_disk.ensures) (refused_recovers _ (λ is. absurd cc) (
       λ h. no_body_stands _ (layout_of c.in-Ok.images.slot) c.in-Ok.images.body c.in-Ok.images.sequence (opened.found h)
-          (λ spelled. malformed_none c.in-Err-Malformed.field-0-is (subst (λ (l : Limits). Decodes l c.body.result.now
-          (Err c.in-Err-Malformed.field-0)) (c.limits_of-limits.ensures ∙ ap limits_of c.layout.ensures)
-          c.in-Err-Malformed.ensures) (subst (IsBody (limits_of (layout_of c.in-Ok.images.slot))) (sym c.body.ensures)
-          spelled)),
+          (λ spelled. malformed_none c.in-Err-Malformed.field-0-is
+          (subst (λ (l : Limits). Decodes l c.body.result.now (Err c.in-Err-Malformed.field-0))
+          (c.limits_of-limits.ensures ∙ ap limits_of c.layout.ensures) c.in-Err-Malformed.ensures)
+          (subst (IsBody (limits_of (layout_of c.in-Ok.images.slot))) (sym c.body.ensures) spelled)),
       refl,
     ) opened.any_moment (λ h. never_failed _ _ _ images.Device (opened.counts h)) opened.keeps)
 
@@ -77,11 +77,10 @@ module _ (g : Over) (c : After-apply_texts g) where
   spelled : c.in-Ok.images.body ≡ spelling c.in-Ok-decode.directory.files
   spelled = sym c.body.ensures ∙ c.in-Ok-decode.ensures.2
 
-  records : g.D.Disk.honest c.in-Off.disk
-      → HoldsRecords (map (λ (t : Vec ℕ Global). t.items) c.in-Ok-open.texts.items)
+  records : g.D.Disk.honest c.in-Off.disk → HoldsRecords (map (λ (t : Vec ℕ Global). t.items) c.in-Ok-open.texts.items)
       (image.log_of (g.D.Disk.state c.in-Off.disk).reading)
-  records h = rw (c.in-Ok.ensures.any_moment h).reading at (c.in-Ok-open.ensures.records
-      (c.in-Ok.ensures.keeps.honest.0 h))
+  records h =
+      rw (c.in-Ok.ensures.any_moment h).reading at (c.in-Ok-open.ensures.records (c.in-Ok.ensures.keeps.honest.0 h))
 
   watches : g.D.Disk.honest c.in-Off.disk
       → Watches (g.D.Disk.state c.in-Off.disk) (g.D.Disk.state c.in-Ok-open.log.images.disk)
@@ -102,9 +101,8 @@ module _ (g : Over) (c : After-apply_texts g) where
   -- the files that the disk holds
   module _ (files : List File) (applies : Applies c.in-Ok-decode.directory.limits c.in-Ok-decode.directory.files
       (map (λ (t : Vec ℕ Global). t.items) c.deref.result.now) files) where
-    found : g.D.Disk.honest c.in-Off.disk
-        → HoldsFiles (layout_of c.in-Ok-open.log.images.slot) files c.in-Ok-open.log.images.sequence
-        (g.D.Disk.state c.in-Off.disk).reading
+    found : g.D.Disk.honest c.in-Off.disk → HoldsFiles (layout_of c.in-Ok-open.log.images.slot) files
+        c.in-Ok-open.log.images.sequence (g.D.Disk.state c.in-Off.disk).reading
     found h = rw c.in-Ok-open.ensures.same record {
       base = c.in-Ok-decode.directory.files;
       texts = map (λ (t : Vec ℕ Global). t.items) c.in-Ok-open.texts.items;
@@ -114,9 +112,8 @@ module _ (g : Over) (c : After-apply_texts g) where
       applies = rw (limits, c.deref.ensures.value) at applies;
     }
 
-    found_now : g.D.Disk.honest c.in-Ok-open.log.images.disk
-        → HoldsFiles (layout_of c.in-Ok-open.log.images.slot) files c.in-Ok-open.log.images.sequence
-        (g.D.Disk.state c.in-Ok-open.log.images.disk).reading
+    found_now : g.D.Disk.honest c.in-Ok-open.log.images.disk → HoldsFiles (layout_of c.in-Ok-open.log.images.slot) files
+        c.in-Ok-open.log.images.sequence (g.D.Disk.state c.in-Ok-open.log.images.disk).reading
     found_now h =
         let was = keeps.honest.1 h in
         rw (watches was).reading (found was)
@@ -137,11 +134,9 @@ returns-in-Ok-apply_texts g c =
         c.apply_texts.ensures.limits ∙ limits g here ∙ ap limits_of (sym (layout_is g here)),
       );
       recovers = rw c.in-Off.is (off_recovers g.D.Disk c.in-Off.disk c.in-Off.layout _ _
-          (found g here files c.in-Ok-apply_texts.ensures.ok)
-          (λ err. absurd cc) (watches g here)
+          (found g here files c.in-Ok-apply_texts.ensures.ok) (λ err. absurd cc) (watches g here)
           (λ h. leaves_files c.in-Ok-open.ensures.ready.images now ((keeps g here).honest.0 h)) (ends g here)
-          (λ h is. absurd cc)
-          (λ h. inr (not_failed g here h)) (keeps g here));
+          (λ h is. absurd cc) (λ h. inr (not_failed g here h)) (keeps g here));
     }
 
 pub returns-in-Err-apply_texts-clause-recovers : goal.returns-in-Err-apply_texts-clause-recovers

@@ -18,8 +18,8 @@ returns-in-Ok-clause-tail c =
 
 pub damage_of-requires-clause-damaged : goal.damage_of-requires-clause-damaged
 damage_of-requires-clause-damaged c some =
-    c.in-Err.ensures.damaged tt c.in-Damaged.is (subst HoldsSome (ap (log_in c.args.bytes.now) c.slot-slot.ensures ∙ sym
-    (log_here c.requires.current) ∙ ap log_of (sym c.requires.bytes)) some)
+    c.in-Err.ensures.damaged tt c.in-Damaged.is (subst HoldsSome (ap (log_in c.args.bytes.now) c.slot-slot.ensures
+    ∙ sym (log_here c.requires.current) ∙ ap log_of (sym c.requires.bytes)) some)
 
 pub returns-in-Damaged-clause-broken : goal.returns-in-Damaged-clause-broken
 returns-in-Damaged-clause-broken c = rw (log_here c.requires.current) (rw c.slot-slot.ensures at c.damage_of.ensures)

@@ -15,6 +15,5 @@ returns-in-Ok-task_of g c =
     )
 
 pub returns-in-Err : goal.returns-in-Err
-returns-in-Err g c =
-    told (app_of c.in-Ok.line) (map g.S.AsStr.text c.args.words.now) c.in-Ok.ensures c.in-Err.error
+returns-in-Err g c = told (app_of c.in-Ok.line) (map g.S.AsStr.text c.args.words.now) c.in-Ok.ensures c.in-Err.error
     c.task_of_error.result c.in-Err.ensures.kinds c.task_of_error.ensures

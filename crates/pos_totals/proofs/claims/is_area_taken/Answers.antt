@@ -5,9 +5,8 @@ use Rattle.pos_totals.proofs.claims.is_area_taken.Goals as goal
 
 -- another control has claimed a file of those that are seen
 foreign_seen : (mode : Mode) (files : Files) (control : ℕ) → IsSeen mode (Some (files_in files))
-    → length files.tags.now ≡ length files.directory.now.files
-    → list_any (λ tag. is_foreign control tag.claim) files.tags.now ≡ list_any (is_foreign_claim control)
-    (files_of mode)
+    → length files.tags.now ≡ length files.directory.now.files → list_any (λ tag. is_foreign control tag.claim)
+    files.tags.now ≡ list_any (is_foreign_claim control) (files_of mode)
 foreign_seen Off files control seen same = absurd seen
 foreign_seen (Ready fs sequence) files control seen same =
     foreign_tags control files.tags.now files.directory.now.files same ∙ ap (list_any (is_foreign_claim control)) seen

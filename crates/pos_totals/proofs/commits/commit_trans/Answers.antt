@@ -32,6 +32,5 @@ returns-in-Ok-Failed g c =
     rw (c.answer_fault.ensures, c.end_at.ensures) (record { sound = both.1; commits = both.0 })
 
 pub returns-in-Err-clause-commits : goal.returns-in-Err-clause-commits
-returns-in-Err-clause-commits g c = rw c.in-Err.ensures.commits.1
-    (finds_none (begins g (goal.at.returns-in-Err-clause-commits g c).After-commit_buffer) c.args.control
-    c.in-Err.ensures.commits.0)
+returns-in-Err-clause-commits g c = rw c.in-Err.ensures.commits.1 (finds_none (begins g
+    (goal.at.returns-in-Err-clause-commits g c).After-commit_buffer) c.args.control c.in-Err.ensures.commits.0)

@@ -11,8 +11,8 @@ pub returns-clause-sends : goal.returns-clause-sends
 returns-clause-sends g c =
     let state = g.P.Peripheral.state c.args.twin.now in
     let is_on : IsOn state.plant = search rules in
-    let alone : (width : ℕ) → AllDo false width []
-    (kick_pulse (kick_of c.args.settings.now) ∷ []) [] c.bytes-pulse.result = λ width.
-    subst (λ (kick : DrawerKick). AllDo false width [] (kick_pulse kick ∷ []) [] c.bytes-pulse.result) c.kick.ensures
-    (kicks_alone width c.kick.result c.bytes-pulse.result (c.bytes-pulse.ensures width)) in
+    let alone : (width : ℕ)
+    → AllDo false width [] (kick_pulse (kick_of c.args.settings.now) ∷ []) [] c.bytes-pulse.result =
+    λ width. subst (λ (kick : DrawerKick). AllDo false width [] (kick_pulse kick ∷ []) [] c.bytes-pulse.result)
+    c.kick.ensures (kicks_alone width c.kick.result c.bytes-pulse.result (c.bytes-pulse.ensures width)) in
     drawer_sends is_on c.requires.plant c.requires.fits (λ width. c.in_ok-framed.ensures width [] _ (alone width))

@@ -5,8 +5,7 @@ use Rattle.pos_wire.proofs.ReplyLemmas.{At, at_start, goes_past, one_ends}
 use Rattle.pos_wire.proofs.replies.read_reply.Goals as goal
 
 pub loop-place-init : goal.loop-place-init
-loop-place-init c =
-    subst (λ (reader : Reader). At (reader_of c.args.asked) reader c.args.bytes.now 0 0)
+loop-place-init c = subst (λ (reader : Reader). At (reader_of c.args.asked) reader c.args.bytes.now 0 0)
     (sym c.reader_for-reader.ensures) (at_start c.args.asked c.args.bytes.now)
 
 pub returns-in-Some-clause-reads : goal.returns-in-Some-clause-reads

@@ -5,6 +5,5 @@ use Rattle.kijolvar.specs.Errands.{IsSync}
 use Rattle.kijolvar.proofs.till_disk.TillDiskDisk.sync.Goals as goal
 
 pub invariant_of-self-2 : goal.invariant_of-self-2
-invariant_of-self-2 c =
-    in_step_on IsSync (λ file. file) synced_so _ _ _ c.self.inside.memory c.sync.new.self c.add_sync.ensures
-    (λ done. ap (λ (m : Memory). m.present.reading) c.sync.ensures.memory) c.self.invariant
+invariant_of-self-2 c = in_step_on IsSync (λ file. file) synced_so _ _ _ c.self.inside.memory c.sync.new.self
+    c.add_sync.ensures (λ done. ap (λ (m : Memory). m.present.reading) c.sync.ensures.memory) c.self.invariant

@@ -14,6 +14,6 @@ invariant_of-self c =
     (λ done. ap (λ (m : Memory). m.present.reading) c.write.ensures.memory) c.self.invariant
 
 pub returns-clause-writes : goal.returns-clause-writes
-returns-clause-writes c = λ honest. rw (← c.self.view_is) (writes_hosted (hosted c.self.inside.memory
-    c.self.inside.errands) (hosted c.write.new.self c.add_write-answer.new.errands) c.write.result c.write.ensures.done
-    c.write.ensures.writes c.add_write-answer.ensures)
+returns-clause-writes c = λ honest. rw (← c.self.view_is) (writes_hosted
+    (hosted c.self.inside.memory c.self.inside.errands) (hosted c.write.new.self c.add_write-answer.new.errands)
+    c.write.result c.write.ensures.done c.write.ensures.writes c.add_write-answer.ensures)

@@ -14,6 +14,5 @@ returns g c =
       step = both.step;
       puts = c.attach.ensures.puts;
       handed_back = c.attach.ensures.handed_back;
-      sound =
-          both.sound;
+      sound = both.sound;
     }

@@ -5,8 +5,7 @@ use Rattle.pos_counter.proofs.ServiceLemmas.{quiet_serves}
 use Rattle.pos_counter.proofs.counter.Counter.call_category.Goals as goal
 
 pub call_totals-requires-clause-totals : goal.call_totals-requires-clause-totals
-call_totals-requires-clause-totals g c =
-    rw (kept_at _ _ _ c.requires.in_range c.index.ensures)
+call_totals-requires-clause-totals g c = rw (kept_at _ _ _ c.requires.in_range c.index.ensures)
     (sym c.in-Some-Totals.ensures ∙ ap Some c.in-Some-Totals.field-0-is)
 
 pub returns-in-None : goal.returns-in-None

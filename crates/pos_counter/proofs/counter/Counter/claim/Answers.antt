@@ -11,11 +11,9 @@ claim-requires g c =
     covered c.args.number (c.requires.sound.machine part) (kept_at _ _ _ c.requires.in_range c.index-control.ensures)
 
 pub returns-in-None : goal.returns-in-None
-returns-in-None g c =
-    stays_serves g.D.Disk g.P.Peripheral c.args.self.now _ _ _
-    (g.met.D.Disk.only_now _) c.requires.sound refl c.requires.sound.devices
-    (λ part. rw (kept_at _ _ _ c.requires.in_range c.index-control.ensures)
-    (decided_some (rw (← c.in-None.ensures)) refl refl))
+returns-in-None g c = stays_serves g.D.Disk g.P.Peripheral c.args.self.now _ _ _
+    (g.met.D.Disk.only_now _) c.requires.sound refl c.requires.sound.devices (λ part.
+    rw (kept_at _ _ _ c.requires.in_range c.index-control.ensures) (decided_some (rw (← c.in-None.ensures)) refl refl))
 
 pub returns-in-Some-Totals : goal.returns-in-Some-Totals
 returns-in-Some-Totals g c =
@@ -41,7 +39,7 @@ returns-in-Some-At g c =
     stays_serves g.D.Disk g.P.Peripheral old _ _ _
     (g.met.D.Disk.only_now _) c.requires.sound refl c.requires.sound.devices
     (λ part.
-    let over = λ (claims : List (Option ℕ)). let o : Machine =
-    record (machine g.P.Peripheral old part) { claims = claims } in o in
+    let over =
+    λ (claims : List (Option ℕ)). let o : Machine = record (machine g.P.Peripheral old part) { claims = claims } in o in
     rw (kept_at _ _ _ c.requires.in_range c.index-control.ensures, opens)
     (decided_weaker (λ done. (done.0, ap over done.1)) (ap over) decided))

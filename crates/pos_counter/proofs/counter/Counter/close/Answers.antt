@@ -26,8 +26,8 @@ returns-in-Some-Totals g c =
     let now = part_with (without_control old.totals.totals c.args.number) left failures in
     rw (kept_at _ _ _ c.requires.in_range c.index_mut-control.ensures.value, opens) (decided_none refl (
       done.0,
-      set_machine old.controls.items old.claims (devices_in g.P.Peripheral old.devices) old.totals_name now
-          c.args.number c.close.new.self done.1,
+      set_machine old.controls.items old.claims
+          (devices_in g.P.Peripheral old.devices) old.totals_name now c.args.number c.close.new.self done.1,
     )))
 
 pub returns-in-Some-At : goal.returns-in-Some-At

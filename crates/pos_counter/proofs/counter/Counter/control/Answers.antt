@@ -18,18 +18,16 @@ returns-in-Ok g c =
     let many : c.len-number.result ≡ length hs = omega (arith, c.len-number.ensures, old.controls.ok.0) in
     let count = many ∙ sym (length-map hs (λ (d : KeptControl). d.control)) in
     let room : c.len-number.result < most_controls = omega arith in
-    let items = c.push_reserved.ensures.items
-    ∙ ap (λ (ks : List KeptControl). ks ++ c.new.result ∷ []) c.reserve.ensures.items in
+    let items =
+    c.push_reserved.ensures.items ∙ ap (λ (ks : List KeptControl). ks ++ c.new.result ∷ []) c.reserve.ensures.items in
     let served = quiet_serves g.D.Disk g.P.Peripheral old _ _ _ (with_place old.totals.totals)
     (g.met.D.Disk.only_now _) c.add_control.ensures.disk c.in-Ok.ensures.ok
-    (λ left. refl) c.requires.sound c.requires.sound.devices
-    (λ left failures so. (
+    (λ left. refl) c.requires.sound c.requires.sound.devices (λ left failures so. (
       subst (λ n. n < most_controls) count room,
       count,
       ap (λ cs. let m : Machine =
           record (machine g.P.Peripheral old (part_with (with_place old.totals.totals) left failures)) {
-            controls =
-                cs;
+            controls = cs;
           } in m) (ap controls_of items ∙ map_push (λ (d : KeptControl). d.control) hs c.new.result ∙ ap
           (λ (one : Control). controls_of hs ++ one ∷ []) c.new.ensures),
     )) in

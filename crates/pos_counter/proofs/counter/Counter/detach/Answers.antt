@@ -12,7 +12,7 @@ returns g c =
     (λ part. detach_step old.controls.items (registered g.P.Peripheral old.devices.registry)
     (registered g.P.Peripheral c.detach.new.self) c.args.name.now old.claims old.totals_name part g.P.Peripheral.state
     c.is_open-is_open.result c.detach.result
-    (λ place is. (rw c.deref.ensures.value at c.is_open-is_open.ensures) place is ∙ sym
-    (any_mapped (has_open place) (λ (kept : KeptControl). kept.control) old.controls.items)) c.detach.ensures.detaches)
+    (λ place is. (rw c.deref.ensures.value at c.is_open-is_open.ensures) place is ∙ sym (any_mapped (has_open place)
+    (λ (kept : KeptControl). kept.control) old.controls.items)) c.detach.ensures.detaches)
     in
     record { step = both.step; parked = first_of (search rules, grind (arith, common_steps)); sound = both.sound }

@@ -12,10 +12,10 @@ returns-in-Ok-new-clause-begins g c =
     let claims = c.in-Ok.ensures.claims ∙ ap (λ n. replicate n None) (sym (count_devices entries)) in
     record {
       machine = λ part. ap (λ (hs : List KeptControl). machine_with hs c.in-Ok.claims devices c.in-Ok.totals_name part)
-          c.new-in-Ok-new.ensures.items ∙ ap (λ (cl : List (Option ℕ)). machine_with [] cl devices c.in-Ok.totals_name
-          part) claims ∙ ap (λ (ds : List Device). machine_with [] none ds c.in-Ok.totals_name part)
-          c.in-Ok-new.ensures.vacant ∙ ap (λ (tn : Option (List ℕ)). machine_with [] none (profile_devices entries) tn
-          part) c.in-Ok.ensures.name;
+          c.new-in-Ok-new.ensures.items
+          ∙ ap (λ (cl : List (Option ℕ)). machine_with [] cl devices c.in-Ok.totals_name part) claims
+          ∙ ap (λ (ds : List Device). machine_with [] none ds c.in-Ok.totals_name part) c.in-Ok-new.ensures.vacant
+          ∙ ap (λ (tn : Option (List ℕ)). machine_with [] none (profile_devices entries) tn part) c.in-Ok.ensures.name;
       totals = c.new-in-Ok-new-2.ensures;
     }
 

@@ -29,8 +29,8 @@ next rest {request} is = ap reverse is ∙ reverse-append rest (request ∷ [])
 pub respond-response-requires-clause-in_service : goal.respond-response-requires-clause-in_service
 respond-response-requires-clause-in_service g c =
     let request = c.in-Some.request in
-    let waiting = subst (All (OffersInService g.P.Peripheral)) (next c.pop.new.self.items c.in-Some.ensures.items)
-    c.loop-request.invariant.1.in_service in
+    let waiting = subst (All (OffersInService g.P.Peripheral))
+    (next c.pop.new.self.items c.in-Some.ensures.items) c.loop-request.invariant.1.in_service in
     waiting 0 request (omega arith)
 
 pub loop-request-preserved : goal.loop-request-preserved
@@ -58,9 +58,8 @@ loop-request-preserved g c =
           before.whole,
         );
         in_service = λ i d lt. waiting (suc i) d (omega arith);
-        handed_out = subst (All (HandsOut g.P.Peripheral)) (sym c.push_reserved.ensures.items)
-            (All-push (HandsOut g.P.Peripheral) responses response before.handed_out
-            c.respond-response.ensures.handed_out);
+        handed_out = subst (All (HandsOut g.P.Peripheral)) (sym c.push_reserved.ensures.items) (All-push
+            (HandsOut g.P.Peripheral) responses response before.handed_out c.respond-response.ensures.handed_out);
         room = omega (arith, before.room);
         sound = c.respond-response.ensures.sound;
       },

@@ -54,8 +54,8 @@ returns-in-Some-At g c =
     let here = c.index_mut-control.ensures.value in
     let opens = sym c.in-Some-At.ensures ∙ ap Some c.in-Some-At.field-0-is in
     let device = c.index_mut-control.result.now.control.device in
-    let frees : (m : Machine) → released device m c.args.number
-    ≡ record m { claims = released_by m.claims (open_place device) c.args.number } =
+    let frees : (m : Machine)
+    → released device m c.args.number ≡ record m { claims = released_by m.claims (open_place device) c.args.number } =
     λ m. freed_at m c.args.number opens in
     stays_serves g.D.Disk g.P.Peripheral old _ _ _ (g.met.D.Disk.only_now _) c.requires.sound refl
     c.requires.sound.devices

@@ -5,16 +5,15 @@ use Rattle.pos_counter.proofs.ServiceLemmas.{quiet_serves}
 use Rattle.pos_counter.proofs.counter.Counter.set.Goals as goal
 
 pub set_recovered-requires-clause-recovers : goal.set_recovered-requires-clause-recovers
-set_recovered-requires-clause-recovers g c =
-    search (
-      rules,
-      kept_at,
-      c.requires.in_range,
-      c.index.ensures,
-      c.is_ready.ensures,
-      c.is_recovering.ensures,
-      c.if-is_recovering.true,
-    )
+set_recovered-requires-clause-recovers g c = search (
+  rules,
+  kept_at,
+  c.requires.in_range,
+  c.index.ensures,
+  c.is_ready.ensures,
+  c.is_recovering.ensures,
+  c.if-is_recovering.true,
+)
 
 pub returns : goal.returns
 returns g c =

@@ -22,9 +22,8 @@ returns-in-Ok g c =
     c.in-Ok.ensures (λ part. set_machine hs _ _ _ part n c.set_control.new.control (rw same at done.1))
 
 pub returns-in-Ok-code : goal.returns-in-Ok-code
-returns-in-Ok-code g c =
-    failed_serves g.D.Disk g.P.Peripheral c.args.self.now _ c.requires.sound c.requires.sound.devices c.args.number _ _
-    (asks_there c.requires.recovers) c.in-Err.fault c.in-Err.ensures
+returns-in-Ok-code g c = failed_serves g.D.Disk g.P.Peripheral c.args.self.now _ c.requires.sound
+    c.requires.sound.devices c.args.number _ _ (asks_there c.requires.recovers) c.in-Err.fault c.in-Err.ensures
     (λ part. refl) c.in-Ok-code.code c.in-Ok-code.ensures
 
 pub returns-in-Err-code : goal.returns-in-Err-code

@@ -11,8 +11,8 @@ loop-place-preserved g c =
     let place = c.loop-place.place in
     let one_more : suc place ≡ place + 1 = omega arith in
     record {
-      hosts = c.settle_at.ensures.hosts ∙ ap (changed_at settled_course place) c.loop-place.invariant.hosts ∙ front_more
-          settled_course place hosts ∙ ap (λ n. changed_front settled_course n hosts) one_more;
+      hosts = c.settle_at.ensures.hosts ∙ ap (changed_at settled_course place) c.loop-place.invariant.hosts
+          ∙ front_more settled_course place hosts ∙ ap (λ n. changed_front settled_course n hosts) one_more;
       stays = record {
         machine = λ part. c.settle_at.ensures.stays.machine part ∙ c.loop-place.invariant.stays.machine part;
         totals = c.settle_at.ensures.stays.totals ∙ c.loop-place.invariant.stays.totals;

@@ -8,8 +8,8 @@ use Rattle.pos_counter.proofs.counter.Counter.settle.Given as goal
 -- the devices before this one are settled
 abbrev pub invariant-loop-place : goal.invariant-loop-place
 invariant-loop-place g l = record {
-  hosts : hosts_in g.P.Awaits.course l.self ≡ changed_front settled_course l.place
-      (hosts_in g.P.Awaits.course l.fn.self);
+  hosts : hosts_in g.P.Awaits.course l.self
+      ≡ changed_front settled_course l.place (hosts_in g.P.Awaits.course l.fn.self);
   stays : Stays g.P.Peripheral l.fn.self l.self;
   sound : IsCounterSound g.P.Peripheral l.self;
 }

@@ -3,8 +3,7 @@ use Rattle.pos_counter.proofs.counter.Counter.snapshot.Goals as goal
 
 pub returns-in-Ok : goal.returns-in-Ok
 returns-in-Ok g c = record {
-  step =
-      λ part. rw (c.in-Some.ensures.0, c.in-Some.ensures.1) (sym c.in-Ok.ensures, refl, refl);
+  step = λ part. rw (c.in-Some.ensures.0, c.in-Some.ensures.1) (sym c.in-Ok.ensures, refl, refl);
   totals = refl;
 }
 

@@ -10,8 +10,8 @@ pub returns-in-Ok-clause-torn : goal.returns-in-Ok-clause-torn
 returns-in-Ok-clause-torn g c =
     let old = c.args.self.now in
     record {
-      machine = λ part. on_hardware _ _ _ _ _ _ part c.in-Some.place _ (λ place. IsTorn) c.in-Some.ensures.0
-          (c.in-Ok.ensures.done old.controls.items);
+      machine = λ part. on_hardware _ _ _ _ _ _ part c.in-Some.place _
+          (λ place. IsTorn) c.in-Some.ensures.0 (c.in-Ok.ensures.done old.controls.items);
       totals = refl;
     }
 

@@ -3,9 +3,8 @@ use Rattle.pos_counter.proofs.HostsLemmas.{named_there, no_course, some_course, 
 use Rattle.pos_counter.proofs.devices.Devices.find_hosted.Goals as goal
 
 pub returns-in_err-place : goal.returns-in_err-place
-returns-in_err-place g c =
-    rw c.from_residual.ensures (unnamed_from g.P.Peripheral g.P.Awaits.course c.args.self.now.registry.slots.items 0
-    c.args.name.now (sym c.find.ensures ∙ c.in_err-place.was))
+returns-in_err-place g c = rw c.from_residual.ensures (unnamed_from g.P.Peripheral g.P.Awaits.course
+    c.args.self.now.registry.slots.items 0 c.args.name.now (sym c.find.ensures ∙ c.in_err-place.was))
 
 pub returns-then-is_served : goal.returns-then-is_served
 returns-then-is_served g c =

@@ -12,8 +12,7 @@ loop-place-preserved g c = none_more (hosts_of g.P.Awaits.course (slots_in c.arg
 pub returns-then-is_pending : goal.returns-then-is_pending
 returns-then-is_pending g c = record {
   pends = sym c.is_pending.ensures ∙ c.if-is_pending.true;
-  none_before =
-      c.loop-place.invariant;
+  none_before = c.loop-place.invariant;
 }
 
 pub returns : goal.returns

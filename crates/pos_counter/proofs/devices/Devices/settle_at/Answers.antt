@@ -6,8 +6,8 @@ use Rattle.pos_counter.specs.KeptDevices.{devices_of}
 use Rattle.pos_counter.proofs.devices.Devices.settle_at.Goals as goal
 
 pub returns-clause-hosts : goal.returns-clause-hosts
-returns-clause-hosts g c = hosts_with g.P.Awaits.course c.args.self.now.registry.slots c.args.place
-    settled_course c.serving-peripheral.ensures.is c.settle_with.ensures.course
+returns-clause-hosts g c = hosts_with g.P.Awaits.course c.args.self.now.registry.slots c.args.place settled_course
+    c.serving-peripheral.ensures.is c.settle_with.ensures.course
 
 pub returns-clause-same : goal.returns-clause-same
 returns-clause-same g c =

@@ -13,7 +13,6 @@ returns-clause-done g c helds =
     (c.serving-peripheral.ensures.devices c.tear_with.new.peripheral) c.tear_with.ensures.torn helds
 
 pub returns-clause-hosts : goal.returns-clause-hosts
-returns-clause-hosts g c =
-    hosts_with g.P.Awaits.course c.args.self.now.registry.slots c.args.place (λ one. one)
-    c.serving-peripheral.ensures.is c.tear_with.ensures.course
+returns-clause-hosts g c = hosts_with g.P.Awaits.course c.args.self.now.registry.slots c.args.place
+    (λ one. one) c.serving-peripheral.ensures.is c.tear_with.ensures.course
     ∙ same_at (hosts_of g.P.Awaits.course c.args.self.now.registry.slots.items) c.args.place

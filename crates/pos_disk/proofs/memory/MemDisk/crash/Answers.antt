@@ -14,8 +14,8 @@ shown c =
     memory_of d.bytes.items d.saved.items d.stamps.items d.stamp d.past.moments
 
 -- the loose places, one for each byte
-loose_long : (c : After-new) → length (loose_by c.self.inside.stamp c.self.inside.stamps.items)
-    ≡ length c.self.inside.bytes.items
+loose_long : (c : After-new)
+    → length (loose_by c.self.inside.stamp c.self.inside.stamps.items) ≡ length c.self.inside.bytes.items
 loose_long c = length-map c.self.inside.stamps.items (λ s. s == c.self.inside.stamp) ∙ c.self.invariant.stamps_length
 
 record IsAnswered (c : After-new) : Type 0 where
@@ -23,9 +23,8 @@ record IsAnswered (c : After-new) : Type 0 where
   left : LeftAt (shown c).present c.save.new.saved.items
 
 answered : (c : After-new) (fill : Fill) (xs : List ℕ) → c.args.fill ≡ fill → c.match-fill.bytes.items ≡ xs
-    → length xs ≡ length c.self.inside.bytes.items
-    → choose (loose_by c.self.inside.stamp c.self.inside.stamps.items) xs c.self.inside.bytes.items ≡ filled fill
-    (shown c) → IsAnswered c
+    → length xs ≡ length c.self.inside.bytes.items → choose (loose_by c.self.inside.stamp c.self.inside.stamps.items) xs
+    c.self.inside.bytes.items ≡ filled fill (shown c) → IsAnswered c
 answered c fill xs is starts long holds =
     grind (arith, common_steps, length, saved_all, filled, choose_left, loose_long)
 

@@ -15,8 +15,8 @@ module _ (c : After-next_stamp-self-inside) where
       c.next_stamp-self-inside.result c.and-self-inside.result.moments ≡ synced shown
   becomes =
       let d = c.self.inside in
-      let is = memory_fresh d.saved.items c.next_stamp-self-inside.new.stamps.items
-      c.and-self-inside.result.moments c.self.invariant.saved_length
+      let is = memory_fresh d.saved.items c.next_stamp-self-inside.new.stamps.items c.and-self-inside.result.moments
+      c.self.invariant.saved_length
       (c.next_stamp-self-inside.ensures.length ∙ c.self.invariant.stamps_length) c.next_stamp-self-inside.ensures.later
       in
       grind (arith, is)

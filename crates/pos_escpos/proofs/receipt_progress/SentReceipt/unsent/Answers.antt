@@ -9,8 +9,7 @@ returns c =
     let marks = c.printed.result.0.now in
     let characters = c.printed.result.1.now in
     let its : (added : List Item) → Added c.args.receipt.now.items c.args.self added
-    → Behind marks characters c.args.self added =
-    λ added h. behind marks characters added
+    → Behind marks characters c.args.self added = λ added h. behind marks characters added
     (subst (λ (items : List Item). Added items c.args.self added) (sym c.printed.ensures.items) h) in
     let marks_fit : length marks < 2 ^ 64 = omega (arith, c.printed.type_inv) in
     let characters_fit : length characters < 2 ^ 64 = omega (arith, c.printed.type_inv) in

@@ -18,15 +18,14 @@ use Rattle.pos_file.proofs.history.CallHistory.and.Statement as stated
 use Rattle.pos_file.proofs.history.CallHistory.and.Code as code
 
 abbrev passed : List (Passed 6)
-passed = ref 0 tt history.the_row ∷ ref 1 tt kind.the_row ∷ ref 2 tt u64 ∷ slice 3 tt u8 ∷ ref 4 tt bool ∷ ref 5 tt u64
-    ∷ []
+passed =
+    ref 0 tt history.the_row ∷ ref 1 tt kind.the_row ∷ ref 2 tt u64 ∷ slice 3 tt u8 ∷ ref 4 tt bool ∷ ref 5 tt u64 ∷ []
 
 -- the history with one call more
 abbrev made : (κs : Lfts 6) → Args f.signature κs → history.the_row.Denot
-made κs (self, (kind, (at, (bytes, (is_done, (number, _)))))) =
-    record {
-      calls = self.now.calls ++ call_of kind.now at.now bytes.now (cond is_done.now (Some number.now) None) ∷ [];
-    }
+made κs (self, (kind, (at, (bytes, (is_done, (number, _)))))) = record {
+  calls = self.now.calls ++ call_of kind.now at.now bytes.now (cond is_done.now (Some number.now) None) ∷ [];
+}
 
 pub and_spec : {M : Type 1} → stated.statement M
 and_spec 𝓤 𝓛 𝓜 𝓡 wired =

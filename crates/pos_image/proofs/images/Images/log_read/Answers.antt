@@ -7,8 +7,8 @@ use Rattle.pos_image.proofs.images.Images.log_read.Goals as goal
 -- what a crash leaves, whatever the read answers
 watches : (g : Over) (c : After-read g) → g.D.Disk.honest c.args.self.now.disk
     → Watches (g.D.Disk.state c.args.self.now.disk) (g.D.Disk.state c.read.new.self)
-watches g c = rw (← c.self.view_is) (λ honest. watches_read _ _ (λ f left. g.met.D.Disk.only_now c.self.inside.disk f
-    honest left) _ _ c.read.new.out (c.read.ensures.reads honest))
+watches g c = rw (← c.self.view_is) (λ honest. watches_read _ _
+    (λ f left. g.met.D.Disk.only_now c.self.inside.disk f honest left) _ _ c.read.new.out (c.read.ensures.reads honest))
 
 pub returns-in_err-read-clause-any_moment : goal.returns-in_err-read-clause-any_moment
 returns-in_err-read-clause-any_moment g c = watches g (goal.at.returns-in_err-read-clause-any_moment g c).After-read

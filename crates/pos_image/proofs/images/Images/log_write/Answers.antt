@@ -15,8 +15,7 @@ module _ (g : Over) (c : After-write g) where
   is_writable = rw c.self.view_is c.requires.writable
 
   -- the write began at its place in the slot
-  wrote : g.D.Disk.honest c.self.inside.disk
-      → WritesLog images (g.D.Disk.state c.self.inside.disk)
+  wrote : g.D.Disk.honest c.self.inside.disk → WritesLog images (g.D.Disk.state c.self.inside.disk)
       (g.D.Disk.state c.write.new.self) c.args.at c.args.bytes.now c.write.result
   wrote honest = record {
     held = is_writable.held honest;
@@ -32,9 +31,8 @@ module _ (g : Over) (c : After-write g) where
   moments = rw (← c.self.view_is) (λ honest. write_moments (wrote honest))
 
   -- all else is as it was
-  rest : g.D.Disk.honest c.args.self.now.disk
-      → WritesOnly (start c.args.self.now.slot + c.args.at) (length c.args.bytes.now)
-      (g.D.Disk.state c.args.self.now.disk) (g.D.Disk.state c.write.new.self)
+  rest : g.D.Disk.honest c.args.self.now.disk → WritesOnly (start c.args.self.now.slot + c.args.at)
+      (length c.args.bytes.now) (g.D.Disk.state c.args.self.now.disk) (g.D.Disk.state c.write.new.self)
   rest = rw (← c.self.view_is) (λ honest. writes_only (wrote honest).writes)
 
 pub returns-in_err-write-clause-rest : goal.returns-in_err-write-clause-rest

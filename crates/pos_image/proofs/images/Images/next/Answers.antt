@@ -13,6 +13,5 @@ returns-clause-ready g c = rw (← c.self.view_is)
     (same_ready g.D.Disk _ c.next.new.self (keeps g (goal.at.returns-clause-ready g c).After-next))
 
 pub returns-clause-writable : goal.returns-clause-writable
-returns-clause-writable g c =
-    rw (← c.self.view_is) (same_writable g.D.Disk _ c.next.new.self
-    (keeps g (goal.at.returns-clause-writable g c).After-next))
+returns-clause-writable g c = rw (← c.self.view_is)
+    (same_writable g.D.Disk _ c.next.new.self (keeps g (goal.at.returns-clause-writable g c).After-next))

@@ -13,8 +13,7 @@ returns-in-Ok-clause-ready g c = (
       let was = c.find.ensures.keeps.honest.1 honest in
       record {
         at_rest = c.in-Ok.ensures.at_rest was;
-        current =
-            rw (c.find.ensures.watches was).reading (c.in-Ok.ensures.found was);
+        current = rw (c.find.ensures.watches was).reading (c.in-Ok.ensures.found was);
         prepared = tt;
       }),
   refl,

@@ -20,19 +20,16 @@ module _ (g : Over) (c : After-write_through g) where
   next_is = ap prepared_image (sym c.take.ensures.value ∙ c.in-Some.is)
 
   -- a crash at any moment, whatever the write answers
-  moments : g.D.Disk.honest c.args.self.now.disk
-      → LeavesOnly (g.D.Disk.state c.args.self.now.disk) (g.D.Disk.state c.write_through.new.disk)
-      (HasEither c.args.self.now (span_of c.args.self.now (g.D.Disk.state c.args.self.now.disk))
-      (next_of c.args.self.now))
-  moments = rw (← c.self.view_is) (λ honest. publish_leaves _ _ _ it next_is (is_writable.held honest) c.start.result
-      c.start.ensures (c.write_through.ensures.any_moment honest))
+  moments : g.D.Disk.honest c.args.self.now.disk → LeavesOnly (g.D.Disk.state c.args.self.now.disk)
+      (g.D.Disk.state c.write_through.new.disk) (HasEither c.args.self.now
+      (span_of c.args.self.now (g.D.Disk.state c.args.self.now.disk)) (next_of c.args.self.now))
+  moments = rw (← c.self.view_is) (λ honest. publish_leaves _ _ _ it next_is
+      (is_writable.held honest) c.start.result c.start.ensures (c.write_through.ensures.any_moment honest))
 
   -- a write that succeeded opened the gate alone
-  opened : g.D.Disk.honest c.self.inside.disk
-      → (g.D.Disk.state c.write_through.new.disk).reading ≡ splice
-      (g.D.Disk.state c.self.inside.disk).reading c.start.result (165 ∷ [])
-      → SameBut (start it.slot) 1 (g.D.Disk.state c.self.inside.disk).reading
-      (g.D.Disk.state c.write_through.new.disk).reading
+  opened : g.D.Disk.honest c.self.inside.disk → (g.D.Disk.state c.write_through.new.disk).reading
+      ≡ splice (g.D.Disk.state c.self.inside.disk).reading c.start.result (165 ∷ []) → SameBut (start it.slot) 1
+      (g.D.Disk.state c.self.inside.disk).reading (g.D.Disk.state c.write_through.new.disk).reading
       × (is_open (g.D.Disk.state c.write_through.new.disk).reading (start it.slot) ≡ true)
   opened honest written =
       let here = places c.in-Some.next.slot in

@@ -12,8 +12,8 @@ module _ (g : Over) (c : After-write_through g) where
   fits : c.self.inside.tail + 6 + length c.args.group.now ≤ slot_size (layout_of c.self.inside.images.slot)
   fits = rw (← c.self.view_is) at c.requires.fits
 
-  at_is : c.self.inside.tail + 1 - log_place (layout_of c.self.inside.images.slot) ≡ c.self.inside.tail - log_place
-      (layout_of c.self.inside.images.slot) + 1
+  at_is : c.self.inside.tail + 1 - log_place (layout_of c.self.inside.images.slot)
+      ≡ c.self.inside.tail - log_place (layout_of c.self.inside.images.slot) + 1
   at_is = omega (arith, c.self.invariant.0)
 
   text_is : take (5 + length c.args.group.now) c.deref.result.now ≡ text_behind_gate c.args.group.now
@@ -24,8 +24,7 @@ module _ (g : Over) (c : After-write_through g) where
       (text_behind_gate c.args.group.now) c.write_through.new.images.disk
   puts = rw (← at_is, ← text_is) record {
     moments = c.write_through.ensures.any_moment;
-    keeps =
-        c.write_through.ensures.keeps;
+    keeps = c.write_through.ensures.keeps;
   }
 
 pub returns-in_default-clause-appends : goal.returns-in_default-clause-appends

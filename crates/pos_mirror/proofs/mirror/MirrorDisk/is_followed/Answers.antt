@@ -13,7 +13,6 @@ returns g c = λ calls honest.
     omega (arith, is.fits, g.met.D.Disk.whole old.below honest) in
     (calls_follow D old (D.state old.below).moment (mirror_state old).moment calls (
       honest,
-      begins
-          (λ bytes. g.met.D.Disk.only_now old.below bytes honest) (omega arith)
+      begins (λ bytes. g.met.D.Disk.only_now old.below bytes honest) (omega arith)
           (counts_mirrored old (mirror_state old).moment) fits (is.shows honest).covers,
     )).1

@@ -13,8 +13,7 @@ returns-then-is_err-2-clause-opens g c =
       record {
         mid = c.sync.new.self;
         synced = rw synced at c.sync.ensures.own;
-        read =
-            rw (before, failed) at c.read.ensures.own;
+        read = rw (before, failed) at c.read.ensures.own;
       },
     )
 
@@ -43,8 +42,7 @@ returns-clause-opens g c =
       record {
         mid = c.sync.new.self;
         synced = rw synced at c.sync.ensures.own;
-        read =
-            rw (before, read) at c.read.ensures.own;
+        read = rw (before, read) at c.read.ensures.own;
       },
       long,
       refl,

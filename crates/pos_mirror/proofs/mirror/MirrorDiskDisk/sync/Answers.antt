@@ -18,8 +18,8 @@ invariant_of-self-2 g c =
     done c.sync.ensures.syncs c.sync.ensures.own c.sync-2.ensures.memory c.sync-2.ensures.syncs).0
 
 pub returns-clause-syncs : goal.returns-clause-syncs
-returns-clause-syncs g c = λ honest. rw (← c.self.view_is) (syncs_under c.self.inside.failures c.self.invariant.last
-    refl c.sync-2.ensures.syncs)
+returns-clause-syncs g c = λ honest. rw (← c.self.view_is)
+    (syncs_under c.self.inside.failures c.self.invariant.last refl c.sync-2.ensures.syncs)
 
 pub returns-clause-own : goal.returns-clause-own
 returns-clause-own g c =
@@ -31,6 +31,6 @@ returns-clause-own g c =
         ap (λ m. mirror_of m c.sync.new.self c.self.inside.failures false) c.sync-2.ensures.memory,
       );
       follows = (settled_on g.D.Disk g.met.D.Disk.whole
-          (rw c.if-self.false at c.self.invariant) c.sync.ensures.size c.sync.ensures.honest
-          done c.sync.ensures.syncs c.sync.ensures.own c.sync-2.ensures.memory c.sync-2.ensures.syncs).1;
+          (rw c.if-self.false at c.self.invariant) c.sync.ensures.size c.sync.ensures.honest done c.sync.ensures.syncs
+          c.sync.ensures.own c.sync-2.ensures.memory c.sync-2.ensures.syncs).1;
     }

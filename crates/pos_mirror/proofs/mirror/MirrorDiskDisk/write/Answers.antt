@@ -35,8 +35,8 @@ invariant_of-self-then-is_ok g c =
     c.write-then-is_ok.ensures.writes).0
 
 pub returns-then-is_ok-clause-writes : goal.returns-then-is_ok-clause-writes
-returns-then-is_ok-clause-writes g c = λ honest. rw (← c.self.view_is) (writes_under c.self.inside.failures
-    c.self.invariant.last refl c.write-then-is_ok.ensures.writes)
+returns-then-is_ok-clause-writes g c = λ honest. rw (← c.self.view_is)
+    (writes_under c.self.inside.failures c.self.invariant.last refl c.write-then-is_ok.ensures.writes)
 
 pub returns-then-is_ok-clause-own : goal.returns-then-is_ok-clause-own
 returns-then-is_ok-clause-own g c =

@@ -13,6 +13,5 @@ pub returns-clause-named : goal.returns-clause-named
 returns-clause-named g c = record {
   place = c.in_ok-place.place;
   found = sym c.in_ok-place.ensures;
-  at =
-      returns-clause-device g c;
+  at = returns-clause-device g c;
 }

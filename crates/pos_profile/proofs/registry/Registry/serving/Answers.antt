@@ -28,8 +28,7 @@ returns g c =
         is = ap (option_and_then (λ slot. slot.peripheral)) at ∙ c.serving.ensures.value;
         devices = goes_on;
         stays_sound = λ left stays. sound_with place (Some (peripherals.state left)) c.requires.sound refl
-            (goes_on left)
-            (λ (d : Device) is. (
+            (goes_on left) (λ (d : Device) is. (
               stays.unparked,
               stays.kind ∙ served_kind list place c.requires.sound.served is stands,
             ));

@@ -11,8 +11,7 @@ returns-then-is_empty-clause-lines c read stands =
     (sym c.is_empty.ensures.kept ∙ c.if-is_empty.true) c.line_at_feed-line.ensures stands
 
 pub returns-then-end-piece-2-clause-lines : goal.returns-then-end-piece-2-clause-lines
-returns-then-end-piece-2-clause-lines c read stands =
-    feeds_all read c.args.piece.now c.find_end-end.ensures.front
+returns-then-end-piece-2-clause-lines c read stands = feeds_all read c.args.piece.now c.find_end-end.ensures.front
     (let h = c.if-end-piece-2.true in grind (arith, nat_tests)) c.add.ensures stands
 
 pub returns-clause-lines : goal.returns-clause-lines

@@ -4,8 +4,7 @@ use Rattle.pos_script.proofs.BufferLemmas.{input_ends, nothing_long}
 use Rattle.pos_script.proofs.line_buffer.LineBuffer.is_empty.Goals as goal
 
 pub returns-in-Some-clause-end : goal.returns-in-Some-clause-end
-returns-in-Some-clause-end c read stands =
-    input_ends read
+returns-in-Some-clause-end c read stands = input_ends read
     (ap is_kept_nothing (sym (ap (kept_from c.self.inside.bytes.items) c.in-Some.is) ∙ c.self.view_is)) stands
 
 pub returns-in-None-clause-end : goal.returns-in-None-clause-end

@@ -4,7 +4,7 @@ use Rattle.pos_sims.proofs.tape.Tape.end_lines.Given as goal
 
 abbrev pub invariant-loop : goal.invariant-loop
 invariant-loop l = record {
-  work : steps l.fn.self.chars (work_of l.self) (replicate (l.count - l.counter) piece.LineEnd) ≡ steps l.fn.self.chars
-      (work_of l.fn.self) (replicate l.count piece.LineEnd);
+  work : steps l.fn.self.chars (work_of l.self) (replicate (l.count - l.counter) piece.LineEnd)
+      ≡ steps l.fn.self.chars (work_of l.fn.self) (replicate l.count piece.LineEnd);
   adds : Adds l.fn.self l.self;
 }
