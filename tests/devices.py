@@ -1275,6 +1275,73 @@ def try_scans_that_wait():
             told(f"{name}: it is told again", True, until(is_told, 2))
 
 
+class Own(Driver):
+    """A device that is there, says and reads what the test wants, and does each order."""
+
+    def __init__(self, category):
+        self.category, self.is_there = category, True
+        self.did, self.says, self.codes, self.to_come = [], [], [], []
+
+    @property
+    def is_online(self):
+        return self.is_there
+
+    def carry_out(self, order):
+        self.did.append((order.name, *order.arguments))
+        return True
+
+    def happened(self):
+        says, self.says = self.says, []
+        return says
+
+    def poll(self):
+        self.codes += self.to_come
+        self.to_come = []
+
+    def scans(self):
+        codes, self.codes = self.codes, []
+        return codes
+
+
+def try_own():
+    """Drivers of one's own: what was before them, and in which order the till is told what they say."""
+    code = kijolvar.drivers.Scan(104, b"31", b"31")
+    with opened() as till:
+        till.host("r1")
+        with till.printer("r1").in_use() as printer:
+            printer.print(b"A\n")
+            till.drive("r1", own := Own("POSPrinter"))
+            printer.print(b"B\n")
+            printer.print(b"C\n")
+            told("orders of a device that was hosted before", [("print", b"B\n"), ("print", b"C\n")], own.did)
+            told("the host's", [("r1", (b"A\n",))], [(order.device, order.arguments) for order in till.orders()])
+        till.device("d1").power(False)
+        till.drive("d1", drawer := Own("CashDrawer"))
+        told("a device that was off before", None, raised(till.drawer("d1").open_drawer))
+        till.drive("s1", scanner := Own("Scanner"))
+        with till.scanner("s1").in_use() as control:
+            control.data_event_enabled = True
+            scanner.to_come, scanner.says = [code], ["fault"]
+            told("a code and a failed scan", True, till.run_devices(0))
+            came = list(control.events())
+            control.data_event_enabled = True
+            came += control.events()
+            told("the code is first", [("ErrorEvent", 3), ("DataEvent", None), ("ErrorEvent", 2)],
+                 [(type(event).__name__, getattr(event, "locus", None)) for event in came])
+            scanner.is_there = False
+            told("it is off", True, till.run_devices(0))
+            scanner.to_come = [code]
+            control.data_event_enabled = True
+            told("a code of one that was on for a moment", True, till.run_devices(0))
+            told("it comes", ["DataEvent"], [type(event).__name__ for event in control.events()])
+            scanner.is_there = True
+            drawer.says, scanner.to_come = ["paper 5"], [code]
+            control.data_event_enabled = True
+            told("another device says what can't be", "InputError", name_of(till.run_devices, 0))
+            till.run_devices(0)
+            told("the code comes all the same", ["DataEvent"], [type(event).__name__ for event in control.events()])
+
+
 class Meddler(Driver):
     """Runs a line while it carries out an order, or says what no device can say."""
 
@@ -1409,7 +1476,11 @@ def try_ports_again():
         told("one of two addresses doesn't answer", [None, None], second_answers(server.getsockname()[1]))
     told("nothing answers", "PortError", name_of(port.open))
     port._looked_up_at -= 61
-    told("nothing answers for a minute", ("PortError", []), (name_of(port.open), port._addresses))
+    known = list(port._addresses)
+    with mock.patch("socket.getaddrinfo", side_effect=socket.gaierror(socket.EAI_AGAIN, "nobody answers")) as asked:
+        told("nothing answers for a minute, nor does the name server", ("PortError", known),
+             (name_of(port.open), port._addresses))
+        told("it was asked", ["localhost"], [call.args[0] for call in asked.call_args_list if call.args[0] == "localhost"])
     for took, wanted in ((0.0, 3), (0.3, 1)):
         def fails(*words, took=took, **named):
             time.sleep(took)

@@ -384,6 +384,70 @@ def try_offline():
             told(f"its paper over {kind}", PRINTED, shop.paper())
 
 
+def try_long_off():
+    """A printer that was off for long, behind a port that stays, and is switched on with its cover open: an order is
+    refused for that at once."""
+    for kind in ("serial", "usb stays", "tcp stays"):
+        with contextlib.ExitStack() as stack:
+            shop = Shop(stack, kind)
+            told(f"it is idle over {kind}", True, until(lambda: shop.host.ask("run 10") == "false" and shop.device.is_idle))
+            shop.device.pull_plug()
+            shop.device.cover(True)
+            end = time.monotonic() + 3.5 * TIMEOUT / 1000
+            until(lambda: shop.host.ask("run 10") and time.monotonic() > end)
+            told(f"it is off over {kind}", "offline 0", shop.host.ask("state r1"))
+            shop.device.plug_in()
+            told(f"it is on over {kind}", True,
+                 until(lambda: shop.host.ask("run 10") and shop.host.ask("state r1") == "online 0", 5))
+            told(f"an order over {kind}", "err 114 201", shop.print(TEXT))
+            shop.device.cover(False)
+            told(f"it goes on over {kind}", True, shop.settle())
+            told(f"the order again over {kind}", "ok", shop.print(TEXT))
+            told(f"its paper over {kind}", PRINTED, shop.paper())
+
+
+class PrintServer(Printer):
+    """A printer behind a print server, which keeps what the printer hasn't taken while it is off: also the end of a
+    command of which the printer had the front."""
+
+    cut = kept = None
+
+    def arrives(self, data):
+        if self.kept is not None:
+            self.kept += data
+            return b""
+        at = -1 if self.cut is None else data.find(self.cut)
+        if at < 0:
+            return super().arrives(data)
+        end = at + len(self.cut)
+        self.kept = bytearray(data[end:])
+        return super().arrives(data[:end])
+
+    def goes_back_on(self):
+        """The printer was off and on again. It has forgotten what it had, and gets what was kept."""
+        with self.lock:
+            self.forget()
+            self._got.clear()
+            kept, self.kept, self.cut = self.kept, None, None
+            self._got += self.arrives(kept)
+        self._wake()
+
+
+def try_print_server():
+    """What is left of a command in a print server isn't printed in front of the next order."""
+    with contextlib.ExitStack() as stack:
+        shop = Shop(stack, "tcp stays", made=PrintServer)
+        told("an order", "ok", shop.print(b"One\n"))
+        shop.device.cut = b"\x1d(H"
+        told("one whose question is cut", "err 111", shop.print(b"Two\n"))
+        end = time.monotonic() + 2 * TIMEOUT / 1000
+        until(lambda: shop.host.ask("run 10") and time.monotonic() > end)
+        shop.device.goes_back_on()
+        told("it is back", True, until(lambda: shop.host.ask("run 10") and shop.host.ask("state r1") == "online 0"))
+        told("another order", "ok", shop.print(b"Three\n"))
+        told("the last line", ("left", b"Three"), shop.paper()[-1])
+
+
 def try_garbage():
     """Bytes that are no replies, in any place, and answers that are lost."""
     for kind in ("usb", "tcp"):
@@ -1024,7 +1088,8 @@ def try_refusals():
         told("a short roll", "KIJ_BAD_SETTINGS", host.ask(f"printer r1 {port} lines 20"))
         told("too long a roll", "KIJ_BAD_SETTINGS", host.ask(f"printer r1 {port} lines 100001"))
         told("no speed of a line", "KIJ_BAD_SETTINGS", host.ask(f"printer r1 {port} serial 9601"))
-        for name in ("tcp:", "tcp:h:", "tcp:h:91OO", "tcp:h:0", "tcp:h:99999", "tcp:[::1"):
+        for name in ("tcp:", "tcp:h:", "tcp:h:91OO", "tcp:h:0", "tcp:h:99999", "tcp:[::1", "tcp:[::1]9101",
+                     "tcp:[::1]x:9100", "tcp:a:b:9100"):
             told(f"no port: {name}", ["KIJ_BAD_SETTINGS"] * 3,
                  [host.ask(f"printer r1 {name}"), host.ask(f"display p1 {name}"), host.ask(f"scanner s1 {name}")])
         told("none is driven", "KIJ_NO_DEVICE", host.ask("state r1"))
@@ -1045,6 +1110,44 @@ def try_hosted():
         told("orders of both", ["ok"] * 3,
              shop.host.lines("call d openDrawer", "call r printNormal 2 410a", "call r printNormal 2 420a"))
         told("the hosted one", ["d2", "none"], [shop.host.ask("order"), shop.host.ask("order")])
+
+
+def try_hosted_before():
+    """Orders of a device that was hosted before it was driven aren't its driver's: the host still gets them."""
+    with contextlib.ExitStack() as stack:
+        host = Host(stack)
+        told("hosted", "ok", host.ask("host d2"))
+        host.lines("new d CashDrawer", "open d d2", "set d DeviceEnabled true")
+        told("an order that nobody takes out", "ok", host.line("call d openDrawer"))
+        told("it is driven", "ok", host.ask("own d2 2"))
+        told("its orders", ["ok", "ok", "err 111"], [host.line("call d openDrawer") for _ in range(3)])
+        told("the host's", ["d2", "none"], [host.ask("order"), host.ask("order")])
+
+
+def try_off_before():
+    """A device that was off before it is driven is on if its hardware is there."""
+    with contextlib.ExitStack() as stack:
+        host = Host(stack)
+        host.lines("new d CashDrawer", "open d d2", "set d DeviceEnabled true")
+        told("it is off", ["ok", "err 108"], host.lines("input d2 power off", "call d openDrawer"))
+        told("it is driven", "ok", host.ask("own d2 1"))
+        told("an order", "ok", host.line("call d openDrawer"))
+
+
+def try_refused_before():
+    """A device that says what can't be keeps no other from being on, with its code."""
+    with contextlib.ExitStack() as stack:
+        host = Host(stack)
+        told("a drawer and a scanner", ["ok", "ok"], [host.ask("own d2 9"), host.ask("own s1 9 scanner")])
+        host.lines("new s Scanner", "open s s1", "claim s 0", "set s DeviceEnabled true", "set s DecodeData true",
+                   "set s DataEventEnabled true")
+        told("both are off", ["ok", "true"], [host.ask("there no"), host.ask("run 10")])
+        host.ask("there yes")
+        host.ask("says paper 5")
+        host.ask("reads 104 31")
+        told("both are back, and the drawer says what can't be", "KIJ_BAD_INPUT", host.ask("run 10"))
+        host.ask("run 10")
+        told("the code has come", ["event DataEvent 0", "ok 31"], host.lines("deliver s", "get s ScanDataLabel"))
 
 
 def try_own():
@@ -1117,6 +1220,10 @@ def try_own_scanner():
         told("the first", ["event DataEvent 0", "ok 313233", "ok 104"], comes())
         told("the second", ["event DataEvent 0", "ok 343536", "ok 0"], comes())
         told("a failed scan", ["true", "event ErrorEvent 111 0 2"], [reads("fault"), comes()[0]])
+        told("a code and a failed scan", "true", reads("104 41", "fault"))
+        told("there is input before the failed scan", "event ErrorEvent 111 0 3", comes()[0])
+        told("the code", ["event DataEvent 0", "ok 41", "ok 104"], comes())
+        told("the failed scan", "event ErrorEvent 111 0 2", comes()[0])
         host.ask("there no")
         told("a code of one that is gone", "true", reads("104 373839"))
         told("it comes all the same", ["event DataEvent 0", "ok 373839", "ok 104"], comes())
@@ -1262,6 +1369,28 @@ def try_memory_own():
             host.ask("run 0")
             opened.append(host.line("get d DrawerOpened"))
         told("want of memory: what a driver says", ["ok true", "ok false"] * 7, opened)
+
+
+def try_memory_own_reports():
+    """Want of memory at each allocation of what a driver says in turn, which says something else behind an order that
+    isn't done: the till knows both in their order."""
+    with contextlib.ExitStack() as stack:
+        host = Host(stack)
+        if host.ask("memory 0") != "ok":
+            return
+        host.ask("own d2 0")
+        host.lines("new d CashDrawer", "open d d2", "set d DeviceEnabled true")
+        opened = []
+        for number in range(1, 30):
+            host.ask("says open")
+            host.ask(f"memory {number}")
+            host.ask("run 0")
+            host.ask("memory 0")
+            host.ask("says closed")
+            host.line("call d openDrawer")
+            host.ask("run 0")
+            opened.append(host.line("get d DrawerOpened"))
+        told("want of memory: what a driver says before a report", ["ok false"] * 29, opened)
 
 
 def try_memory_own_scans():

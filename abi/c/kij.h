@@ -721,8 +721,8 @@ kij_result kij_driver_open(kij_till *till, const char *device, const kij_driver 
  * @param timeout how long to wait until there is something to do, in milliseconds. Printing may take longer. Without
  * driven devices the call waits the whole time. A signal doesn't end it.
  * @param is_any  where it is written whether anything was done; may be null
- * @return KIJ_BAD_INPUT if the device can't be as its hardware says, KIJ_NO_MEMORY, KIJ_DISK_FAILED or KIJ_BAD_ARGUMENT
- * on failure
+ * @return KIJ_BAD_INPUT if the device can't be as its hardware says, KIJ_NO_MEMORY, KIJ_NO_ANSWER, KIJ_DISK_FAILED or
+ * KIJ_BAD_ARGUMENT on failure
  */
 kij_result kij_run_devices(kij_till *till, int timeout, bool *is_any);
 

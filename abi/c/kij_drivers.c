@@ -1,11 +1,13 @@
 /* The drivers of a till: receipt printers with their drawers, customer displays and scanners. Orders are answered
    once the devices have done them, or haven't. */
 #include "kij_hardware.h"
+#include <errno.h>
 #include <poll.h>
 #include <stddef.h>
 #include <stdio.h>
 #include <stdlib.h>
 #include <string.h>
+#include <unistd.h>
 
 static kij_result plain(int code) { return kij_internal_result(code, 0, KIJ_NO_CATEGORY); }
 
@@ -230,11 +232,21 @@ int kij_internal_hand_in(kij_till *till, bool *is_any) {
     if (!kij_internal_buffer_room(&drives->spare, 256)) return KIJ_NO_MEMORY;
     drives->is_handing_in = true;
     swap_rooms(till);
-    for (kij_drive *drive = drives->first; drive != NULL && code == KIJ_OK; drive = drive->next)
-        code = hand_in_of(till, drive, is_any);
+    for (kij_drive *drive = drives->first; drive != NULL && code != KIJ_NO_MEMORY; drive = drive->next) {
+        int found = hand_in_of(till, drive, is_any);
+        if (code == KIJ_OK || found == KIJ_NO_MEMORY) code = found;
+    }
     swap_rooms(till);
     drives->is_handing_in = false;
     return code;
+}
+
+/* The same behind something that is done. What finds no memory is handed in the next time, and kij_run_devices says
+   what else went wrong. */
+static void hand_in_behind(kij_till *till) {
+    bool is_any = false;
+    int code = kij_internal_hand_in(till, &is_any);
+    if (code != KIJ_OK && code != KIJ_NO_MEMORY) till->drives->fault = code;
 }
 
 /* ---- Orders ---- */
@@ -272,7 +284,9 @@ static bool show(kij_till *till, kij_drive *drive) {
     }
     drive->is_new = false;
     if (sent == bytes->size && kij_internal_port_drained(port, end)) return true;
+    if (!kij_internal_port_is_open(port)) return false;
     /* The display has a part of it. */
+    port->error = ETIMEDOUT;
     kij_internal_port_close(port);
     return false;
 }
@@ -469,7 +483,7 @@ static size_t take_answer(kij_till *till, bool *is_lost) {
 }
 
 int kij_internal_served(kij_till *till, uint32_t code, size_t *needed) {
-    bool is_lost = false, is_any = false;
+    bool is_lost = false;
     till->drives->answer.size = 0;
     code = finish(till, code, needed, true, &is_lost);
     *needed = take_answer(till, &is_lost);
@@ -477,15 +491,17 @@ int kij_internal_served(kij_till *till, uint32_t code, size_t *needed) {
     till->text_size = *needed;
     if (till->drives->has_served) {
         till->drives->has_served = false;
-        /* What isn't handed in now is the next time. */
-        if (code == KIJOLVAR_OK) (void)kij_internal_hand_in(till, &is_any);
+        if (code == KIJOLVAR_OK) hand_in_behind(till);
     }
     switch (code) {
     case KIJOLVAR_OK: return is_lost ? KIJ_NO_ANSWER : KIJ_OK;
     case KIJOLVAR_CUT: return KIJ_NO_ANSWER;
     case KIJOLVAR_NO_MEMORY: return KIJ_NO_MEMORY;
     case KIJOLVAR_DISK_FAILED: return KIJ_DISK_FAILED;
-    default: return KIJ_BAD_ANSWER;
+    default:
+        /* Lines may be held. */
+        till->is_holding = true;
+        return KIJ_BAD_ANSWER;
     }
 }
 
@@ -652,7 +668,7 @@ static int own_scans(kij_till *till, kij_drive *drive, bool *is_any) {
                                           kij_internal_bytes(scan->label, scan->label_size)};
         size_t count = scan->has_failed ? 0 : 3;
         drive->is_untold = false;
-        if (!is_range(scan->type, 0, HIGHEST_TYPE)) return KIJ_BAD_INPUT;
+        if (!scan->has_failed && !is_range(scan->type, 0, HIGHEST_TYPE)) return KIJ_BAD_INPUT;
         code = tell_scan(till, drive, &words[scan->has_failed], arguments, count, &drive->is_untold);
         *is_any |= code == KIJ_OK;
     }
@@ -715,7 +731,9 @@ static int read_scanners(kij_till *till, bool *is_any) {
     int code = KIJ_OK;
     for (kij_drive *drive = till->drives->first; drive != NULL; drive = drive->next) {
         int found = KIJ_OK;
-        if (drive->category == KIJ_SCANNER) found = (drive->is_own ? own_scans : scans)(till, drive, is_any);
+        /* The till takes no code of one that it doesn't know to be on yet. */
+        if (drive->category == KIJ_SCANNER && drive->belief.power == KIJ_POWER_ON)
+            found = (drive->is_own ? own_scans : scans)(till, drive, is_any);
         if (code == KIJ_OK) code = found;
     }
     return code;
@@ -744,6 +762,8 @@ static int run_round(kij_till *till, bool *is_any) {
     bool is_code = false;
     for (kij_drive *drive = first; drive != NULL; drive = drive->next) look(drive);
     int code = kij_internal_hand_in(till, is_any);
+    if (code == KIJ_OK) code = till->drives->fault;
+    till->drives->fault = KIJ_OK;
     int found = read_scanners(till, &is_code);
     if (code == KIJ_OK) code = found;
     /* A scanner that was lost behind its codes is off now. */
@@ -823,11 +843,28 @@ static int category_of(kij_till *till, const kij_word *name, kij_category *categ
 }
 
 static void free_drive(kij_drive *drive) {
-    if (drive->is_own && drive->own.end != NULL) drive->own.end(drive->context);
     kij_internal_port_close(&drive->port);
     if (drive->link != NULL && drive->has_link) kij_internal_link_end(drive->link);
     free(drive->begun);
     free(drive);
+}
+
+/* Keeps the orders of hosted devices that nobody has taken out yet: those of a device that is driven from now on aren't
+   its driver's. No line waits. A code of enum kij_code. */
+static int keep_hosted(kij_till *till) {
+    kij_buffer *hosted = &till->drives->hosted;
+    for (;;) {
+        size_t needed = 0;
+        uint32_t code = kijolvar_next_order(till->inner, &till->inner.at, NULL, 0, &needed);
+        if (code == KIJOLVAR_OK) return KIJ_OK;
+        if (code != KIJOLVAR_SHORT) return code == KIJOLVAR_NO_MEMORY ? KIJ_NO_MEMORY : KIJ_DISK_FAILED;
+        if (!kij_internal_buffer_room(hosted, hosted->size + needed + 1)) return KIJ_NO_MEMORY;
+        char *line = hosted->bytes + hosted->size;
+        code = kijolvar_next_order(till->inner, &till->inner.at, (uint8_t *)line, needed, &needed);
+        if (code != KIJOLVAR_ORDER) return KIJ_NO_MEMORY;
+        line[needed] = '\n';
+        hosted->size += needed + 1;
+    }
 }
 
 /* Makes a drive of a device that can have one: a code of enum kij_code. */
@@ -841,11 +878,12 @@ static int make_drive(kij_till *till, const char *device, kij_category category,
     int code = category_of(till, &name, &found);
     if (code != KIJ_OK) return code;
     if (found != category) return KIJ_KIND_DIFFERS;
+    code = keep_hosted(till);
+    if (code != KIJ_OK) return code;
     kij_drive *made = (kij_drive *)calloc(1, sizeof *made);
     if (made == NULL) return KIJ_NO_MEMORY;
     made->category = category;
     made->name = name;
-    made->belief.power = KIJ_POWER_ON;
     made->kicked_at = -1;
     made->tried_at = made->failed_at = never;
     made->port.file = -1;
@@ -891,7 +929,6 @@ static int begin_drive(kij_till *till, const kij_drive *drive) {
 }
 
 void kij_internal_drive_again(kij_till *till, const char *name, size_t size) {
-    bool is_any = false;
     kij_drive *drive = drive_of(till->drives, name, size);
     if (drive == NULL) return;
     /* One that isn't attached after all can't be driven. */
@@ -901,8 +938,7 @@ void kij_internal_drive_again(kij_till *till, const char *name, size_t size) {
     if (drive->is_own && drive->own.attached != NULL) drive->own.attached(drive->context);
     drive->kicked_at = -1;
     drive->is_new = true;
-    /* What isn't handed in now is the next time. */
-    if (!till->is_holding) (void)kij_internal_hand_in(till, &is_any);
+    if (!till->is_holding) hand_in_behind(till);
 }
 
 /* Adds a drive behind the others. */
@@ -926,9 +962,11 @@ void kij_internal_end_drives(kij_till *till) {
     kij_drives *drives = till->drives;
     if (drives == NULL) return;
     while (drives->first != NULL) {
-        kij_drive *next = drives->first->next;
-        free_drive(drives->first);
-        drives->first = next;
+        kij_drive *drive = drives->first;
+        drives->first = drive->next;
+        /* Not in a process that was forked. */
+        if (drive->is_own && drive->own.end != NULL && till->process == getpid()) drive->own.end(drive->context);
+        free_drive(drive);
     }
     free(drives->inputs.bytes);
     free(drives->answer.bytes);
@@ -1027,14 +1065,12 @@ kij_result kij_escpos_printer_open(kij_till *till, const char *device, const cha
                                    const kij_escpos_settings *settings) {
     static const kij_escpos_settings usual = KIJ_ESCPOS_SETTINGS;
     kij_drive *printer = NULL, *drawer = NULL;
-    bool is_any = false;
     if (port == NULL) return plain(KIJ_BAD_ARGUMENT);
     if (!kij_internal_is_port(port)) return plain(KIJ_BAD_SETTINGS);
     int code = kij_internal_enter(till);
     if (code != KIJ_OK) return plain(code);
     code = open_printer(till, device, port, settings == NULL ? &usual : settings, &printer, &drawer);
-    /* What isn't handed in now is the next time. */
-    if (code == KIJ_OK) (void)kij_internal_hand_in(till, &is_any);
+    if (code == KIJ_OK) hand_in_behind(till);
     if (drawer != NULL) free_drive(drawer);
     if (printer != NULL) free_drive(printer);
     kij_internal_leave(till);
@@ -1044,7 +1080,6 @@ kij_result kij_escpos_printer_open(kij_till *till, const char *device, const cha
 /* Opens a display or a scanner, whose drive is made with its port's name behind it. */
 static int open_port(kij_till *till, kij_drive *drive, const char *port, const kij_serial_settings *serial,
                      bool has_keys) {
-    bool is_any = false;
     const char *name = NULL;
     /* The name is kept with the room for codes. */
     drive->begun = (uint8_t *)with_name(LONGEST_CODE, port, &name);
@@ -1059,8 +1094,7 @@ static int open_port(kij_till *till, kij_drive *drive, const char *port, const k
         return code;
     }
     add_drive(till->drives, drive);
-    /* What isn't handed in now is the next time. */
-    (void)kij_internal_hand_in(till, &is_any);
+    hand_in_behind(till);
     return code;
 }
 
@@ -1112,7 +1146,6 @@ kij_result kij_wedge_scanner_open(kij_till *till, const char *device, const char
 /* Has a driver of the caller's drive a device: a code of enum kij_code. */
 static int open_own(kij_till *till, const char *device, const kij_driver *driver, void *context) {
     kij_drive *drive = NULL;
-    bool is_any = false;
     int code = make_drive(till, device, driver->category, &drive);
     if (code == KIJ_OK && drive->category != KIJ_SCANNER) code = begin_drive(till, drive);
     if (code != KIJ_OK) {
@@ -1123,8 +1156,7 @@ static int open_own(kij_till *till, const char *device, const kij_driver *driver
     drive->context = context;
     drive->is_own = true;
     add_drive(till->drives, drive);
-    /* What isn't handed in now is the next time. */
-    (void)kij_internal_hand_in(till, &is_any);
+    hand_in_behind(till);
     return code;
 }
 

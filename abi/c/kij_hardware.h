@@ -250,6 +250,8 @@ typedef struct kij_drives {
     kij_buffer hosted;
     bool is_handing_in;
     bool has_served;
+    /* What went wrong with inputs behind something that was done: a code of enum kij_code. */
+    int fault;
 } kij_drives;
 
 #ifdef __GNUC__

@@ -30,7 +30,7 @@ enum {
 
 /* How long a lost port may take to open while other devices wait, how often a printer is asked, and how long its late
    answers may be apart, in milliseconds; and a time before all others. */
-static const int64_t quickly = 250, often = 100, apart = 250, never = -1000000000;
+static const int64_t quickly = 250, often = 100, apart = 500, never = -1000000000;
 
 static inline int64_t least(int64_t one, int64_t other) { return one < other ? one : other; }
 
@@ -327,8 +327,7 @@ static void hear(kij_signs *signs, const char *line) {
 /* The printer answers again. It may have been off, and then it says no status by itself. A serial line always stays,
    so that its printer may have a part of a command. */
 static void come_back(kij_link *link) {
-    if (link->port.kind == KIJ_PORT_SERIAL) put_start(link);
-    else if (!link->is_started) put_refresh(link);
+    if (!link->is_started || link->port.kind == KIJ_PORT_SERIAL) put_start(link);
     link->is_there = true;
     link->is_started = link->was_silent = link->is_refreshing = false;
 }

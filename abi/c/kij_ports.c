@@ -4,6 +4,7 @@
 #define _GNU_SOURCE
 #endif
 #include "kij_hardware.h"
+#include <arpa/inet.h>
 #include <errno.h>
 #include <fcntl.h>
 #include <limits.h>
@@ -160,6 +161,15 @@ static bool is_number(const char *text) {
     return *text == 0 && number > 0 && number < 65536;
 }
 
+/* Whether a host is a name or an address. Only one of IPv6 has colons; behind it may stand % and an interface. */
+static bool is_host(const char *host) {
+    char text[HOST_ROOM];
+    struct in6_addr found;
+    if (strchr(host, ':') == NULL) return *host != 0;
+    snprintf(text, sizeof text, "%.*s", (int)strcspn(host, "%"), host);
+    return inet_pton(AF_INET6, text, &found) == 1;
+}
+
 /* Reads tcp:HOST, tcp:HOST:PORT, and both with // behind the first colon. An address of IPv6 may be in brackets. */
 static bool is_address(const char *name, char *host, size_t host_room, char *service, size_t service_room) {
     const char *from = name + strlen("tcp:");
@@ -169,8 +179,11 @@ static bool is_address(const char *name, char *host, size_t host_room, char *ser
     size_t size = colon == NULL ? strlen(from) : (size_t)(colon - from);
     if (bracket != NULL) size = (size_t)(bracket - ++from);
     if (size == 0 || size >= host_room || *from == '[') return false;
+    /* Behind the bracket stands the number, or nothing. */
+    if (bracket != NULL && bracket[1] != 0 && bracket + 1 != colon) return false;
     memcpy(host, from, size);
     host[size] = 0;
+    if (!is_host(host)) return false;
     int written = snprintf(service, service_room, "%s", colon == NULL ? "9100" : colon + 1);
     return written > 0 && (size_t)written < service_room && is_number(service);
 }

@@ -59,6 +59,8 @@ kij_result kij_open(const char *profile, const char *totals, int flags, kij_till
 
 void kij_close(kij_till *till) {
     if (till == NULL) return;
+    /* A driver of the caller's may not call the till while it ends. */
+    (void)kij_internal_enter(till);
     kij_internal_end_drives(till);
     kijolvar_close(till->inner);
     close_file(till);

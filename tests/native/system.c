@@ -202,6 +202,8 @@ static void try_hosts(void) {
         {"tcp:192.0.2.7", "192.0.2.7 9100"},
         {"tcp:[2001:db8::7]", "2001:db8::7 9100"},
         {"tcp:[::1]:91", "::1 91"},
+        {"tcp:::1:91", "::1 91"},
+        {"tcp:[fe80::1%eth0]:91", "fe80::1%eth0 91"},
     };
     static const kij_serial_settings serial = KIJ_SERIAL_SETTINGS;
     lookup_fault = EAI_AGAIN;

@@ -34,7 +34,7 @@ class Drive:
         # What a driver gets that doesn't look at its orders.
         self.order = Order(device.name, "", ())
         # Whether the device is on, by what the till was told or is to be told.
-        self.is_on = True
+        self.is_on: bool | None = None
         # What has happened and the till hasn't taken yet: lines of inputs, and codes that were read.
         self.left = b""
         self.scans: deque[Scan] = deque()
@@ -46,14 +46,15 @@ class Drive:
     def inputs(self) -> bytes:
         """What has happened at the device and the till hasn't taken yet, as lines of inputs. One that is back is on
         first, and one that has gone off is off after all that it has read: the till takes nothing of one that is off."""
-        is_on = self.driver.is_online
+        # From a failed scan on a control ignores codes, so those that have come are told before what happened.
+        has_scans = self.has_scans()
+        is_on = self.driver.is_online or has_scans
         if is_on:
-            happened = self.driver.happened()
+            happened = [] if has_scans else self.driver.happened()
             if not (self.is_on or "power on" in happened):
                 happened = ["power on", *happened]
         else:
-            happened = ["power off"] if self.is_on and not self.has_scans() else []
-            is_on = self.is_on and not happened
+            happened = [] if self.is_on is False else ["power off"]
         # An interrupt between both costs nothing: the till is told twice.
         self.left += b"".join([b"input %b %b\n" % (self.word, words.encode()) for words in happened])
         self.is_on = is_on
@@ -102,6 +103,7 @@ class Drives:
         try:
             driver.begin(self._till, device)
             if device.category != "Scanner":
+                self._session.keep_hosted()
                 self._session.drive(drive.word)
             self._drives[device.name] = self._by_word[drive.word] = drive
             self._hand_in(drive)
@@ -125,7 +127,7 @@ class Drives:
             return
         if drive.category != "Scanner":
             self._session.drive(drive.word)
-        drive.is_on, drive.left = True, b""
+        drive.is_on, drive.left = None, b""
         drive.driver.attached()
         self.hand_in()
 
@@ -139,7 +141,8 @@ class Drives:
         driver, self._session.taken = drive.driver, drive.taken
         order = read_order(line.decode()) if driver.reads_orders else drive.order
         if driver.is_online and driver.carry_out(order):
-            drive.orders += 1
+            # Only a printer has paper that is taken away.
+            drive.orders += drive.category == "POSPrinter"
             return True, b""
         return False, drive.inputs()
 
@@ -157,13 +160,22 @@ class Drives:
     # Inputs.
 
     def hand_in(self) -> bool:
-        """Tells the till what has happened at the devices, and returns whether anything has."""
+        """Tells the till what has happened at the devices, and returns whether anything has. If something is refused, it
+        tells the others first."""
         if is_called(self, "hand_in"):
             return False
-        return any([self._hand_in(drive) for drive in list(self._drives.values())])
+        is_any, refused = False, None
+        for drive in list(self._drives.values()):
+            try:
+                is_any |= self._hand_in(drive)
+            except (InputError, LineError) as fault:
+                refused = refused or fault
+        if refused is not None:
+            raise refused
+        return is_any
 
     def _hand_in(self, drive: Drive) -> bool:
-        if drive.orders >= _KEPT_ORDERS and drive.category == "POSPrinter":
+        if drive.orders >= _KEPT_ORDERS:
             drive.orders = 0
             with contextlib.suppress(NoDeviceError):
                 self._session.tear_off(drive.word)

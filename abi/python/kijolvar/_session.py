@@ -391,6 +391,13 @@ class Session:
         if code != KIJOLVAR_OK:
             raise library_fault(code)
 
+    def keep_hosted(self) -> None:
+        """Keeps the orders of hosted devices that nobody has taken: those of a device that is driven from now on aren't
+        its driver's."""
+        # Lines of an earlier call that wait are given up first.
+        self.carry_out(b"")
+        self._hosted += list(self._taken_out())
+
     def drive(self, device: bytes) -> None:
         """Says that the orders of the device of this name wait until the host has said what became of them."""
         self.check()

@@ -123,7 +123,7 @@ class EscPosPrinter(Driver):
         is_open_high: Whether the drawer is open when pin 3 of its connector is high.
         lines: How many lines the till counts with when the sensors see enough paper, at most 100,000. If they still see
             enough when it has counted down to the near end, it begins again. With 100 lines or more it begins a quarter
-            earlier, so that no long request is refused.
+            of those earlier, or 4,096, so that no long request is refused.
         is_asked: Whether the printer says nothing by itself, and doesn't know GS ( H, as simpler ones. Then it is asked
             for its status (DLE EOT), and after each line whether that is printed (GS r).
         timeout: How long an order may take, in seconds.
@@ -146,9 +146,9 @@ class EscPosPrinter(Driver):
             raise ValueError("feed and the times of the pulse are 0 to 255, and the pin is 2 or 5")
         if not 1 <= lines <= _MOST_LINES:
             raise ValueError(f"a roll has 1 to {_MOST_LINES} lines")
-        # As given, and as they are for a device.
-        self._given_width, self._given_lines = width, lines
-        self._width, self._lines = width, lines
+        # As it is given, and as it is for a device.
+        self._given_width, self._width = width, width
+        self._lines = lines
         self._cutter, self._feed, self._pin, self._pulse = _CUTTERS.index(cutter), feed, pin, pulse
         self._is_open_high = is_open_high
         self.link = (AskedLink if is_asked else PrinterLink)(port_of(port), timeout, pause)
@@ -175,9 +175,9 @@ class EscPosPrinter(Driver):
         chars, near = device.chars or 0, device.near or 0
         if self._given_width is not None and self._given_width < chars:
             raise ValueError(f"{device.name} has lines of {chars}, and the printer prints {self._given_width}")
-        if near >= _MOST_LINES:
-            raise ValueError(f"{device.name} is near its end with {near} lines, and a roll has {_MOST_LINES} at most")
-        self._width, self._lines, self._near = self._given_width or chars, max(self._given_lines, near + 1), near
+        if near >= self._lines:
+            raise ValueError(f"{device.name} is near its end with {near} lines, and a roll has {self._lines}")
+        self._width, self._near = self._given_width or chars, near
         self._wire = self._wire_of(till, device)
         self._open()
 
@@ -236,7 +236,7 @@ class EscPosPrinter(Driver):
         return self._others
 
     def files(self) -> list[int]:
-        return [self.link.port.fileno()] if self.link.port.is_open else []
+        return self.link.port.files()
 
     def attached(self) -> None:
         self._is_known, self._compared = False, -1
@@ -331,8 +331,9 @@ def _told(link: PrinterLink, wire: Wire) -> list[str]:
 class SerialDisplay(Driver):
     """A customer display with CD5220 or ESC/POS. It shows characters: blinking and reverse ones as normal ones.
 
-    A display answers nothing, so an order counts as done once its bytes have left this machine. A display that was
-    lost shows all its rows again with the next order.
+    A display answers nothing. Over a serial line an order counts as done once its bytes have left this machine; over TCP
+    and /dev/usb/lp0 once the system has taken them. A display that was lost shows all its rows again with the next
+    order.
 
     Args:
         port: The port, or its name as `port_of` takes it.
@@ -414,7 +415,7 @@ class SerialDisplay(Driver):
         self._tried_at = time.monotonic()
 
     def files(self) -> list[int]:
-        return [self.port.fileno()] if self.port.is_open else []
+        return self.port.files()
 
     def close(self) -> None:
         self.port.close()
@@ -439,7 +440,8 @@ class Scan:
 _AIM = {b"A": 108, b"C": 110, b"E": 104, b"F": 107, b"G": 109, b"I": 106, b"L": 201, b"Q": 204, b"S": 105, b"U": 202,
         b"d": 203, b"e": 131, b"z": 206}
 _AIM_DIGIT = {b"E4": 103, b"o1": 121, b"o2": 122}
-_LONGEST = 4096
+# The longest code, and the highest type.
+_LONGEST, _HIGHEST_KIND = 4096, 999
 
 # Linux input events: the time, type, code and value.
 _EVENT = struct.Struct("@llHHi")
@@ -550,15 +552,20 @@ class WedgeScanner(Driver):
     Args:
         device: /dev/input/.. for a keyboard wedge, whose keys no other program gets meanwhile. Any other name is that
             of a port (`port_of`), at which the codes come as lines.
-        kind: The type of a code without an identifier; 0 is SCAN_SDT_UNKNOWN.
+        kind: The type of a code without an identifier, 0 to 999; 0 is SCAN_SDT_UNKNOWN.
         keys: Whether the device sends key events; None is what its name says.
         pause: How long to wait before a lost port is tried again, in seconds.
+
+    Raises:
+        ValueError: There is no such type or port.
     """
 
     category = "Scanner"
 
     def __init__(self, device: Union[Port, Path], kind: int = 0, *, keys: bool | None = None,
                  pause: float = 1.0) -> None:
+        if not 0 <= kind <= _HIGHEST_KIND:
+            raise ValueError(f"the type of a code is 0 to {_HIGHEST_KIND}, not {kind}")
         if keys is None:
             keys = not isinstance(device, Port) and os.fspath(device).startswith("/dev/input/")
         self.port: Port = _KeyPort(device) if keys and not isinstance(device, Port) else port_of(device)
@@ -623,7 +630,7 @@ class WedgeScanner(Driver):
         return found
 
     def files(self) -> list[int]:
-        return [self.port.fileno()] if self.port.is_open else []
+        return self.port.files()
 
     def close(self) -> None:
         self.port.close()

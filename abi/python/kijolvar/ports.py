@@ -60,8 +60,8 @@ class Port:
         self._process = 0
         # What waits until bytes can be read, and until they can be read or written.
         self._waits = select.poll(), select.poll()
-        # Whether reading no bytes means that the port is lost.
-        self._ends_empty = True
+        # Whether reading no bytes means that the port is lost, and whether none came the last time.
+        self._ends_empty, self._was_empty = True, False
         _ports.add(self)
 
     def __repr__(self) -> str:
@@ -86,6 +86,11 @@ class Port:
             raise PortError(errno.ENOTCONN, f"{self.name} isn't open")
         return self._file
 
+    def files(self) -> list[int]:
+        """The file descriptor at which something may come, if there is one. A port that gives nothing may be readable all
+        the time."""
+        return [] if self._file is None or self._was_empty else [self._file]
+
     def open(self, seconds: float = 1.0) -> None:
         """Opens the port, unless it is open.
 
@@ -107,6 +112,7 @@ class Port:
         self._waits = select.poll(), select.poll()
         self._waits[False].register(file, select.POLLIN)
         self._waits[True].register(file, select.POLLIN | select.POLLOUT)
+        self._was_empty = False
         self._process, self._file = os.getpid(), file
 
     def close(self) -> None:
@@ -146,6 +152,7 @@ class Port:
         except OSError as fault:
             self._loses(fault)
             return b""
+        self._was_empty = not found
         if not found and self._ends_empty:
             self._loses(PortError(errno.EPIPE, f"{self.name} was closed by the device"))
         return found
@@ -174,7 +181,8 @@ class Port:
             return 0
 
     def write(self, data: bytes, seconds: float) -> bool:
-        """Writes bytes, and returns whether all are out in that time. If not, some of them may be.
+        """Writes bytes, and returns whether all are out in that time. If not, some of them may be. What comes while there
+        is no room for them is dropped.
 
         Raises:
             PortError: The port was lost. It is closed then.
@@ -184,8 +192,11 @@ class Port:
             left = end - time.monotonic()
             if left <= 0:
                 return False
-            if self.ready(True, left)[1]:
+            can_read, can_write = self.ready(True, left)
+            if can_write:
                 sent += self.write_some(data[sent:])
+            elif can_read and not self.read_some():
+                time.sleep(min(left, 0.001))
         return self._drained(end)
 
     def read(self, seconds: float = 0.0) -> bytes:
@@ -353,7 +364,9 @@ class TcpPort(Port):
             return self._connected(time.monotonic() + max(seconds, 0.001))
         except OSError:
             if time.monotonic() - self._looked_up_at > _LOOKED_UP_FOR:
-                self._addresses = []
+                # For the next time. The addresses that are known stay if there are no others.
+                with contextlib.suppress(OSError):
+                    self._look_up()
             raise
 
     def _look_up(self) -> None:

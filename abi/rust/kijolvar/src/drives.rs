@@ -48,8 +48,9 @@ impl Drive {
             let was_off = self.is_on.replace(false) == Some(false);
             return if was_off { Vec::new() } else { vec![line("power off")] };
         }
-        let mut lines: Vec<String> =
-            self.driver.happened(&mut DriverTill { inner }).iter().map(|words| line(words)).collect();
+        // From a failed scan on a control ignores codes, so those that have come are told before what happened.
+        let happened = if has_scans { Vec::new() } else { self.driver.happened(&mut DriverTill { inner }) };
+        let mut lines: Vec<String> = happened.iter().map(|words| line(words)).collect();
         let on = line("power on");
         if self.is_on.replace(true) != Some(true) && !lines.contains(&on) {
             lines.insert(0, on);
@@ -295,7 +296,14 @@ impl Inner {
                 drive.orders += 1;
                 return Report { is_done: true, inputs: Vec::new() };
             }
-            Report { is_done: false, inputs: drive.inputs(inner) }
+            // What the till had no memory for happened before.
+            let front = format!("input {name} ");
+            let left = std::mem::take(&mut inner.drives.inputs);
+            let (mut inputs, others): (Vec<String>, Vec<String>) =
+                left.into_iter().partition(|line| line.starts_with(&front));
+            inner.drives.inputs = others.into();
+            inputs.extend(drive.inputs(inner));
+            Report { is_done: false, inputs }
         });
         self.drives.is_holding = false;
         Ok(report)

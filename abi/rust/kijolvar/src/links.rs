@@ -263,7 +263,7 @@ impl Link {
 
     /// Puts the first question.
     fn put_first_question(&mut self) {
-        if std::mem::take(&mut self.is_late) {
+        if std::mem::take(&mut self.is_late) || !self.is_asked {
             // The answers that haven't come are lost.
             self.unanswered = 0;
         }

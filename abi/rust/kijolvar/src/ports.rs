@@ -331,7 +331,9 @@ pub(crate) struct Cable {
     pub(crate) port: Port,
     /// Whether what was sent may wait for long, as at a printer whose cover is open.
     is_patient: bool,
+    /// What is open, and the process that opened it.
     stream: Option<Stream>,
+    process: u32,
     /// Whether reading no bytes means that it is lost, and whether none came the last time.
     ends_empty: bool,
     was_empty: bool,
@@ -348,7 +350,8 @@ pub(crate) struct Lost;
 impl Cable {
     pub(crate) fn new(port: Port) -> Cable {
         let addresses = Addresses::default();
-        Cable { port, is_patient: false, stream: None, ends_empty: true, was_empty: false, fault: None, addresses }
+        let (ends_empty, was_empty) = (true, false);
+        Cable { port, is_patient: false, stream: None, process: 0, ends_empty, was_empty, fault: None, addresses }
     }
 
     /// A port at which what was sent may wait for long.
@@ -392,7 +395,10 @@ impl Cable {
             Port::Serial(path, settings) => open_file(path, Some(settings)),
         };
         match opened {
-            Ok((stream, ends_empty)) => (self.stream, self.ends_empty) = (Some(stream), ends_empty),
+            Ok((stream, ends_empty)) => {
+                (self.stream, self.ends_empty) = (Some(stream), ends_empty);
+                (self.process, self.was_empty) = (std::process::id(), false);
+            }
             Err(fault) => self.fault = Some(number_of(&fault)),
         }
         self.stream.is_some()
@@ -407,10 +413,13 @@ impl Cable {
         }
     }
 
-    /// Closes the port, without waiting for what it hasn't sent.
+    /// Closes the port, without waiting for what it hasn't sent. In a process that was forked the port is still that of
+    /// the process that opened it, and nothing is dropped.
     pub(crate) fn close(&mut self) {
         if let Some(Stream::File(file)) = self.stream.take() {
-            drop_unsent(file.as_raw_fd());
+            if self.process == std::process::id() {
+                drop_unsent(file.as_raw_fd());
+            }
         }
     }
 

@@ -112,7 +112,11 @@ impl Driver for Own {
     }
 
     fn scans(&mut self) -> Vec<Scan> {
-        std::mem::take(&mut fate().codes)
+        if self.0 == Category::Scanner {
+            std::mem::take(&mut fate().codes)
+        } else {
+            Vec::new()
+        }
     }
 
     fn attached(&mut self) {
