@@ -35,7 +35,8 @@ pub enum Cause {
     /// The totals in the file have layout 2 already.
     Moved,
     /// The file of the totals couldn't be written. The last call may be in it or not, and the till can only be dropped.
-    /// The first call that fails has the system's reason, if there is one.
+    /// The first call that fails has the reason, if there is one. A process that was forked from the till's never
+    /// writes the file.
     DiskFailed(Option<io::Error>),
     /// The system refused the file of the totals: `NotFound` if it is missing, `AlreadyExists` if it is there already,
     /// `WouldBlock` if another till has it.

@@ -9,13 +9,14 @@ use crate::questions::explain;
 use crate::raw::*;
 use crate::stack::with_stack;
 use crate::standard::{library, Category};
-use crate::totals_file::Totals;
+use crate::totals_file::{LockedFile, Totals};
 use crate::views::{self, DisplayView, PrinterView};
 use crate::wire::{Asked, PrinterReply, WireSettings};
 use std::cell::RefCell;
 use std::ffi::c_void;
 use std::fmt;
 use std::fs::File;
+use std::io;
 use std::os::unix::fs::FileExt;
 use std::sync::atomic::{AtomicU64, Ordering};
 use std::time::Duration;
@@ -38,7 +39,7 @@ struct Entry {
 /// What a till has.
 pub(crate) struct Inner {
     pub(crate) at: Raw,
-    totals: Option<File>,
+    totals: Option<LockedFile>,
     errand: Vec<u8>,
     pub(crate) text: Vec<u8>,
     controls: Vec<Entry>,
@@ -60,7 +61,7 @@ pub(crate) fn opening_cause(code: u32, profile: &str) -> Cause {
 }
 
 impl Inner {
-    fn new(at: Raw, totals: Option<File>, errand: Vec<u8>) -> Inner {
+    fn new(at: Raw, totals: Option<LockedFile>, errand: Vec<u8>) -> Inner {
         let drives = Drives::default();
         Inner { at, totals, errand, text: vec![0; 256], controls: Vec::new(), names: 0, drives }
     }
@@ -80,7 +81,7 @@ impl Inner {
     }
 
     /// A till over a file's bytes, which are the room for its errands from then on.
-    pub(crate) fn over_file(profile: &str, file: File, bytes: Vec<u8>, begin: Begin) -> Result<Inner, Cause> {
+    pub(crate) fn over_file(profile: &str, file: LockedFile, bytes: Vec<u8>, begin: Begin) -> Result<Inner, Cause> {
         let (code, at) = with_stack(|| {
             let mut at = std::ptr::null_mut();
             // SAFETY: slices and a place, lent for the call.
@@ -102,11 +103,12 @@ impl Inner {
     }
 
     /// Ends the till, and returns the file of its totals.
-    pub(crate) fn into_file(mut self) -> Option<File> {
+    pub(crate) fn into_file(mut self) -> Option<LockedFile> {
         self.totals.take()
     }
 
-    /// Does in the file what the till's disk did, errand by errand.
+    /// Does in the file what the till's disk did, errand by errand. A process that was forked does none: the one that
+    /// opened the till writes the file, and would write over what another wrote.
     pub(crate) fn settle(&mut self) -> Result<(), Cause> {
         let Some(file) = &self.totals else { return Ok(()) };
         loop {
@@ -118,6 +120,9 @@ impl Inner {
             };
             let done = match code {
                 library::OK => return Ok(()),
+                library::WRITE | library::SYNC if !file.is_own() => {
+                    Err(Some(io::Error::other("another process has opened the till")))
+                }
                 library::WRITE => file.write_all_at(&self.errand[..count], at).map_err(Some),
                 library::SYNC => file.sync_all().map_err(Some),
                 _ => Err(None),
@@ -342,6 +347,10 @@ impl Drop for Inner {
 ///
 /// A till may be moved to another thread (it is `Send`), and is used by one thread at a time (it isn't `Sync`). An
 /// [`Actor`] has one for several threads. Dropping a till closes its controls and the file of its totals.
+///
+/// A till over a file is for the process that opened it. In a process that was forked, a call that changes the totals
+/// fails with [`Cause::DiskFailed`], and the file stays as it is. If the totals are in memory, each process has its own
+/// till from then on.
 ///
 /// [`Actor`]: crate::Actor
 ///

@@ -6,10 +6,12 @@ use crate::till::Inner;
 use std::ffi::CString;
 use std::fs::{File, OpenOptions};
 use std::io::{self, Read};
+use std::ops::Deref;
 use std::os::fd::AsRawFd;
 use std::os::unix::ffi::OsStrExt;
 use std::os::unix::fs::OpenOptionsExt;
 use std::path::{Path, PathBuf};
+use std::process;
 
 /// Where a till has its totals.
 #[derive(Debug, Clone, PartialEq, Eq)]
@@ -42,7 +44,7 @@ impl Totals {
     }
 
     /// Opens or creates the file for a till over the profile, and locks it against every other till.
-    pub(crate) fn open(&self, profile: &str) -> Result<Option<File>, Cause> {
+    pub(crate) fn open(&self, profile: &str) -> Result<Option<LockedFile>, Cause> {
         match self {
             Totals::Memory => Ok(None),
             Totals::Existing(path) => open_existing(path).map(Some).map_err(Cause::System),
@@ -61,6 +63,33 @@ impl Totals {
     }
 }
 
+/// A file that is locked against every other till, and the process that has locked it.
+pub(crate) struct LockedFile {
+    file: File,
+    process: u32,
+}
+
+impl LockedFile {
+    /// Locks a file.
+    fn new(file: File) -> io::Result<LockedFile> {
+        file.try_lock()?;
+        Ok(LockedFile { file, process: process::id() })
+    }
+
+    /// Whether this process has locked the file. One that was forked has it too, but the file isn't its own.
+    pub(crate) fn is_own(&self) -> bool {
+        self.process == process::id()
+    }
+}
+
+impl Deref for LockedFile {
+    type Target = File;
+
+    fn deref(&self) -> &File {
+        &self.file
+    }
+}
+
 /// The folder that a path is in, and the name that the path's file has there.
 fn folder_of(path: &Path) -> io::Result<(&Path, CString)> {
     let name = path.file_name().ok_or(io::ErrorKind::InvalidInput)?;
@@ -70,9 +99,8 @@ fn folder_of(path: &Path) -> io::Result<(&Path, CString)> {
 
 /// Opens a file that is there, and locks it. Its folder is synced too, since a creation that was killed may have named
 /// the file and not synced its name.
-pub(crate) fn open_existing(path: &Path) -> io::Result<File> {
-    let file = OpenOptions::new().read(true).write(true).open(path)?;
-    file.try_lock()?;
+pub(crate) fn open_existing(path: &Path) -> io::Result<LockedFile> {
+    let file = LockedFile::new(OpenOptions::new().read(true).write(true).open(path)?)?;
     File::open(folder_of(path)?.0)?.sync_all()?;
     Ok(file)
 }
@@ -88,7 +116,7 @@ pub(crate) fn read_file(path: &Path) -> io::Result<Vec<u8>> {
 
 /// Creates a file of totals without files, and locks it. It gets its name when it is whole and synced, which never
 /// replaces anything, so a crash leaves nothing or all of it. A profile that is refused creates nothing.
-fn create_new(path: &Path, profile: &str) -> Result<File, Cause> {
+fn create_new(path: &Path, profile: &str) -> Result<LockedFile, Cause> {
     let (folder, name) = folder_of(path).map_err(Cause::System)?;
     let file = unnamed(folder).map_err(Cause::System)?;
     let mut till = Inner::over_file(profile, file, vec![0; DISK_LENGTH as usize], kijolvar_format_file)?;
@@ -99,9 +127,9 @@ fn create_new(path: &Path, profile: &str) -> Result<File, Cause> {
 }
 
 /// A locked file without a name, of zero bytes, as long as a disk.
-fn unnamed(folder: &Path) -> io::Result<File> {
+fn unnamed(folder: &Path) -> io::Result<LockedFile> {
     let file = OpenOptions::new().read(true).write(true).custom_flags(O_TMPFILE).mode(0o600).open(folder)?;
-    file.try_lock()?;
+    let file = LockedFile::new(file)?;
     file.set_len(DISK_LENGTH)?;
     Ok(file)
 }

@@ -16,6 +16,8 @@ use std::sync::Arc;
 use std::thread::spawn;
 use std::time::{Duration, Instant};
 
+mod system;
+
 fn till() -> Till {
     Till::open(BUILT_PROFILE, Totals::Memory).unwrap()
 }
@@ -84,6 +86,40 @@ fn totals_stay_in_their_file() {
     std::fs::write(place.file(), "short").unwrap();
     let short = Till::open(BUILT_PROFILE, Totals::existing(place.file())).unwrap_err();
     assert!(matches!(short.cause(), Cause::TooSmall));
+    a_forked_process_writes_nothing();
+}
+
+fn a_forked_process_writes_nothing() {
+    let place = Place::new("forked");
+    let till = Till::open(BUILT_PROFILE, Totals::create(place.file())).unwrap();
+    let totals = till.hard_totals("t1").unwrap().enabled().unwrap();
+    let day = totals.create("DAY", 1, false).unwrap();
+    let bytes = || std::fs::read(place.file()).unwrap_or_default();
+    let before = bytes();
+    assert!(system::is_so_forked(|| {
+        let failed = totals.write(day, 0, [7]).is_err_and(|error| {
+            let Cause::DiskFailed(Some(fault)) = error.cause() else { return false };
+            fault.to_string() == "another process has opened the till"
+        });
+        let fails = totals.write(day, 0, [8]).is_err_and(|error| matches!(error.cause(), Cause::DiskFailed(None)));
+        // SAFETY: the process ends before it would drop them again.
+        unsafe {
+            drop(std::ptr::read(&totals));
+            drop(std::ptr::read(&till));
+        }
+        failed && fails && bytes() == before
+    }));
+    let in_use = Till::open(BUILT_PROFILE, Totals::existing(place.file())).unwrap_err();
+    assert_eq!(system_kind(&in_use), Some(ErrorKind::WouldBlock));
+    totals.write(day, 0, [9]).unwrap();
+    drop(totals);
+    drop(till);
+    let till = Till::open(BUILT_PROFILE, Totals::existing(place.file())).unwrap();
+    assert_eq!(till.hard_totals("t1").unwrap().enabled().unwrap().read(day, 0, 1).unwrap(), [9]);
+    let till = self::till();
+    let totals = till.hard_totals("t1").unwrap().enabled().unwrap();
+    assert!(system::is_so_forked(|| totals.create("DAY", 1, false).is_ok()));
+    totals.create("DAY", 1, false).unwrap();
 }
 
 #[test]
