@@ -76,9 +76,25 @@ impl LockedFile {
         Ok(LockedFile { file, process: process::id() })
     }
 
+    /// Locks a file that is only read.
+    fn shared(file: File) -> io::Result<LockedFile> {
+        file.try_lock_shared()?;
+        Ok(LockedFile { file, process: process::id() })
+    }
+
     /// Whether this process has locked the file. One that was forked has it too, but the file isn't its own.
     pub(crate) fn is_own(&self) -> bool {
         self.process == process::id()
+    }
+}
+
+impl Drop for LockedFile {
+    /// Unlocks the file. A process that was forked meanwhile has it too, and would keep it locked; but it doesn't unlock
+    /// it itself.
+    fn drop(&mut self) {
+        if self.is_own() {
+            let _ = self.file.unlock();
+        }
     }
 }
 
@@ -107,10 +123,9 @@ pub(crate) fn open_existing(path: &Path) -> io::Result<LockedFile> {
 
 /// The bytes of a file that no till has open, as many as totals have.
 pub(crate) fn read_file(path: &Path) -> io::Result<Vec<u8>> {
-    let file = File::open(path)?;
-    file.try_lock_shared()?;
+    let file = LockedFile::shared(File::open(path)?)?;
     let mut bytes = Vec::new();
-    file.take(DISK_LENGTH).read_to_end(&mut bytes)?;
+    (&*file).take(DISK_LENGTH).read_to_end(&mut bytes)?;
     Ok(bytes)
 }
 

@@ -87,6 +87,7 @@ fn totals_stay_in_their_file() {
     let short = Till::open(BUILT_PROFILE, Totals::existing(place.file())).unwrap_err();
     assert!(matches!(short.cause(), Cause::TooSmall));
     a_forked_process_writes_nothing();
+    a_lock_ends_with_its_call_or_till();
 }
 
 fn a_forked_process_writes_nothing() {
@@ -120,6 +121,28 @@ fn a_forked_process_writes_nothing() {
     let totals = till.hard_totals("t1").unwrap().enabled().unwrap();
     assert!(system::is_so_forked(|| totals.create("DAY", 1, false).is_ok()));
     totals.create("DAY", 1, false).unwrap();
+}
+
+fn a_lock_ends_with_its_call_or_till() {
+    let place = Place::new("lock");
+    system::with_lingering(|| {
+        let taken = Till::open(BUILT_PROFILE, Totals::create_new(place.file())).unwrap();
+        assert_eq!(system_kind(&check(place.file()).unwrap_err()), Some(ErrorKind::WouldBlock));
+        drop(taken);
+        check(place.file()).unwrap();
+        migrate(place.file()).unwrap();
+        assert!(matches!(migrate(place.file()).unwrap_err().cause(), Cause::Moved));
+        let refused = Till::open("nonsense", Totals::existing(place.file())).unwrap_err();
+        assert!(matches!(refused.cause(), Cause::BadProfile(_)));
+        let till = Till::open(BUILT_PROFILE, Totals::existing(place.file())).unwrap();
+        assert!(system::is_so_forked(|| {
+            // SAFETY: the process ends before it would drop it again.
+            unsafe { drop(std::ptr::read(&till)) };
+            true
+        }));
+        let in_use = Till::open(BUILT_PROFILE, Totals::existing(place.file())).unwrap_err();
+        assert_eq!(system_kind(&in_use), Some(ErrorKind::WouldBlock));
+    });
 }
 
 #[test]

@@ -1,10 +1,24 @@
-//! What the tests have of the system beside Rust's library.
-use std::ffi::c_int;
+//! What the tests have of the system beside Rust's library. A function that the crate calls is in place of the system's.
+use std::cell::{Cell, RefCell};
+use std::ffi::{c_int, c_long};
 
 extern "C" {
     fn fork() -> c_int;
     fn waitpid(process: c_int, status: *mut c_int, options: c_int) -> c_int;
+    fn kill(process: c_int, signal: c_int) -> c_int;
+    fn pause() -> c_int;
     fn _exit(status: c_int) -> !;
+    fn syscall(number: c_long, ...) -> c_long;
+}
+
+/// Linux's numbers, on x86-64.
+const SYS_FLOCK: c_long = 73;
+const LOCK_UN: c_int = 8;
+const SIGKILL: c_int = 9;
+
+thread_local! {
+    static LINGERS: Cell<bool> = const { Cell::new(false) };
+    static LINGERING: RefCell<Vec<c_int>> = const { RefCell::new(Vec::new()) };
 }
 
 /// Whether a process that is forked finds something so. It panics nowhere, since it has this thread alone.
@@ -18,4 +32,50 @@ pub fn is_so_forked(finds: impl FnOnce() -> bool) -> bool {
         let mut status = -1;
         waitpid(child, &mut status, 0) == child && status == 0
     }
+}
+
+/// Locks a file or unlocks it. In [`with_lingering`] a process is forked behind a lock, and has the file too.
+///
+/// # Safety
+///
+/// As the system's.
+#[no_mangle]
+pub unsafe extern "C" fn flock(file: c_int, operation: c_int) -> c_int {
+    // SAFETY: the file is the caller's, and the forked process does nothing until it is ended.
+    unsafe {
+        let done = syscall(SYS_FLOCK, file, operation) as c_int;
+        if done == 0 && operation & LOCK_UN == 0 && LINGERS.get() {
+            let child = fork();
+            if child == 0 {
+                loop {
+                    pause();
+                }
+            }
+            LINGERING.with_borrow_mut(|list| list.push(child));
+        }
+        done
+    }
+}
+
+/// Does something. From each lock of a file on a process that was forked has the file too, as one has that is about to
+/// run a program.
+pub fn with_lingering<R>(does: impl FnOnce() -> R) -> R {
+    struct Lingering;
+
+    impl Drop for Lingering {
+        fn drop(&mut self) {
+            LINGERS.set(false);
+            for child in LINGERING.take() {
+                // SAFETY: this process has forked it, and nobody has waited for it.
+                unsafe {
+                    kill(child, SIGKILL);
+                    waitpid(child, &mut 0, 0);
+                }
+            }
+        }
+    }
+
+    let _lingering = Lingering;
+    LINGERS.set(true);
+    does()
 }
