@@ -1,15 +1,16 @@
 //! The file of a till's totals: opened or created, and locked.
 use crate::error::Cause;
+use crate::ports::{EINVAL, O_NONBLOCK};
 use crate::raw::{kijolvar_format_file, linkat, AT_FDCWD, AT_SYMLINK_FOLLOW, O_TMPFILE};
 use crate::standard::library::DISK_LENGTH;
 use crate::till::Inner;
-use std::ffi::CString;
+use std::ffi::{c_int, CString};
 use std::fs::{File, OpenOptions};
-use std::io::{self, Read};
+use std::io::{self, ErrorKind};
 use std::ops::Deref;
 use std::os::fd::AsRawFd;
 use std::os::unix::ffi::OsStrExt;
-use std::os::unix::fs::OpenOptionsExt;
+use std::os::unix::fs::{FileExt, OpenOptionsExt};
 use std::path::{Path, PathBuf};
 use std::process;
 
@@ -50,9 +51,9 @@ impl Totals {
             Totals::Existing(path) => open_existing(path).map(Some).map_err(Cause::System),
             Totals::CreateNew(path) => create_new(path, profile).map(Some),
             Totals::Create(path) => match open_existing(path) {
-                Err(cause) if cause.kind() == io::ErrorKind::NotFound => match create_new(path, profile) {
+                Err(cause) if cause.kind() == ErrorKind::NotFound => match create_new(path, profile) {
                     // Another till created it in between.
-                    Err(Cause::System(cause)) if cause.kind() == io::ErrorKind::AlreadyExists => {
+                    Err(Cause::System(cause)) if cause.kind() == ErrorKind::AlreadyExists => {
                         open_existing(path).map(Some).map_err(Cause::System)
                     }
                     created => created.map(Some),
@@ -108,7 +109,7 @@ impl Deref for LockedFile {
 
 /// The folder that a path is in, and the name that the path's file has there.
 fn folder_of(path: &Path) -> io::Result<(&Path, CString)> {
-    let name = path.file_name().ok_or(io::ErrorKind::InvalidInput)?;
+    let name = path.file_name().ok_or(ErrorKind::InvalidInput)?;
     let folder = path.parent().filter(|folder| !folder.as_os_str().is_empty());
     Ok((folder.unwrap_or(Path::new(".")), CString::new(name.as_bytes())?))
 }
@@ -121,11 +122,27 @@ pub(crate) fn open_existing(path: &Path) -> io::Result<LockedFile> {
     Ok(file)
 }
 
-/// The bytes of a file that no till has open, as many as totals have.
+/// The system's number of a fault: the file system is only read.
+const EROFS: c_int = 30;
+
+/// The bytes of a file that no till has open, as many as totals have. What a till wrote last before it was killed may
+/// be in memory alone, so it is synced first. A file system that can't sync can't be written. A pipe isn't waited for.
 pub(crate) fn read_file(path: &Path) -> io::Result<Vec<u8>> {
-    let file = LockedFile::shared(File::open(path)?)?;
-    let mut bytes = Vec::new();
-    (&*file).take(DISK_LENGTH).read_to_end(&mut bytes)?;
+    let file = LockedFile::shared(OpenOptions::new().read(true).custom_flags(O_NONBLOCK).open(path)?)?;
+    match file.sync_all() {
+        Err(fault) if !matches!(fault.raw_os_error(), Some(EINVAL | EROFS)) => return Err(fault),
+        _ => {}
+    }
+    let (mut bytes, mut count) = (vec![0; DISK_LENGTH as usize], 0);
+    loop {
+        match file.read_at(&mut bytes[count..], count as u64) {
+            Ok(0) => break,
+            Ok(more) => count += more,
+            Err(fault) if fault.kind() == ErrorKind::Interrupted => {}
+            Err(fault) => return Err(fault),
+        }
+    }
+    bytes.truncate(count);
     Ok(bytes)
 }
 

@@ -173,6 +173,35 @@ fn files_are_told_and_moved() {
     assert!(matches!(check(place.file()).unwrap_err().cause(), Cause::Unformatted));
     std::fs::write(place.file(), "short").unwrap();
     assert!(matches!(migrate(place.file()).unwrap_err().cause(), Cause::TooSmall));
+    what_is_told_is_synced();
+    a_pipe_is_not_waited_for();
+}
+
+fn what_is_told_is_synced() {
+    let place = Place::new("synced");
+    drop(Till::open(BUILT_PROFILE, Totals::create(place.file())).unwrap());
+    const EINVAL: i32 = 22;
+    const EROFS: i32 = 30;
+    for fault in [0, EINVAL, EROFS] {
+        let (found, syncs) = system::with_sync_fault(fault, || check(place.file()));
+        assert_eq!((found.is_ok(), syncs), (true, 1));
+    }
+    let (failed, _) = system::with_sync_fault(5, || check(place.file()).unwrap_err());
+    assert!(matches!(failed.cause(), Cause::System(fault) if fault.raw_os_error() == Some(5)));
+}
+
+fn a_pipe_is_not_waited_for() {
+    let place = Place::new("pipe");
+    system::make_pipe(&place.file());
+    let (done, waiting) = channel();
+    spawn({
+        let path = place.file();
+        move || done.send(check(path))
+    });
+    let pipe = waiting.recv_timeout(Duration::from_secs(10)).unwrap().unwrap_err();
+    assert_eq!(system_kind(&pipe), Some(ErrorKind::NotSeekable));
+    assert_eq!(system_kind(&check(&place.0).unwrap_err()), Some(ErrorKind::IsADirectory));
+    assert!(matches!(check("/dev/null").unwrap_err().cause(), Cause::TooSmall));
 }
 
 #[test]

@@ -1,24 +1,31 @@
 //! What the tests have of the system beside Rust's library. A function that the crate calls is in place of the system's.
 use std::cell::{Cell, RefCell};
-use std::ffi::{c_int, c_long};
+use std::ffi::{c_char, c_int, c_long, c_uint, CString};
+use std::os::unix::ffi::OsStrExt;
+use std::path::Path;
 
 extern "C" {
     fn fork() -> c_int;
     fn waitpid(process: c_int, status: *mut c_int, options: c_int) -> c_int;
     fn kill(process: c_int, signal: c_int) -> c_int;
     fn pause() -> c_int;
+    fn mkfifo(path: *const c_char, mode: c_uint) -> c_int;
     fn _exit(status: c_int) -> !;
     fn syscall(number: c_long, ...) -> c_long;
+    fn __errno_location() -> *mut c_int;
 }
 
 /// Linux's numbers, on x86-64.
 const SYS_FLOCK: c_long = 73;
+const SYS_FSYNC: c_long = 74;
 const LOCK_UN: c_int = 8;
 const SIGKILL: c_int = 9;
 
 thread_local! {
     static LINGERS: Cell<bool> = const { Cell::new(false) };
     static LINGERING: RefCell<Vec<c_int>> = const { RefCell::new(Vec::new()) };
+    static SYNCS: Cell<u32> = const { Cell::new(0) };
+    static SYNC_FAULT: Cell<c_int> = const { Cell::new(0) };
 }
 
 /// Whether a process that is forked finds something so. It panics nowhere, since it has this thread alone.
@@ -78,4 +85,38 @@ pub fn with_lingering<R>(does: impl FnOnce() -> R) -> R {
     let _lingering = Lingering;
     LINGERS.set(true);
     does()
+}
+
+/// Syncs a file, and counts that.
+///
+/// # Safety
+///
+/// As the system's.
+#[no_mangle]
+pub unsafe extern "C" fn fsync(file: c_int) -> c_int {
+    SYNCS.set(SYNCS.get() + 1);
+    // SAFETY: the file is the caller's, and the number of the fault is this thread's.
+    unsafe {
+        if SYNC_FAULT.get() == 0 {
+            return syscall(SYS_FSYNC, file) as c_int;
+        }
+        *__errno_location() = SYNC_FAULT.get();
+        -1
+    }
+}
+
+/// Does something, and counts the syncs. Each fails with the system's number of a fault, if that isn't 0.
+pub fn with_sync_fault<R>(fault: c_int, does: impl FnOnce() -> R) -> (R, u32) {
+    SYNCS.set(0);
+    SYNC_FAULT.set(fault);
+    let found = does();
+    SYNC_FAULT.set(0);
+    (found, SYNCS.get())
+}
+
+/// Makes a pipe with a name.
+pub fn make_pipe(path: &Path) {
+    let path = CString::new(path.as_os_str().as_bytes()).unwrap();
+    // SAFETY: it is a text that ends in a 0 byte, lent for the call.
+    assert_eq!(unsafe { mkfifo(path.as_ptr(), 0o600) }, 0);
 }
