@@ -8,7 +8,7 @@ use crate::line::{is_name, value_of, Answer, Line};
 use crate::questions::explain;
 use crate::raw::*;
 use crate::stack::with_stack;
-use crate::standard::{library, Category};
+use crate::standard::{library, Category, ResultCode};
 use crate::totals_file::{LockedFile, Totals};
 use crate::views::{self, DisplayView, PrinterView};
 use crate::wire::{Asked, PrinterReply, WireSettings};
@@ -43,6 +43,8 @@ pub(crate) struct Inner {
     errand: Vec<u8>,
     pub(crate) text: Vec<u8>,
     controls: Vec<Entry>,
+    /// The places of controls that were given back, and aren't closed yet.
+    unclosed: Vec<usize>,
     names: u64,
     pub(crate) drives: Drives,
 }
@@ -63,7 +65,8 @@ pub(crate) fn opening_cause(code: u32, profile: &str) -> Cause {
 impl Inner {
     fn new(at: Raw, totals: Option<LockedFile>, errand: Vec<u8>) -> Inner {
         let drives = Drives::default();
-        Inner { at, totals, errand, text: vec![0; 256], controls: Vec::new(), names: 0, drives }
+        let (controls, unclosed) = (Vec::new(), Vec::new());
+        Inner { at, totals, errand, text: vec![0; 256], controls, unclosed, names: 0, drives }
     }
 
     /// A till with totals in memory.
@@ -206,6 +209,7 @@ impl Inner {
 
     /// Makes a control, or takes one that was given back: its place.
     fn control(&mut self, category: Category, name: Option<&str>) -> Result<usize, Cause> {
+        self.close_given_back();
         let fits =
             |entry: &Entry| entry.is_free && entry.category == category && name.is_none_or(|name| name == entry.name);
         if let Some(place) = self.controls.iter().position(fits) {
@@ -224,6 +228,25 @@ impl Inner {
             let number = self.number_of(&made)?;
             self.controls.push(Entry { name: made, category, number, is_free: false });
             return Ok(self.controls.len() - 1);
+        }
+    }
+
+    /// Whether a control is closed, which is tried. If there is no memory for the answer, that isn't known.
+    fn is_closed(&mut self, place: usize) -> bool {
+        let line = Line::new("close").name(&self.controls[place].name);
+        let Ok(answer) = self.ask(&line) else { return false };
+        matches!(value_of(&answer, None), Ok(_) | Err(Cause::Code(ResultCode::Closed)))
+    }
+
+    /// Closes the controls that were given back. One that can't be closed, as without memory, is open and may be claimed
+    /// still: it isn't handed out, and this is tried again with the next call.
+    fn close_given_back(&mut self) {
+        while let Some(&place) = self.unclosed.last() {
+            if !self.is_closed(place) {
+                return;
+            }
+            self.controls[place].is_free = true;
+            self.unclosed.pop();
         }
     }
 
@@ -253,6 +276,7 @@ impl Inner {
     /// The first control, by its number, that has an event to deliver: its name and category. Lines may have made
     /// controls that aren't in the list, and those are passed over.
     fn control_with_event(&mut self) -> Result<Option<(String, Category)>, Cause> {
+        self.close_given_back();
         let mut from = 0;
         while let Some(number) = self.next_event(from)? {
             if let Ok(place) = self.controls.binary_search_by_key(&number, |entry| entry.number) {
@@ -442,7 +466,9 @@ impl Till {
 
     /// Carries out one line: its whole answer.
     pub(crate) fn answer(&self, call: &'static str, line: &Line) -> Result<String, Error> {
-        self.inner.borrow_mut().ask(line).map_err(|cause| Error::new(call, cause))
+        let mut inner = self.inner.borrow_mut();
+        inner.close_given_back();
+        inner.ask(line).map_err(|cause| Error::new(call, cause))
     }
 
     /// Carries out one line of a control of this category, or of a device: what is behind `ok`.
@@ -463,13 +489,11 @@ impl Till {
         Ok((inner.controls[place].name.clone(), place))
     }
 
-    /// Closes a control, and hands it out again from now on.
+    /// Closes a control, and hands it out again from then on.
     pub(crate) fn give_back(&self, place: usize) {
         let mut inner = self.inner.borrow_mut();
-        let line = Line::new("close").name(&inner.controls[place].name);
-        // A control that is closed already answers E_CLOSED; a till whose disk failed answers nothing more.
-        let _ = inner.ask(&line);
-        inner.controls[place].is_free = true;
+        inner.unclosed.push(place);
+        inner.close_given_back();
     }
 
     /// Delivers the next event of any control: the control's name, and the event. Of several controls with an event it

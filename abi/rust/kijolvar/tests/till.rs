@@ -380,6 +380,33 @@ fn controls_are_handed_out_again() {
     assert!(matches!(HardTotals::named(&till, "gun").unwrap_err().cause(), Cause::NameInUse));
     drop(named);
     assert_eq!(Scanner::named(&till, "gun").unwrap().name(), "gun");
+    a_control_is_handed_out_only_when_it_is_closed();
+}
+
+fn a_control_is_handed_out_only_when_it_is_closed() {
+    let till = till();
+    // Without memory, lines of a till with a driver aren't carried out.
+    till.drive("r1", Paper).unwrap();
+    let drops = || {
+        let printer = till.pos_printer("r1").unwrap().enabled().unwrap();
+        let name = printer.name().to_string();
+        system::without_memory(|| drop(printer));
+        assert_eq!(till.carry_out(format!("get {name} Claimed")).unwrap(), "ok true\n");
+        name
+    };
+    let name = drops();
+    let refused = system::without_memory(|| PosPrinter::new(&till).map(|_| ()).unwrap_err());
+    assert!(matches!(refused.cause(), Cause::NoMemory));
+    let printer = till.pos_printer("r1").unwrap().enabled().unwrap();
+    assert_eq!(printer.name(), name);
+    drop(printer);
+    let other = PosPrinter::named(&till, "other").unwrap();
+    other.open("r1").unwrap();
+    drops();
+    drop(other.enabled().unwrap());
+    let name = drops();
+    assert!(till.next_event().unwrap().is_none());
+    assert_eq!(till.carry_out(format!("get {name} Claimed")).unwrap(), "err 101\n");
 }
 
 #[test]

@@ -1,6 +1,6 @@
 //! What the tests have of the system beside Rust's library. A function that the crate calls is in place of the system's.
 use std::cell::{Cell, RefCell};
-use std::ffi::{c_char, c_int, c_long, c_uint, CString};
+use std::ffi::{c_char, c_int, c_long, c_uint, c_void, CString};
 use std::os::unix::ffi::OsStrExt;
 use std::path::Path;
 
@@ -13,6 +13,9 @@ extern "C" {
     fn _exit(status: c_int) -> !;
     fn syscall(number: c_long, ...) -> c_long;
     fn __errno_location() -> *mut c_int;
+    fn malloc(size: usize) -> *mut c_void;
+    fn realloc(at: *mut c_void, size: usize) -> *mut c_void;
+    fn free(at: *mut c_void);
 }
 
 /// Linux's numbers, on x86-64.
@@ -26,6 +29,7 @@ thread_local! {
     static LINGERING: RefCell<Vec<c_int>> = const { RefCell::new(Vec::new()) };
     static SYNCS: Cell<u32> = const { Cell::new(0) };
     static SYNC_FAULT: Cell<c_int> = const { Cell::new(0) };
+    static HAS_MEMORY: Cell<bool> = const { Cell::new(true) };
 }
 
 /// Whether a process that is forked finds something so. It panics nowhere, since it has this thread alone.
@@ -119,4 +123,58 @@ pub fn make_pipe(path: &Path) {
     let path = CString::new(path.as_os_str().as_bytes()).unwrap();
     // SAFETY: it is a text that ends in a 0 byte, lent for the call.
     assert_eq!(unsafe { mkfifo(path.as_ptr(), 0o600) }, 0);
+}
+
+/// What the heap of the library answers: whether there is memory, and where; else any place but null.
+#[repr(C)]
+pub struct Tried {
+    is_there: bool,
+    at: *mut c_void,
+}
+
+fn tried(find: impl FnOnce() -> *mut c_void) -> Tried {
+    let found = if HAS_MEMORY.get() { find() } else { std::ptr::null_mut() };
+    let is_there = !found.is_null();
+    Tried { is_there, at: if is_there { found } else { std::ptr::dangling_mut::<u64>().cast() } }
+}
+
+/// Allocates for the library.
+///
+/// # Safety
+///
+/// As `malloc`.
+#[no_mangle]
+pub unsafe extern "C" fn rattle_alloc(size: usize, align: usize) -> Tried {
+    // SAFETY: the size isn't 0.
+    tried(|| unsafe { malloc(if size != 0 { size } else { align }) })
+}
+
+/// Allocates again for the library.
+///
+/// # Safety
+///
+/// As `realloc`.
+#[no_mangle]
+pub unsafe extern "C" fn rattle_realloc(at: *mut c_void, _kept: usize, size: usize, align: usize) -> Tried {
+    // SAFETY: the library has the place from here.
+    tried(|| unsafe { realloc(at, if size != 0 { size } else { align }) })
+}
+
+/// Frees for the library.
+///
+/// # Safety
+///
+/// As `free`.
+#[no_mangle]
+pub unsafe extern "C" fn rattle_dealloc(at: *mut c_void) {
+    // SAFETY: the library has the place from here.
+    unsafe { free(at) }
+}
+
+/// Does something while the library gets no memory.
+pub fn without_memory<R>(does: impl FnOnce() -> R) -> R {
+    HAS_MEMORY.set(false);
+    let found = does();
+    HAS_MEMORY.set(true);
+    found
 }
