@@ -23,6 +23,7 @@ type Job = Box<dyn FnOnce(&Till) + Send>;
 ///         scope.spawn(move || actor.run(move |till| CashDrawer::of(till, &drawer)?.open_drawer()));
 ///     }
 /// });
+/// actor.run(move |till| drawer.discard(till))?;
 /// drop(actor);
 /// thread.join().unwrap();
 /// # Ok::<(), kijolvar::Error>(())

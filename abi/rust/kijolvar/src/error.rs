@@ -54,6 +54,8 @@ pub enum Cause {
     Full,
     /// The control or the key is of another till.
     OtherTill,
+    /// The control was discarded by its key.
+    Discarded,
     /// The profile has no device of the name, or no peripheral is attached to it.
     BadDevice,
     /// The device has no such input.
@@ -158,6 +160,7 @@ impl fmt::Display for Cause {
             Cause::NameInUse => "a control has the name already",
             Cause::Full => "the till has as many controls as it may have",
             Cause::OtherTill => "the control is of another till",
+            Cause::Discarded => "the control was discarded",
             Cause::BadDevice => "there is no device of the name, or it has no peripheral",
             Cause::BadInput => "the device has no such input, or its number is out of range",
             Cause::WrongKind => "the device is of another kind",

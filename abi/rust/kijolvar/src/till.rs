@@ -28,12 +28,24 @@ pub const BUILT_PROFILE: &str = "";
 /// A call of the library that makes a till over a file's bytes.
 type Begin = unsafe extern "C" fn(*const u8, usize, *const u8, usize, *mut *mut c_void) -> u32;
 
-/// A control that the library has: its name, its category and its number, and whether it may be handed out again.
+/// A control that the library has.
 struct Entry {
     name: String,
+    /// Whether its name was chosen. Then only who chooses it again gets the control.
+    is_chosen: bool,
     category: Category,
     number: usize,
+    /// Whether it may be handed out again.
     is_free: bool,
+    /// How often it was given back.
+    turn: u64,
+}
+
+impl Entry {
+    /// Whether the control may be handed out for a category, and a chosen name if there is one.
+    fn fits(&self, category: Category, name: Option<&str>) -> bool {
+        self.is_free && self.category == category && name.map_or(!self.is_chosen, |name| name == self.name)
+    }
 }
 
 /// What a till has.
@@ -210,10 +222,10 @@ impl Inner {
     /// Makes a control, or takes one that was given back: its place.
     fn control(&mut self, category: Category, name: Option<&str>) -> Result<usize, Cause> {
         self.close_given_back();
-        let fits =
-            |entry: &Entry| entry.is_free && entry.category == category && name.is_none_or(|name| name == entry.name);
-        if let Some(place) = self.controls.iter().position(fits) {
-            self.controls[place].is_free = false;
+        let is_chosen = name.is_some();
+        if let Some(place) = self.controls.iter().position(|entry| entry.fits(category, name)) {
+            let entry = &mut self.controls[place];
+            (entry.is_free, entry.is_chosen) = (false, is_chosen);
             return Ok(place);
         }
         loop {
@@ -226,7 +238,7 @@ impl Inner {
                 Err(cause) => return Err(cause),
             }
             let number = self.number_of(&made)?;
-            self.controls.push(Entry { name: made, category, number, is_free: false });
+            self.controls.push(Entry { name: made, is_chosen, category, number, is_free: false, turn: 0 });
             return Ok(self.controls.len() - 1);
         }
     }
@@ -478,20 +490,27 @@ impl Till {
         Ok(Answer::new(call, text.split_off(text.len() - value)))
     }
 
-    /// Makes a control: its name, and its place.
-    pub(crate) fn new_control(&self, category: Category, name: Option<&str>) -> Result<(String, usize), Error> {
+    /// Makes a control: its name, its place, and its turn.
+    pub(crate) fn new_control(&self, category: Category, name: Option<&str>) -> Result<(String, usize, u64), Error> {
         let failed = |cause| Error::new("new control", cause);
         if name.is_some_and(|name| !is_name(name)) {
             return Err(failed(Cause::BadArgument));
         }
         let mut inner = self.inner.borrow_mut();
         let place = inner.control(category, name).map_err(failed)?;
-        Ok((inner.controls[place].name.clone(), place))
+        let entry = &inner.controls[place];
+        Ok((entry.name.clone(), place, entry.turn))
+    }
+
+    /// Whether a control wasn't given back since its turn began.
+    pub(crate) fn has_turn(&self, place: usize, turn: u64) -> bool {
+        self.inner.borrow().controls[place].turn == turn
     }
 
     /// Closes a control, and hands it out again from then on.
     pub(crate) fn give_back(&self, place: usize) {
         let mut inner = self.inner.borrow_mut();
+        inner.controls[place].turn += 1;
         inner.unclosed.push(place);
         inner.close_given_back();
     }

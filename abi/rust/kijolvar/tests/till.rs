@@ -380,6 +380,16 @@ fn controls_are_handed_out_again() {
     assert!(matches!(HardTotals::named(&till, "gun").unwrap_err().cause(), Cause::NameInUse));
     drop(named);
     assert_eq!(Scanner::named(&till, "gun").unwrap().name(), "gun");
+    let (other, third) = (Scanner::new(&till).unwrap(), Scanner::new(&till).unwrap());
+    let gun = Scanner::named(&till, "gun").unwrap();
+    assert!(Scanner::named(&till, "gun").is_err());
+    let chosen = other.name().to_string();
+    drop((other, third, gun));
+    // A name that the till made up may be chosen too.
+    drop(Scanner::named(&till, &chosen).unwrap());
+    let others = [Scanner::new(&till).unwrap(), Scanner::new(&till).unwrap()];
+    assert!(others.iter().all(|other| other.name() != "gun" && other.name() != chosen));
+    assert_eq!(Scanner::named(&till, &chosen).unwrap().name(), chosen);
     a_control_is_handed_out_only_when_it_is_closed();
 }
 
@@ -416,8 +426,22 @@ fn keys_are_of_one_till() {
     CashDrawer::of(&till, &key).unwrap().open_drawer().unwrap();
     assert!(CashDrawer::of(&till, &key).unwrap().drawer_opened().unwrap());
     assert!(matches!(CashDrawer::of(&other, &key).unwrap_err().cause(), Cause::OtherTill));
+    assert!(matches!(key.clone().discard(&other).unwrap_err().cause(), Cause::OtherTill));
     let events: Vec<_> = till.events().collect::<Result<_, _>>().unwrap();
     assert!(matches!(events[..], [(_, Event::StatusUpdate(StatusUpdate::Drawer(_)))]));
+    let (kept, stale) = (CashDrawer::of(&till, &key).unwrap(), key.clone());
+    key.discard(&till).unwrap();
+    let again = till.cash_drawer("d1").unwrap().enabled().unwrap();
+    assert_eq!(again.name(), kept.name());
+    assert!(matches!(kept.open_drawer().unwrap_err().cause(), Cause::Discarded));
+    assert!(matches!(kept.next_event().unwrap_err().cause(), Cause::Discarded));
+    assert!(matches!(CashDrawer::of(&till, &stale).unwrap_err().cause(), Cause::Discarded));
+    assert!(matches!(CashDrawer::of(&till, &kept.into_key()).unwrap_err().cause(), Cause::Discarded));
+    assert!(matches!(stale.discard(&till).unwrap_err().cause(), Cause::Discarded));
+    assert!(again.device_enabled().unwrap());
+    for _ in 0..5000 {
+        till.cash_drawer("d1").unwrap().into_key().discard(&till).unwrap();
+    }
 }
 
 #[test]
