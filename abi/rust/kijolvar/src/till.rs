@@ -285,15 +285,14 @@ impl Inner {
         }
     }
 
-    /// The first control, by its number, that has an event to deliver: its name and category. Lines may have made
-    /// controls that aren't in the list, and those are passed over.
-    fn control_with_event(&mut self) -> Result<Option<(String, Category)>, Cause> {
+    /// The first control, by its number from one on, that has an event to deliver: its number, name and category. Lines
+    /// may have made controls that aren't in the list, and those are passed over.
+    fn control_with_event(&mut self, mut from: usize) -> Result<Option<(usize, String, Category)>, Cause> {
         self.close_given_back();
-        let mut from = 0;
         while let Some(number) = self.next_event(from)? {
             if let Ok(place) = self.controls.binary_search_by_key(&number, |entry| entry.number) {
                 let entry = &self.controls[place];
-                return Ok(Some((entry.name.clone(), entry.category)));
+                return Ok(Some((number, entry.name.clone(), entry.category)));
             }
             from = number + 1;
         }
@@ -523,12 +522,19 @@ impl Till {
     ///
     /// [`Cause::DiskFailed`], [`Cause::NoAnswer`], [`Cause::BadAnswer`].
     pub fn next_event(&self) -> Result<Option<(String, Event)>, Error> {
-        let found = self.inner.borrow_mut().control_with_event().map_err(|cause| Error::new("next_event", cause))?;
-        let Some((name, category)) = found else { return Ok(None) };
+        self.next_event_from(&mut 0)
+    }
+
+    /// Delivers the next event of the controls from a number on, which is the one behind its control then.
+    fn next_event_from(&self, from: &mut usize) -> Result<Option<(String, Event)>, Error> {
+        let found = self.inner.borrow_mut().control_with_event(*from);
+        let found = found.map_err(|cause| Error::new("next_event", cause))?;
+        let Some((number, name, category)) = found else { return Ok(None) };
+        *from = number + 1;
         Ok(Event::deliver(self, &name, category, None)?.map(|event| (name, event)))
     }
 
-    /// Returns an iterator that delivers the events of all controls, until none is left.
+    /// Returns an iterator that delivers the events of all controls, one of each in turn, until none is left.
     ///
     /// ```
     /// # use kijolvar::{standard::DrawerStatus, Event, StatusUpdate, Till, Totals, BUILT_PROFILE};
@@ -541,7 +547,14 @@ impl Till {
     /// # Ok::<(), kijolvar::Error>(())
     /// ```
     pub fn events(&self) -> Events<'_, (String, Event)> {
-        Events::new(Box::new(|| self.next_event()))
+        let mut from = 0;
+        Events::new(Box::new(move || match self.next_event_from(&mut from)? {
+            None if from > 0 => {
+                from = 0;
+                self.next_event_from(&mut from)
+            }
+            found => Ok(found),
+        }))
     }
 
     fn ask_device(&self, call: &'static str, line: Line) -> Result<(), Error> {

@@ -314,6 +314,33 @@ fn the_next_event_is_of_any_control() {
     assert_eq!(all, [(scanner.name().to_string(), Event::Data)]);
     assert_eq!(till.carry_out("deliver raw").unwrap(), "event StatusUpdateEvent 1\n");
     assert_eq!(next(), None);
+    all_events_come_in_turn();
+}
+
+fn all_events_come_in_turn() {
+    let till = till();
+    let first = till.cash_drawer("d1").unwrap().enabled().unwrap();
+    till.carry_out("new raw CashDrawer\nopen raw d1\nset raw DeviceEnabled true").unwrap();
+    let second = till.cash_drawer("d1").unwrap().enabled().unwrap();
+    for is_open in [true, false] {
+        till.input_drawer("d1", is_open).unwrap();
+    }
+    let mut events = till.events();
+    let mut next = || events.next().map(|event| event.unwrap().0);
+    for name in [first.name(), second.name(), first.name(), second.name()] {
+        assert_eq!(next().as_deref(), Some(name));
+    }
+    assert_eq!((next(), next()), (None, None));
+    let scanner = till.scanner("s1").unwrap().enabled().unwrap();
+    scanner.set_data_event_enabled(true).unwrap();
+    drop(second);
+    till.input_scan("s1", 104, "a", "a").unwrap();
+    till.input_drawer("d1", true).unwrap();
+    // What makes another event each time keeps no other back.
+    for (is_open, name) in [(false, first.name()), (true, scanner.name()), (false, first.name())] {
+        assert_eq!(next().as_deref(), Some(name));
+        till.input_drawer("d1", is_open).unwrap();
+    }
 }
 
 #[test]
