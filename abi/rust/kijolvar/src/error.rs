@@ -19,7 +19,7 @@ pub enum Cause {
     Code(ResultCode),
     /// The control refused the call with E_EXTENDED and this extended code.
     Extended(ExtendedCode),
-    /// There was no memory, or no thread to read a profile, and nothing was done.
+    /// There was no memory, or no thread to read a profile or for an actor, and nothing was done.
     NoMemory,
     /// The call was carried out, but there was no memory for its answer.
     NoAnswer,

@@ -473,7 +473,7 @@ fn keys_are_of_one_till() {
 
 #[test]
 fn an_actor_serves_several_threads() {
-    let (actor, thread) = Actor::start(till());
+    let (actor, thread) = Actor::start(till()).unwrap();
     let totals = actor
         .run(|till| {
             let totals = till.hard_totals("t1")?.enabled()?;
@@ -505,15 +505,25 @@ fn an_actor_serves_several_threads() {
     assert!(matches!(actor.run(|_| Ok(())).unwrap_err().cause(), Cause::ActorEnded));
 }
 
+fn an_actor_may_get_no_thread() {
+    let place = Place::new("actor");
+    let till = Till::open(BUILT_PROFILE, Totals::create(place.file())).unwrap();
+    let refused = system::without_threads(|| Actor::start(till).map(|_| ()).unwrap_err());
+    assert!(matches!(refused.cause(), Cause::NoMemory));
+    // The till is dropped, and its file may be used.
+    check(place.file()).unwrap();
+}
+
 #[test]
 fn an_actor_does_not_wait_for_itself() {
-    let (actor, thread) = Actor::start(till());
+    let (actor, thread) = Actor::start(till()).unwrap();
     let inside = actor.clone();
     let waits = actor.run(move |_| inside.run(|_| Ok(()))).unwrap_err();
     assert!(matches!(waits.cause(), Cause::InsideActor));
     actor.run(|till| till.input_drawer("d1", true)).unwrap();
     drop(actor);
     thread.join().unwrap();
+    an_actor_may_get_no_thread();
 }
 
 #[test]

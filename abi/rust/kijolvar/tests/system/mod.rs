@@ -1,6 +1,6 @@
 //! What the tests have of the system beside Rust's library. A function that the crate calls is in place of the system's.
 use std::cell::{Cell, RefCell};
-use std::ffi::{c_char, c_int, c_long, c_uint, c_void, CString};
+use std::ffi::{c_char, c_int, c_long, c_uint, c_ulong, c_void, CString};
 use std::os::unix::ffi::OsStrExt;
 use std::path::Path;
 
@@ -16,13 +16,21 @@ extern "C" {
     fn malloc(size: usize) -> *mut c_void;
     fn realloc(at: *mut c_void, size: usize) -> *mut c_void;
     fn free(at: *mut c_void);
+    fn dlsym(library: *mut c_void, name: *const c_char) -> *mut c_void;
 }
+
+/// A function of the system that begins a thread.
+type Begin =
+    unsafe extern "C" fn(*mut c_ulong, *const c_void, extern "C" fn(*mut c_void) -> *mut c_void, *mut c_void) -> c_int;
 
 /// Linux's numbers, on x86-64.
 const SYS_FLOCK: c_long = 73;
 const SYS_FSYNC: c_long = 74;
 const LOCK_UN: c_int = 8;
 const SIGKILL: c_int = 9;
+const EAGAIN: c_int = 11;
+/// The functions behind those of this program.
+const RTLD_NEXT: isize = -1;
 
 thread_local! {
     static LINGERS: Cell<bool> = const { Cell::new(false) };
@@ -30,6 +38,7 @@ thread_local! {
     static SYNCS: Cell<u32> = const { Cell::new(0) };
     static SYNC_FAULT: Cell<c_int> = const { Cell::new(0) };
     static HAS_MEMORY: Cell<bool> = const { Cell::new(true) };
+    static HAS_THREADS: Cell<bool> = const { Cell::new(true) };
 }
 
 /// Whether a process that is forked finds something so. It panics nowhere, since it has this thread alone.
@@ -176,5 +185,35 @@ pub fn without_memory<R>(does: impl FnOnce() -> R) -> R {
     HAS_MEMORY.set(false);
     let found = does();
     HAS_MEMORY.set(true);
+    found
+}
+
+/// Begins a thread, as the system does.
+///
+/// # Safety
+///
+/// As the system's.
+#[no_mangle]
+pub unsafe extern "C" fn pthread_create(
+    thread: *mut c_ulong,
+    attributes: *const c_void,
+    run: extern "C" fn(*mut c_void) -> *mut c_void,
+    with: *mut c_void,
+) -> c_int {
+    if !HAS_THREADS.get() {
+        return EAGAIN;
+    }
+    // SAFETY: the system has the function, which takes what this takes.
+    unsafe {
+        let begin = dlsym(std::ptr::without_provenance_mut(RTLD_NEXT as usize), c"pthread_create".as_ptr());
+        std::mem::transmute::<*mut c_void, Begin>(begin)(thread, attributes, run, with)
+    }
+}
+
+/// Does something while the system gives no thread.
+pub fn without_threads<R>(does: impl FnOnce() -> R) -> R {
+    HAS_THREADS.set(false);
+    let found = does();
+    HAS_THREADS.set(true);
     found
 }
