@@ -250,8 +250,8 @@ impl Inner {
         matches!(value_of(&answer, None), Ok(_) | Err(Cause::Code(ResultCode::Closed)))
     }
 
-    /// Closes the controls that were given back. One that can't be closed, as without memory, is open and may be claimed
-    /// still: it isn't handed out, and this is tried again with the next call.
+    /// Closes the controls that were given back. One that can't be closed, as without memory, is open still and may be
+    /// claimed: it isn't handed out, and this is tried again with the next call.
     fn close_given_back(&mut self) {
         while let Some(&place) = self.unclosed.last() {
             if !self.is_closed(place) {

@@ -90,8 +90,8 @@ impl LockedFile {
 }
 
 impl Drop for LockedFile {
-    /// Unlocks the file. A process that was forked meanwhile has it too, and would keep it locked; but it doesn't unlock
-    /// it itself.
+    /// Unlocks the file. A process that was forked meanwhile has it too, and would keep it locked; but it doesn't
+    /// unlock it itself.
     fn drop(&mut self) {
         if self.is_own() {
             let _ = self.file.unlock();
