@@ -461,7 +461,7 @@ impl<'till> {name}<'till> {{
     }}
 
     /// Makes a control, which is closed, with a name in lines of the text interface: 1 to 16 letters, digits or
-    /// hyphens.
+    /// hyphens. Once it is dropped, you can make one of this category and name again.
     ///
     /// # Errors
     ///
@@ -474,12 +474,12 @@ impl<'till> {name}<'till> {{
     ///
     /// # Errors
     ///
-    /// [`Cause::OtherTill`].
+    /// [`Cause::OtherTill`], [`Cause::Discarded`].
     pub fn of(till: &'till Till, key: &Key<{name}<'static>>) -> Result<{name}<'till>, Error> {{
         Ok({name} {{ control: Control::of(till, Category::{name}, key)? }})
     }}
 
-    /// Keeps the control open, and returns its key.
+    /// Keeps the control open, and returns its key. [`Key::discard`] closes it.
     pub fn into_key(self) -> Key<{name}<'static>> {{
         self.control.into_key()
     }}

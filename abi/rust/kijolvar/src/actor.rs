@@ -2,7 +2,7 @@
 use crate::error::{Cause, Error};
 use crate::till::Till;
 use std::sync::mpsc::{channel, Sender};
-use std::thread::{current, spawn, JoinHandle, ThreadId};
+use std::thread::{current, Builder, JoinHandle, ThreadId};
 
 /// What the till's thread does next.
 type Job = Box<dyn FnOnce(&Till) + Send>;
@@ -15,7 +15,7 @@ type Job = Box<dyn FnOnce(&Till) + Send>;
 /// ```
 /// use kijolvar::{Actor, CashDrawer, Till, Totals, BUILT_PROFILE};
 ///
-/// let (actor, thread) = Actor::start(Till::open(BUILT_PROFILE, Totals::Memory)?);
+/// let (actor, thread) = Actor::start(Till::open(BUILT_PROFILE, Totals::Memory)?)?;
 /// let drawer = actor.run(|till| Ok(till.cash_drawer("d1")?.enabled()?.into_key()))?;
 /// std::thread::scope(|scope| {
 ///     for _ in 0..4 {
@@ -23,6 +23,7 @@ type Job = Box<dyn FnOnce(&Till) + Send>;
 ///         scope.spawn(move || actor.run(move |till| CashDrawer::of(till, &drawer)?.open_drawer()));
 ///     }
 /// });
+/// actor.run(move |till| drawer.discard(till))?;
 /// drop(actor);
 /// thread.join().unwrap();
 /// # Ok::<(), kijolvar::Error>(())
@@ -35,14 +36,19 @@ pub struct Actor {
 
 impl Actor {
     /// Moves a till to a thread of its own. Join the thread to wait until the till is dropped.
-    pub fn start(till: Till) -> (Actor, JoinHandle<()>) {
+    ///
+    /// # Errors
+    ///
+    /// [`Cause::NoMemory`] if the system gives no thread. The till is dropped then.
+    pub fn start(till: Till) -> Result<(Actor, JoinHandle<()>), Error> {
         let (jobs, work) = channel::<Job>();
-        let thread = spawn(move || {
+        let thread = Builder::new().spawn(move || {
             for job in work {
                 job(&till);
             }
         });
-        (Actor { jobs, thread: thread.thread().id() }, thread)
+        let thread = thread.map_err(|_| Error::new("Actor::start", Cause::NoMemory))?;
+        Ok((Actor { jobs, thread: thread.thread().id() }, thread))
     }
 
     /// Does work on the till, waits for it, and returns what it returns.

@@ -17,37 +17,41 @@ pub struct Control<'till> {
     category: Category,
     name: String,
     place: usize,
+    turn: u64,
     is_kept: bool,
 }
 
 /// A control of type `T` that is kept open, by which its till finds it again ([`Control`]). It may go to another
 /// thread.
+///
+/// A till has at most 4,096 controls, so [`Key::discard`] the key of a control that you need no more.
 pub struct Key<T> {
     till: u64,
     name: String,
     place: usize,
+    turn: u64,
     of: PhantomData<fn() -> T>,
 }
 
 impl<'till> Control<'till> {
     /// Makes a control, which is closed. If it has a name, no other control of the till may have it.
     pub(crate) fn new(till: &'till Till, category: Category, name: Option<&str>) -> Result<Control<'till>, Error> {
-        let (name, place) = till.new_control(category, name)?;
-        Ok(Control { till, category, name, place, is_kept: false })
+        let (name, place, turn) = till.new_control(category, name)?;
+        Ok(Control { till, category, name, place, turn, is_kept: false })
     }
 
     /// Keeps the control open, and returns its key.
     pub(crate) fn into_key<T>(mut self) -> Key<T> {
         self.is_kept = true;
-        Key { till: self.till.number(), name: std::mem::take(&mut self.name), place: self.place, of: PhantomData }
+        let (till, name) = (self.till.number(), std::mem::take(&mut self.name));
+        Key { till, name, place: self.place, turn: self.turn, of: PhantomData }
     }
 
     /// Finds a control by its key. It stays open when it is dropped.
     pub(crate) fn of<T>(till: &'till Till, category: Category, key: &Key<T>) -> Result<Control<'till>, Error> {
-        if key.till != till.number() {
-            return Err(Error::new("of", Cause::OtherTill));
-        }
-        Ok(Control { till, category, name: key.name.clone(), place: key.place, is_kept: true })
+        key.check("of", till)?;
+        let (name, place, turn) = (key.name.clone(), key.place, key.turn);
+        Ok(Control { till, category, name, place, turn, is_kept: true })
     }
 
     /// Returns the control's name in lines of the text interface.
@@ -70,8 +74,18 @@ impl<'till> Control<'till> {
         Line::new(verb).name(&self.name)
     }
 
+    /// Returns an error if the control was discarded by its key: another may be the till's control of this name now.
+    fn check(&self, call: &'static str) -> Result<(), Error> {
+        if self.till.has_turn(self.place, self.turn) {
+            Ok(())
+        } else {
+            Err(Error::new(call, Cause::Discarded))
+        }
+    }
+
     /// Carries out a line on the control: what is behind `ok`.
     pub(crate) fn ask(&self, call: &'static str, line: &Line) -> Result<Answer, Error> {
+        self.check(call)?;
         self.till.ask(call, Some(self.category), line)
     }
 
@@ -120,6 +134,7 @@ impl<'till> Control<'till> {
     ///
     /// [`Cause::DiskFailed`], [`Cause::NoAnswer`], [`Cause::BadAnswer`].
     pub fn next_event(&self) -> Result<Option<Event>, Error> {
+        self.check("deliver")?;
         Event::deliver(self.till, &self.name, self.category, None)
     }
 
@@ -129,6 +144,7 @@ impl<'till> Control<'till> {
     ///
     /// As [`Control::next_event`].
     pub fn next_event_replied(&self, reply: ErrorReply) -> Result<Option<Event>, Error> {
+        self.check("deliver")?;
         Event::deliver(self.till, &self.name, self.category, Some(reply))
     }
 
@@ -207,9 +223,34 @@ impl fmt::Debug for Control<'_> {
     }
 }
 
+impl<T> Key<T> {
+    /// Returns an error if the key is of no control of the till.
+    fn check(&self, call: &'static str, till: &Till) -> Result<(), Error> {
+        if self.till != till.number() {
+            Err(Error::new(call, Cause::OtherTill))
+        } else if till.has_turn(self.place, self.turn) {
+            Ok(())
+        } else {
+            Err(Error::new(call, Cause::Discarded))
+        }
+    }
+
+    /// Closes the control if it is open, and gives it back to its till, which may use it again for another one. Clones
+    /// of the key, and controls that were found by it, are refused from then on.
+    ///
+    /// # Errors
+    ///
+    /// [`Cause::OtherTill`], [`Cause::Discarded`].
+    pub fn discard(self, till: &Till) -> Result<(), Error> {
+        self.check("discard", till)?;
+        till.give_back(self.place);
+        Ok(())
+    }
+}
+
 impl<T> Clone for Key<T> {
     fn clone(&self) -> Key<T> {
-        Key { till: self.till, name: self.name.clone(), place: self.place, of: PhantomData }
+        Key { till: self.till, name: self.name.clone(), place: self.place, turn: self.turn, of: PhantomData }
     }
 }
 

@@ -272,7 +272,7 @@ impl<'till> CashDrawer<'till> {
     }
 
     /// Makes a control, which is closed, with a name in lines of the text interface: 1 to 16 letters, digits or
-    /// hyphens.
+    /// hyphens. Once it is dropped, you can make one of this category and name again.
     ///
     /// # Errors
     ///
@@ -285,12 +285,12 @@ impl<'till> CashDrawer<'till> {
     ///
     /// # Errors
     ///
-    /// [`Cause::OtherTill`].
+    /// [`Cause::OtherTill`], [`Cause::Discarded`].
     pub fn of(till: &'till Till, key: &Key<CashDrawer<'static>>) -> Result<CashDrawer<'till>, Error> {
         Ok(CashDrawer { control: Control::of(till, Category::CashDrawer, key)? })
     }
 
-    /// Keeps the control open, and returns its key.
+    /// Keeps the control open, and returns its key. [`Key::discard`] closes it.
     pub fn into_key(self) -> Key<CashDrawer<'static>> {
         self.control.into_key()
     }
@@ -382,7 +382,7 @@ impl<'till> Scanner<'till> {
     }
 
     /// Makes a control, which is closed, with a name in lines of the text interface: 1 to 16 letters, digits or
-    /// hyphens.
+    /// hyphens. Once it is dropped, you can make one of this category and name again.
     ///
     /// # Errors
     ///
@@ -395,12 +395,12 @@ impl<'till> Scanner<'till> {
     ///
     /// # Errors
     ///
-    /// [`Cause::OtherTill`].
+    /// [`Cause::OtherTill`], [`Cause::Discarded`].
     pub fn of(till: &'till Till, key: &Key<Scanner<'static>>) -> Result<Scanner<'till>, Error> {
         Ok(Scanner { control: Control::of(till, Category::Scanner, key)? })
     }
 
-    /// Keeps the control open, and returns its key.
+    /// Keeps the control open, and returns its key. [`Key::discard`] closes it.
     pub fn into_key(self) -> Key<Scanner<'static>> {
         self.control.into_key()
     }
@@ -585,7 +585,7 @@ impl<'till> LineDisplay<'till> {
     }
 
     /// Makes a control, which is closed, with a name in lines of the text interface: 1 to 16 letters, digits or
-    /// hyphens.
+    /// hyphens. Once it is dropped, you can make one of this category and name again.
     ///
     /// # Errors
     ///
@@ -598,12 +598,12 @@ impl<'till> LineDisplay<'till> {
     ///
     /// # Errors
     ///
-    /// [`Cause::OtherTill`].
+    /// [`Cause::OtherTill`], [`Cause::Discarded`].
     pub fn of(till: &'till Till, key: &Key<LineDisplay<'static>>) -> Result<LineDisplay<'till>, Error> {
         Ok(LineDisplay { control: Control::of(till, Category::LineDisplay, key)? })
     }
 
-    /// Keeps the control open, and returns its key.
+    /// Keeps the control open, and returns its key. [`Key::discard`] closes it.
     pub fn into_key(self) -> Key<LineDisplay<'static>> {
         self.control.into_key()
     }
@@ -826,7 +826,7 @@ impl<'till> PosPrinter<'till> {
     }
 
     /// Makes a control, which is closed, with a name in lines of the text interface: 1 to 16 letters, digits or
-    /// hyphens.
+    /// hyphens. Once it is dropped, you can make one of this category and name again.
     ///
     /// # Errors
     ///
@@ -839,12 +839,12 @@ impl<'till> PosPrinter<'till> {
     ///
     /// # Errors
     ///
-    /// [`Cause::OtherTill`].
+    /// [`Cause::OtherTill`], [`Cause::Discarded`].
     pub fn of(till: &'till Till, key: &Key<PosPrinter<'static>>) -> Result<PosPrinter<'till>, Error> {
         Ok(PosPrinter { control: Control::of(till, Category::PosPrinter, key)? })
     }
 
-    /// Keeps the control open, and returns its key.
+    /// Keeps the control open, and returns its key. [`Key::discard`] closes it.
     pub fn into_key(self) -> Key<PosPrinter<'static>> {
         self.control.into_key()
     }
@@ -1074,7 +1074,7 @@ impl<'till> HardTotals<'till> {
     }
 
     /// Makes a control, which is closed, with a name in lines of the text interface: 1 to 16 letters, digits or
-    /// hyphens.
+    /// hyphens. Once it is dropped, you can make one of this category and name again.
     ///
     /// # Errors
     ///
@@ -1087,12 +1087,12 @@ impl<'till> HardTotals<'till> {
     ///
     /// # Errors
     ///
-    /// [`Cause::OtherTill`].
+    /// [`Cause::OtherTill`], [`Cause::Discarded`].
     pub fn of(till: &'till Till, key: &Key<HardTotals<'static>>) -> Result<HardTotals<'till>, Error> {
         Ok(HardTotals { control: Control::of(till, Category::HardTotals, key)? })
     }
 
-    /// Keeps the control open, and returns its key.
+    /// Keeps the control open, and returns its key. [`Key::discard`] closes it.
     pub fn into_key(self) -> Key<HardTotals<'static>> {
         self.control.into_key()
     }

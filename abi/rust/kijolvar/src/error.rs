@@ -19,7 +19,7 @@ pub enum Cause {
     Code(ResultCode),
     /// The control refused the call with E_EXTENDED and this extended code.
     Extended(ExtendedCode),
-    /// There was no memory, or no thread to read a profile, and nothing was done.
+    /// There was no memory, or no thread to read a profile or for an actor, and nothing was done.
     NoMemory,
     /// The call was carried out, but there was no memory for its answer.
     NoAnswer,
@@ -35,7 +35,8 @@ pub enum Cause {
     /// The totals in the file have layout 2 already.
     Moved,
     /// The file of the totals couldn't be written. The last call may be in it or not, and the till can only be dropped.
-    /// The first call that fails has the system's reason, if there is one.
+    /// The first call that fails has the reason, if there is one. A process that was forked from the till's never
+    /// writes the file.
     DiskFailed(Option<io::Error>),
     /// The system refused the file of the totals: `NotFound` if it is missing, `AlreadyExists` if it is there already,
     /// `WouldBlock` if another till has it.
@@ -53,6 +54,8 @@ pub enum Cause {
     Full,
     /// The control or the key is of another till.
     OtherTill,
+    /// The control was discarded by its key.
+    Discarded,
     /// The profile has no device of the name, or no peripheral is attached to it.
     BadDevice,
     /// The device has no such input.
@@ -157,6 +160,7 @@ impl fmt::Display for Cause {
             Cause::NameInUse => "a control has the name already",
             Cause::Full => "the till has as many controls as it may have",
             Cause::OtherTill => "the control is of another till",
+            Cause::Discarded => "the control was discarded",
             Cause::BadDevice => "there is no device of the name, or it has no peripheral",
             Cause::BadInput => "the device has no such input, or its number is out of range",
             Cause::WrongKind => "the device is of another kind",

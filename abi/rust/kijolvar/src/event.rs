@@ -119,7 +119,7 @@ impl Event {
 }
 
 /// Delivers the next event, if there is one.
-type Deliver<'till, T> = Box<dyn Fn() -> Result<Option<T>, Error> + 'till>;
+type Deliver<'till, T> = Box<dyn FnMut() -> Result<Option<T>, Error> + 'till>;
 
 /// An iterator that delivers events until none is left. It ends after an error.
 pub struct Events<'till, T> {
@@ -136,7 +136,7 @@ impl<T> Iterator for Events<'_, T> {
     type Item = Result<T, Error>;
 
     fn next(&mut self) -> Option<Self::Item> {
-        let found = (self.next.as_ref()?)();
+        let found = (self.next.as_mut()?)();
         if found.is_err() {
             self.next = None;
         }

@@ -192,7 +192,7 @@ extern "C" {
 const POLLIN: c_short = 1;
 const POLLOUT: c_short = 4;
 const POLLERR_HUP_NVAL: c_short = 0x38;
-const O_NONBLOCK: c_int = 0o4000;
+pub(crate) const O_NONBLOCK: c_int = 0o4000;
 const O_NOCTTY: c_int = 0o400;
 const TCGETS: c_ulong = 0x5401;
 const TCSETS: c_ulong = 0x5402;
@@ -208,7 +208,7 @@ const TCP_KEEPIDLE: c_int = 4;
 const TCP_KEEPINTVL: c_int = 5;
 const TCP_USER_TIMEOUT: c_int = 18;
 const ENODEV: c_int = 19;
-const EINVAL: c_int = 22;
+pub(crate) const EINVAL: c_int = 22;
 const ENOTTY: c_int = 25;
 const EPIPE: c_int = 32;
 pub(crate) const ETIMEDOUT: c_int = 110;

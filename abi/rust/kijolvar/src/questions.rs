@@ -174,7 +174,7 @@ fn read_contents(text: &str) -> Option<TotalsContents> {
     Some(TotalsContents { layout: layout as u32, slot, sequence, records, room, files })
 }
 
-/// Returns what a file of totals holds. The file is only read; no till may have it open.
+/// Returns what a file of totals holds. The file is synced and read; no till may have it open.
 ///
 /// # Errors
 ///
@@ -195,7 +195,7 @@ pub fn files(path: impl AsRef<Path>) -> Result<TotalsContents, Error> {
     }
 }
 
-/// Checks that a file holds sound totals. The file is only read; no till may have it open.
+/// Checks that a file holds sound totals. The file is synced and read; no till may have it open.
 ///
 /// # Errors
 ///

@@ -8,14 +8,15 @@ use crate::line::{is_name, value_of, Answer, Line};
 use crate::questions::explain;
 use crate::raw::*;
 use crate::stack::with_stack;
-use crate::standard::{library, Category};
-use crate::totals_file::Totals;
+use crate::standard::{library, Category, ResultCode};
+use crate::totals_file::{LockedFile, Totals};
 use crate::views::{self, DisplayView, PrinterView};
 use crate::wire::{Asked, PrinterReply, WireSettings};
 use std::cell::RefCell;
 use std::ffi::c_void;
 use std::fmt;
 use std::fs::File;
+use std::io;
 use std::os::unix::fs::FileExt;
 use std::sync::atomic::{AtomicU64, Ordering};
 use std::time::Duration;
@@ -27,21 +28,35 @@ pub const BUILT_PROFILE: &str = "";
 /// A call of the library that makes a till over a file's bytes.
 type Begin = unsafe extern "C" fn(*const u8, usize, *const u8, usize, *mut *mut c_void) -> u32;
 
-/// A control that the library has: its name, its category and its number, and whether it may be handed out again.
+/// A control that the library has.
 struct Entry {
     name: String,
+    /// Whether its name was chosen. Then only who chooses it again gets the control.
+    is_chosen: bool,
     category: Category,
     number: usize,
+    /// Whether it may be handed out again.
     is_free: bool,
+    /// How often it was given back.
+    turn: u64,
+}
+
+impl Entry {
+    /// Whether the control may be handed out for a category, and a chosen name if there is one.
+    fn fits(&self, category: Category, name: Option<&str>) -> bool {
+        self.is_free && self.category == category && name.map_or(!self.is_chosen, |name| name == self.name)
+    }
 }
 
 /// What a till has.
 pub(crate) struct Inner {
     pub(crate) at: Raw,
-    totals: Option<File>,
+    totals: Option<LockedFile>,
     errand: Vec<u8>,
     pub(crate) text: Vec<u8>,
     controls: Vec<Entry>,
+    /// The places of controls that were given back, and aren't closed yet.
+    unclosed: Vec<usize>,
     names: u64,
     pub(crate) drives: Drives,
 }
@@ -60,9 +75,10 @@ pub(crate) fn opening_cause(code: u32, profile: &str) -> Cause {
 }
 
 impl Inner {
-    fn new(at: Raw, totals: Option<File>, errand: Vec<u8>) -> Inner {
+    fn new(at: Raw, totals: Option<LockedFile>, errand: Vec<u8>) -> Inner {
         let drives = Drives::default();
-        Inner { at, totals, errand, text: vec![0; 256], controls: Vec::new(), names: 0, drives }
+        let (controls, unclosed) = (Vec::new(), Vec::new());
+        Inner { at, totals, errand, text: vec![0; 256], controls, unclosed, names: 0, drives }
     }
 
     /// A till with totals in memory.
@@ -80,7 +96,7 @@ impl Inner {
     }
 
     /// A till over a file's bytes, which are the room for its errands from then on.
-    pub(crate) fn over_file(profile: &str, file: File, bytes: Vec<u8>, begin: Begin) -> Result<Inner, Cause> {
+    pub(crate) fn over_file(profile: &str, file: LockedFile, bytes: Vec<u8>, begin: Begin) -> Result<Inner, Cause> {
         let (code, at) = with_stack(|| {
             let mut at = std::ptr::null_mut();
             // SAFETY: slices and a place, lent for the call.
@@ -102,11 +118,12 @@ impl Inner {
     }
 
     /// Ends the till, and returns the file of its totals.
-    pub(crate) fn into_file(mut self) -> Option<File> {
+    pub(crate) fn into_file(mut self) -> Option<LockedFile> {
         self.totals.take()
     }
 
-    /// Does in the file what the till's disk did, errand by errand.
+    /// Does in the file what the till's disk did, errand by errand. A process that was forked does none: the one that
+    /// opened the till writes the file, and would write over what another wrote.
     pub(crate) fn settle(&mut self) -> Result<(), Cause> {
         let Some(file) = &self.totals else { return Ok(()) };
         loop {
@@ -118,6 +135,9 @@ impl Inner {
             };
             let done = match code {
                 library::OK => return Ok(()),
+                library::WRITE | library::SYNC if !file.is_own() => {
+                    Err(Some(io::Error::other("another process has opened the till")))
+                }
                 library::WRITE => file.write_all_at(&self.errand[..count], at).map_err(Some),
                 library::SYNC => file.sync_all().map_err(Some),
                 _ => Err(None),
@@ -201,10 +221,11 @@ impl Inner {
 
     /// Makes a control, or takes one that was given back: its place.
     fn control(&mut self, category: Category, name: Option<&str>) -> Result<usize, Cause> {
-        let fits =
-            |entry: &Entry| entry.is_free && entry.category == category && name.is_none_or(|name| name == entry.name);
-        if let Some(place) = self.controls.iter().position(fits) {
-            self.controls[place].is_free = false;
+        self.close_given_back();
+        let is_chosen = name.is_some();
+        if let Some(place) = self.controls.iter().position(|entry| entry.fits(category, name)) {
+            let entry = &mut self.controls[place];
+            (entry.is_free, entry.is_chosen) = (false, is_chosen);
             return Ok(place);
         }
         loop {
@@ -217,8 +238,27 @@ impl Inner {
                 Err(cause) => return Err(cause),
             }
             let number = self.number_of(&made)?;
-            self.controls.push(Entry { name: made, category, number, is_free: false });
+            self.controls.push(Entry { name: made, is_chosen, category, number, is_free: false, turn: 0 });
             return Ok(self.controls.len() - 1);
+        }
+    }
+
+    /// Whether a control is closed, which is tried. If there is no memory for the answer, that isn't known.
+    fn is_closed(&mut self, place: usize) -> bool {
+        let line = Line::new("close").name(&self.controls[place].name);
+        let Ok(answer) = self.ask(&line) else { return false };
+        matches!(value_of(&answer, None), Ok(_) | Err(Cause::Code(ResultCode::Closed)))
+    }
+
+    /// Closes the controls that were given back. One that can't be closed, as without memory, is open still and may be
+    /// claimed: it isn't handed out, and this is tried again with the next call.
+    fn close_given_back(&mut self) {
+        while let Some(&place) = self.unclosed.last() {
+            if !self.is_closed(place) {
+                return;
+            }
+            self.controls[place].is_free = true;
+            self.unclosed.pop();
         }
     }
 
@@ -245,14 +285,14 @@ impl Inner {
         }
     }
 
-    /// The first control, by its number, that has an event to deliver: its name and category. Lines may have made
-    /// controls that aren't in the list, and those are passed over.
-    fn control_with_event(&mut self) -> Result<Option<(String, Category)>, Cause> {
-        let mut from = 0;
+    /// The first control, by its number from one on, that has an event to deliver: its number, name and category. Lines
+    /// may have made controls that aren't in the list, and those are passed over.
+    fn control_with_event(&mut self, mut from: usize) -> Result<Option<(usize, String, Category)>, Cause> {
+        self.close_given_back();
         while let Some(number) = self.next_event(from)? {
             if let Ok(place) = self.controls.binary_search_by_key(&number, |entry| entry.number) {
                 let entry = &self.controls[place];
-                return Ok(Some((entry.name.clone(), entry.category)));
+                return Ok(Some((number, entry.name.clone(), entry.category)));
             }
             from = number + 1;
         }
@@ -342,6 +382,10 @@ impl Drop for Inner {
 ///
 /// A till may be moved to another thread (it is `Send`), and is used by one thread at a time (it isn't `Sync`). An
 /// [`Actor`] has one for several threads. Dropping a till closes its controls and the file of its totals.
+///
+/// A till over a file is for the process that opened it. In a process that was forked, a call that changes the totals
+/// fails with [`Cause::DiskFailed`], and the file stays as it is. If the totals are in memory, each process has its own
+/// till from then on.
 ///
 /// [`Actor`]: crate::Actor
 ///
@@ -433,7 +477,9 @@ impl Till {
 
     /// Carries out one line: its whole answer.
     pub(crate) fn answer(&self, call: &'static str, line: &Line) -> Result<String, Error> {
-        self.inner.borrow_mut().ask(line).map_err(|cause| Error::new(call, cause))
+        let mut inner = self.inner.borrow_mut();
+        inner.close_given_back();
+        inner.ask(line).map_err(|cause| Error::new(call, cause))
     }
 
     /// Carries out one line of a control of this category, or of a device: what is behind `ok`.
@@ -443,24 +489,29 @@ impl Till {
         Ok(Answer::new(call, text.split_off(text.len() - value)))
     }
 
-    /// Makes a control: its name, and its place.
-    pub(crate) fn new_control(&self, category: Category, name: Option<&str>) -> Result<(String, usize), Error> {
+    /// Makes a control: its name, its place, and its turn.
+    pub(crate) fn new_control(&self, category: Category, name: Option<&str>) -> Result<(String, usize, u64), Error> {
         let failed = |cause| Error::new("new control", cause);
         if name.is_some_and(|name| !is_name(name)) {
             return Err(failed(Cause::BadArgument));
         }
         let mut inner = self.inner.borrow_mut();
         let place = inner.control(category, name).map_err(failed)?;
-        Ok((inner.controls[place].name.clone(), place))
+        let entry = &inner.controls[place];
+        Ok((entry.name.clone(), place, entry.turn))
     }
 
-    /// Closes a control, and hands it out again from now on.
+    /// Whether a control wasn't given back since its turn began.
+    pub(crate) fn has_turn(&self, place: usize, turn: u64) -> bool {
+        self.inner.borrow().controls[place].turn == turn
+    }
+
+    /// Closes a control, and hands it out again from then on.
     pub(crate) fn give_back(&self, place: usize) {
         let mut inner = self.inner.borrow_mut();
-        let line = Line::new("close").name(&inner.controls[place].name);
-        // A control that is closed already answers E_CLOSED; a till whose disk failed answers nothing more.
-        let _ = inner.ask(&line);
-        inner.controls[place].is_free = true;
+        inner.controls[place].turn += 1;
+        inner.unclosed.push(place);
+        inner.close_given_back();
     }
 
     /// Delivers the next event of any control: the control's name, and the event. Of several controls with an event it
@@ -471,12 +522,19 @@ impl Till {
     ///
     /// [`Cause::DiskFailed`], [`Cause::NoAnswer`], [`Cause::BadAnswer`].
     pub fn next_event(&self) -> Result<Option<(String, Event)>, Error> {
-        let found = self.inner.borrow_mut().control_with_event().map_err(|cause| Error::new("next_event", cause))?;
-        let Some((name, category)) = found else { return Ok(None) };
+        self.next_event_from(&mut 0)
+    }
+
+    /// Delivers the next event of the controls from a number on, which is the one behind its control then.
+    fn next_event_from(&self, from: &mut usize) -> Result<Option<(String, Event)>, Error> {
+        let found = self.inner.borrow_mut().control_with_event(*from);
+        let found = found.map_err(|cause| Error::new("next_event", cause))?;
+        let Some((number, name, category)) = found else { return Ok(None) };
+        *from = number + 1;
         Ok(Event::deliver(self, &name, category, None)?.map(|event| (name, event)))
     }
 
-    /// Returns an iterator that delivers the events of all controls, until none is left.
+    /// Returns an iterator that delivers the events of all controls, one of each in turn, until none is left.
     ///
     /// ```
     /// # use kijolvar::{standard::DrawerStatus, Event, StatusUpdate, Till, Totals, BUILT_PROFILE};
@@ -489,7 +547,14 @@ impl Till {
     /// # Ok::<(), kijolvar::Error>(())
     /// ```
     pub fn events(&self) -> Events<'_, (String, Event)> {
-        Events::new(Box::new(|| self.next_event()))
+        let mut from = 0;
+        Events::new(Box::new(move || match self.next_event_from(&mut from)? {
+            None if from > 0 => {
+                from = 0;
+                self.next_event_from(&mut from)
+            }
+            found => Ok(found),
+        }))
     }
 
     fn ask_device(&self, call: &'static str, line: Line) -> Result<(), Error> {

@@ -1,15 +1,18 @@
 //! The file of a till's totals: opened or created, and locked.
 use crate::error::Cause;
+use crate::ports::{EINVAL, O_NONBLOCK};
 use crate::raw::{kijolvar_format_file, linkat, AT_FDCWD, AT_SYMLINK_FOLLOW, O_TMPFILE};
 use crate::standard::library::DISK_LENGTH;
 use crate::till::Inner;
-use std::ffi::CString;
+use std::ffi::{c_int, CString};
 use std::fs::{File, OpenOptions};
-use std::io::{self, Read};
+use std::io::{self, ErrorKind};
+use std::ops::Deref;
 use std::os::fd::AsRawFd;
 use std::os::unix::ffi::OsStrExt;
-use std::os::unix::fs::OpenOptionsExt;
+use std::os::unix::fs::{FileExt, OpenOptionsExt};
 use std::path::{Path, PathBuf};
+use std::process;
 
 /// Where a till has its totals.
 #[derive(Debug, Clone, PartialEq, Eq)]
@@ -42,15 +45,15 @@ impl Totals {
     }
 
     /// Opens or creates the file for a till over the profile, and locks it against every other till.
-    pub(crate) fn open(&self, profile: &str) -> Result<Option<File>, Cause> {
+    pub(crate) fn open(&self, profile: &str) -> Result<Option<LockedFile>, Cause> {
         match self {
             Totals::Memory => Ok(None),
             Totals::Existing(path) => open_existing(path).map(Some).map_err(Cause::System),
             Totals::CreateNew(path) => create_new(path, profile).map(Some),
             Totals::Create(path) => match open_existing(path) {
-                Err(cause) if cause.kind() == io::ErrorKind::NotFound => match create_new(path, profile) {
+                Err(cause) if cause.kind() == ErrorKind::NotFound => match create_new(path, profile) {
                     // Another till created it in between.
-                    Err(Cause::System(cause)) if cause.kind() == io::ErrorKind::AlreadyExists => {
+                    Err(Cause::System(cause)) if cause.kind() == ErrorKind::AlreadyExists => {
                         open_existing(path).map(Some).map_err(Cause::System)
                     }
                     created => created.map(Some),
@@ -61,34 +64,91 @@ impl Totals {
     }
 }
 
+/// A file that is locked against every other till, and the process that has locked it.
+pub(crate) struct LockedFile {
+    file: File,
+    process: u32,
+}
+
+impl LockedFile {
+    /// Locks a file.
+    fn new(file: File) -> io::Result<LockedFile> {
+        file.try_lock()?;
+        Ok(LockedFile { file, process: process::id() })
+    }
+
+    /// Locks a file that is only read.
+    fn shared(file: File) -> io::Result<LockedFile> {
+        file.try_lock_shared()?;
+        Ok(LockedFile { file, process: process::id() })
+    }
+
+    /// Whether this process has locked the file. One that was forked has it too, but the file isn't its own.
+    pub(crate) fn is_own(&self) -> bool {
+        self.process == process::id()
+    }
+}
+
+impl Drop for LockedFile {
+    /// Unlocks the file. A process that was forked meanwhile has it too, and would keep it locked; but it doesn't
+    /// unlock it itself.
+    fn drop(&mut self) {
+        if self.is_own() {
+            let _ = self.file.unlock();
+        }
+    }
+}
+
+impl Deref for LockedFile {
+    type Target = File;
+
+    fn deref(&self) -> &File {
+        &self.file
+    }
+}
+
 /// The folder that a path is in, and the name that the path's file has there.
 fn folder_of(path: &Path) -> io::Result<(&Path, CString)> {
-    let name = path.file_name().ok_or(io::ErrorKind::InvalidInput)?;
+    let name = path.file_name().ok_or(ErrorKind::InvalidInput)?;
     let folder = path.parent().filter(|folder| !folder.as_os_str().is_empty());
     Ok((folder.unwrap_or(Path::new(".")), CString::new(name.as_bytes())?))
 }
 
 /// Opens a file that is there, and locks it. Its folder is synced too, since a creation that was killed may have named
 /// the file and not synced its name.
-pub(crate) fn open_existing(path: &Path) -> io::Result<File> {
-    let file = OpenOptions::new().read(true).write(true).open(path)?;
-    file.try_lock()?;
+pub(crate) fn open_existing(path: &Path) -> io::Result<LockedFile> {
+    let file = LockedFile::new(OpenOptions::new().read(true).write(true).open(path)?)?;
     File::open(folder_of(path)?.0)?.sync_all()?;
     Ok(file)
 }
 
-/// The bytes of a file that no till has open, as many as totals have.
+/// The system's number of a fault: the file system is only read.
+const EROFS: c_int = 30;
+
+/// The bytes of a file that no till has open, as many as totals have. What a till wrote last before it was killed may
+/// be in memory alone, so it is synced first. A file system that can't sync can't be written. A pipe isn't waited for.
 pub(crate) fn read_file(path: &Path) -> io::Result<Vec<u8>> {
-    let file = File::open(path)?;
-    file.try_lock_shared()?;
-    let mut bytes = Vec::new();
-    file.take(DISK_LENGTH).read_to_end(&mut bytes)?;
+    let file = LockedFile::shared(OpenOptions::new().read(true).custom_flags(O_NONBLOCK).open(path)?)?;
+    match file.sync_all() {
+        Err(fault) if !matches!(fault.raw_os_error(), Some(EINVAL | EROFS)) => return Err(fault),
+        _ => {}
+    }
+    let (mut bytes, mut count) = (vec![0; DISK_LENGTH as usize], 0);
+    loop {
+        match file.read_at(&mut bytes[count..], count as u64) {
+            Ok(0) => break,
+            Ok(more) => count += more,
+            Err(fault) if fault.kind() == ErrorKind::Interrupted => {}
+            Err(fault) => return Err(fault),
+        }
+    }
+    bytes.truncate(count);
     Ok(bytes)
 }
 
 /// Creates a file of totals without files, and locks it. It gets its name when it is whole and synced, which never
 /// replaces anything, so a crash leaves nothing or all of it. A profile that is refused creates nothing.
-fn create_new(path: &Path, profile: &str) -> Result<File, Cause> {
+fn create_new(path: &Path, profile: &str) -> Result<LockedFile, Cause> {
     let (folder, name) = folder_of(path).map_err(Cause::System)?;
     let file = unnamed(folder).map_err(Cause::System)?;
     let mut till = Inner::over_file(profile, file, vec![0; DISK_LENGTH as usize], kijolvar_format_file)?;
@@ -99,9 +159,9 @@ fn create_new(path: &Path, profile: &str) -> Result<File, Cause> {
 }
 
 /// A locked file without a name, of zero bytes, as long as a disk.
-fn unnamed(folder: &Path) -> io::Result<File> {
+fn unnamed(folder: &Path) -> io::Result<LockedFile> {
     let file = OpenOptions::new().read(true).write(true).custom_flags(O_TMPFILE).mode(0o600).open(folder)?;
-    file.try_lock()?;
+    let file = LockedFile::new(file)?;
     file.set_len(DISK_LENGTH)?;
     Ok(file)
 }

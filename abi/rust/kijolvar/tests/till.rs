@@ -84,6 +84,63 @@ fn totals_stay_in_their_file() {
     std::fs::write(place.file(), "short").unwrap();
     let short = Till::open(BUILT_PROFILE, Totals::existing(place.file())).unwrap_err();
     assert!(matches!(short.cause(), Cause::TooSmall));
+    a_forked_process_writes_nothing();
+    a_lock_ends_with_its_call_or_till();
+}
+
+fn a_forked_process_writes_nothing() {
+    let place = Place::new("forked");
+    let till = Till::open(BUILT_PROFILE, Totals::create(place.file())).unwrap();
+    let totals = till.hard_totals("t1").unwrap().enabled().unwrap();
+    let day = totals.create("DAY", 1, false).unwrap();
+    let bytes = || std::fs::read(place.file()).unwrap_or_default();
+    let before = bytes();
+    assert!(system::is_so_forked(|| {
+        let failed = totals.write(day, 0, [7]).is_err_and(|error| {
+            let Cause::DiskFailed(Some(fault)) = error.cause() else { return false };
+            fault.to_string() == "another process has opened the till"
+        });
+        let fails = totals.write(day, 0, [8]).is_err_and(|error| matches!(error.cause(), Cause::DiskFailed(None)));
+        // SAFETY: the process ends before it would drop them again.
+        unsafe {
+            drop(std::ptr::read(&totals));
+            drop(std::ptr::read(&till));
+        }
+        failed && fails && bytes() == before
+    }));
+    let in_use = Till::open(BUILT_PROFILE, Totals::existing(place.file())).unwrap_err();
+    assert_eq!(system_kind(&in_use), Some(ErrorKind::WouldBlock));
+    totals.write(day, 0, [9]).unwrap();
+    drop(totals);
+    drop(till);
+    let till = Till::open(BUILT_PROFILE, Totals::existing(place.file())).unwrap();
+    assert_eq!(till.hard_totals("t1").unwrap().enabled().unwrap().read(day, 0, 1).unwrap(), [9]);
+    let till = self::till();
+    let totals = till.hard_totals("t1").unwrap().enabled().unwrap();
+    assert!(system::is_so_forked(|| totals.create("DAY", 1, false).is_ok()));
+    totals.create("DAY", 1, false).unwrap();
+}
+
+fn a_lock_ends_with_its_call_or_till() {
+    let place = Place::new("lock");
+    system::with_lingering(|| {
+        let taken = Till::open(BUILT_PROFILE, Totals::create_new(place.file())).unwrap();
+        assert_eq!(system_kind(&check(place.file()).unwrap_err()), Some(ErrorKind::WouldBlock));
+        drop(taken);
+        check(place.file()).unwrap();
+        migrate(place.file()).unwrap();
+        assert!(matches!(migrate(place.file()).unwrap_err().cause(), Cause::Moved));
+        let refused = Till::open("nonsense", Totals::existing(place.file())).unwrap_err();
+        assert!(matches!(refused.cause(), Cause::BadProfile(_)));
+        let till = Till::open(BUILT_PROFILE, Totals::existing(place.file())).unwrap();
+        assert!(system::is_so_forked(|| {
+            // SAFETY: the process ends before it would drop it again.
+            unsafe { drop(std::ptr::read(&till)) };
+            true
+        }));
+        let in_use = Till::open(BUILT_PROFILE, Totals::existing(place.file())).unwrap_err();
+        assert_eq!(system_kind(&in_use), Some(ErrorKind::WouldBlock));
+    });
 }
 
 #[test]
@@ -114,6 +171,35 @@ fn files_are_told_and_moved() {
     assert!(matches!(check(place.file()).unwrap_err().cause(), Cause::Unformatted));
     std::fs::write(place.file(), "short").unwrap();
     assert!(matches!(migrate(place.file()).unwrap_err().cause(), Cause::TooSmall));
+    what_is_told_is_synced();
+    a_pipe_is_not_waited_for();
+}
+
+fn what_is_told_is_synced() {
+    let place = Place::new("synced");
+    drop(Till::open(BUILT_PROFILE, Totals::create(place.file())).unwrap());
+    const EINVAL: i32 = 22;
+    const EROFS: i32 = 30;
+    for fault in [0, EINVAL, EROFS] {
+        let (found, syncs) = system::with_sync_fault(fault, || check(place.file()));
+        assert_eq!((found.is_ok(), syncs), (true, 1));
+    }
+    let (failed, _) = system::with_sync_fault(5, || check(place.file()).unwrap_err());
+    assert!(matches!(failed.cause(), Cause::System(fault) if fault.raw_os_error() == Some(5)));
+}
+
+fn a_pipe_is_not_waited_for() {
+    let place = Place::new("pipe");
+    system::make_pipe(&place.file());
+    let (done, waiting) = channel();
+    spawn({
+        let path = place.file();
+        move || done.send(check(path))
+    });
+    let pipe = waiting.recv_timeout(Duration::from_secs(10)).unwrap().unwrap_err();
+    assert_eq!(system_kind(&pipe), Some(ErrorKind::NotSeekable));
+    assert_eq!(system_kind(&check(&place.0).unwrap_err()), Some(ErrorKind::IsADirectory));
+    assert!(matches!(check("/dev/null").unwrap_err().cause(), Cause::TooSmall));
 }
 
 #[test]
@@ -226,6 +312,33 @@ fn the_next_event_is_of_any_control() {
     assert_eq!(all, [(scanner.name().to_string(), Event::Data)]);
     assert_eq!(till.carry_out("deliver raw").unwrap(), "event StatusUpdateEvent 1\n");
     assert_eq!(next(), None);
+    all_events_come_in_turn();
+}
+
+fn all_events_come_in_turn() {
+    let till = till();
+    let first = till.cash_drawer("d1").unwrap().enabled().unwrap();
+    till.carry_out("new raw CashDrawer\nopen raw d1\nset raw DeviceEnabled true").unwrap();
+    let second = till.cash_drawer("d1").unwrap().enabled().unwrap();
+    for is_open in [true, false] {
+        till.input_drawer("d1", is_open).unwrap();
+    }
+    let mut events = till.events();
+    let mut next = || events.next().map(|event| event.unwrap().0);
+    for name in [first.name(), second.name(), first.name(), second.name()] {
+        assert_eq!(next().as_deref(), Some(name));
+    }
+    assert_eq!((next(), next()), (None, None));
+    let scanner = till.scanner("s1").unwrap().enabled().unwrap();
+    scanner.set_data_event_enabled(true).unwrap();
+    drop(second);
+    till.input_scan("s1", 104, "a", "a").unwrap();
+    till.input_drawer("d1", true).unwrap();
+    // What makes another event each time keeps no other back.
+    for (is_open, name) in [(false, first.name()), (true, scanner.name()), (false, first.name())] {
+        assert_eq!(next().as_deref(), Some(name));
+        till.input_drawer("d1", is_open).unwrap();
+    }
 }
 
 #[test]
@@ -292,6 +405,43 @@ fn controls_are_handed_out_again() {
     assert!(matches!(HardTotals::named(&till, "gun").unwrap_err().cause(), Cause::NameInUse));
     drop(named);
     assert_eq!(Scanner::named(&till, "gun").unwrap().name(), "gun");
+    let (other, third) = (Scanner::new(&till).unwrap(), Scanner::new(&till).unwrap());
+    let gun = Scanner::named(&till, "gun").unwrap();
+    assert!(Scanner::named(&till, "gun").is_err());
+    let chosen = other.name().to_string();
+    drop((other, third, gun));
+    // A name that the till made up may be chosen too.
+    drop(Scanner::named(&till, &chosen).unwrap());
+    let others = [Scanner::new(&till).unwrap(), Scanner::new(&till).unwrap()];
+    assert!(others.iter().all(|other| other.name() != "gun" && other.name() != chosen));
+    assert_eq!(Scanner::named(&till, &chosen).unwrap().name(), chosen);
+    a_control_is_handed_out_only_when_it_is_closed();
+}
+
+fn a_control_is_handed_out_only_when_it_is_closed() {
+    let till = till();
+    // Without memory, lines of a till with a driver aren't carried out.
+    till.drive("r1", Paper).unwrap();
+    let drops = || {
+        let printer = till.pos_printer("r1").unwrap().enabled().unwrap();
+        let name = printer.name().to_string();
+        system::without_memory(|| drop(printer));
+        assert_eq!(till.carry_out(format!("get {name} Claimed")).unwrap(), "ok true\n");
+        name
+    };
+    let name = drops();
+    let refused = system::without_memory(|| PosPrinter::new(&till).map(|_| ()).unwrap_err());
+    assert!(matches!(refused.cause(), Cause::NoMemory));
+    let printer = till.pos_printer("r1").unwrap().enabled().unwrap();
+    assert_eq!(printer.name(), name);
+    drop(printer);
+    let other = PosPrinter::named(&till, "other").unwrap();
+    other.open("r1").unwrap();
+    drops();
+    drop(other.enabled().unwrap());
+    let name = drops();
+    assert!(till.next_event().unwrap().is_none());
+    assert_eq!(till.carry_out(format!("get {name} Claimed")).unwrap(), "err 101\n");
 }
 
 #[test]
@@ -301,13 +451,27 @@ fn keys_are_of_one_till() {
     CashDrawer::of(&till, &key).unwrap().open_drawer().unwrap();
     assert!(CashDrawer::of(&till, &key).unwrap().drawer_opened().unwrap());
     assert!(matches!(CashDrawer::of(&other, &key).unwrap_err().cause(), Cause::OtherTill));
+    assert!(matches!(key.clone().discard(&other).unwrap_err().cause(), Cause::OtherTill));
     let events: Vec<_> = till.events().collect::<Result<_, _>>().unwrap();
     assert!(matches!(events[..], [(_, Event::StatusUpdate(StatusUpdate::Drawer(_)))]));
+    let (kept, stale) = (CashDrawer::of(&till, &key).unwrap(), key.clone());
+    key.discard(&till).unwrap();
+    let again = till.cash_drawer("d1").unwrap().enabled().unwrap();
+    assert_eq!(again.name(), kept.name());
+    assert!(matches!(kept.open_drawer().unwrap_err().cause(), Cause::Discarded));
+    assert!(matches!(kept.next_event().unwrap_err().cause(), Cause::Discarded));
+    assert!(matches!(CashDrawer::of(&till, &stale).unwrap_err().cause(), Cause::Discarded));
+    assert!(matches!(CashDrawer::of(&till, &kept.into_key()).unwrap_err().cause(), Cause::Discarded));
+    assert!(matches!(stale.discard(&till).unwrap_err().cause(), Cause::Discarded));
+    assert!(again.device_enabled().unwrap());
+    for _ in 0..5000 {
+        till.cash_drawer("d1").unwrap().into_key().discard(&till).unwrap();
+    }
 }
 
 #[test]
 fn an_actor_serves_several_threads() {
-    let (actor, thread) = Actor::start(till());
+    let (actor, thread) = Actor::start(till()).unwrap();
     let totals = actor
         .run(|till| {
             let totals = till.hard_totals("t1")?.enabled()?;
@@ -339,15 +503,25 @@ fn an_actor_serves_several_threads() {
     assert!(matches!(actor.run(|_| Ok(())).unwrap_err().cause(), Cause::ActorEnded));
 }
 
+fn an_actor_may_get_no_thread() {
+    let place = Place::new("actor");
+    let till = Till::open(BUILT_PROFILE, Totals::create(place.file())).unwrap();
+    let refused = system::without_threads(|| Actor::start(till).map(|_| ()).unwrap_err());
+    assert!(matches!(refused.cause(), Cause::NoMemory));
+    // The till is dropped, and its file may be used.
+    check(place.file()).unwrap();
+}
+
 #[test]
 fn an_actor_does_not_wait_for_itself() {
-    let (actor, thread) = Actor::start(till());
+    let (actor, thread) = Actor::start(till()).unwrap();
     let inside = actor.clone();
     let waits = actor.run(move |_| inside.run(|_| Ok(()))).unwrap_err();
     assert!(matches!(waits.cause(), Cause::InsideActor));
     actor.run(|till| till.input_drawer("d1", true)).unwrap();
     drop(actor);
     thread.join().unwrap();
+    an_actor_may_get_no_thread();
 }
 
 #[test]
@@ -764,4 +938,231 @@ fn a_till_without_drivers_waits() {
     let (till, began, timeout) = (till(), Instant::now(), Duration::from_millis(30));
     assert!(!till.run_devices(timeout).unwrap());
     assert!(began.elapsed() >= timeout);
+}
+
+/// What the tests have of the system beside Rust's library. A function that the crate calls is in place of the
+/// system's.
+mod system {
+    use std::cell::{Cell, RefCell};
+    use std::ffi::{c_char, c_int, c_long, c_uint, c_ulong, c_void, CString};
+    use std::os::unix::ffi::OsStrExt;
+    use std::path::Path;
+
+    extern "C" {
+        fn fork() -> c_int;
+        fn waitpid(process: c_int, status: *mut c_int, options: c_int) -> c_int;
+        fn kill(process: c_int, signal: c_int) -> c_int;
+        fn pause() -> c_int;
+        fn mkfifo(path: *const c_char, mode: c_uint) -> c_int;
+        fn _exit(status: c_int) -> !;
+        fn syscall(number: c_long, ...) -> c_long;
+        fn __errno_location() -> *mut c_int;
+        fn malloc(size: usize) -> *mut c_void;
+        fn realloc(at: *mut c_void, size: usize) -> *mut c_void;
+        fn free(at: *mut c_void);
+        fn dlsym(library: *mut c_void, name: *const c_char) -> *mut c_void;
+    }
+
+    /// A function of the system that begins a thread.
+    type Begin = unsafe extern "C" fn(
+        *mut c_ulong,
+        *const c_void,
+        extern "C" fn(*mut c_void) -> *mut c_void,
+        *mut c_void,
+    ) -> c_int;
+
+    /// Linux's numbers, on x86-64.
+    const SYS_FLOCK: c_long = 73;
+    const SYS_FSYNC: c_long = 74;
+    const LOCK_UN: c_int = 8;
+    const SIGKILL: c_int = 9;
+    const EAGAIN: c_int = 11;
+    /// The functions behind those of this program.
+    const RTLD_NEXT: isize = -1;
+
+    thread_local! {
+        static LINGERS: Cell<bool> = const { Cell::new(false) };
+        static LINGERING: RefCell<Vec<c_int>> = const { RefCell::new(Vec::new()) };
+        static SYNCS: Cell<u32> = const { Cell::new(0) };
+        static SYNC_FAULT: Cell<c_int> = const { Cell::new(0) };
+        static HAS_MEMORY: Cell<bool> = const { Cell::new(true) };
+        static HAS_THREADS: Cell<bool> = const { Cell::new(true) };
+    }
+
+    /// Whether a process that is forked finds something so. It panics nowhere, since it has this thread alone.
+    pub fn is_so_forked(finds: impl FnOnce() -> bool) -> bool {
+        // SAFETY: the forked process ends here, and this one waits for it.
+        unsafe {
+            let child = fork();
+            if child == 0 {
+                _exit(i32::from(!finds()));
+            }
+            let mut status = -1;
+            waitpid(child, &mut status, 0) == child && status == 0
+        }
+    }
+
+    /// Locks a file or unlocks it. In [`with_lingering`] a process is forked behind a lock, and has the file too.
+    ///
+    /// # Safety
+    ///
+    /// As the system's.
+    #[no_mangle]
+    pub unsafe extern "C" fn flock(file: c_int, operation: c_int) -> c_int {
+        // SAFETY: the file is the caller's, and the forked process does nothing until it is ended.
+        unsafe {
+            let done = syscall(SYS_FLOCK, file, operation) as c_int;
+            if done == 0 && operation & LOCK_UN == 0 && LINGERS.get() {
+                let child = fork();
+                if child == 0 {
+                    loop {
+                        pause();
+                    }
+                }
+                LINGERING.with_borrow_mut(|list| list.push(child));
+            }
+            done
+        }
+    }
+
+    /// Does something. From each lock of a file on, a process that was forked has the file too, as one has that is
+    /// about to run a program.
+    pub fn with_lingering<R>(does: impl FnOnce() -> R) -> R {
+        struct Lingering;
+
+        impl Drop for Lingering {
+            fn drop(&mut self) {
+                LINGERS.set(false);
+                for child in LINGERING.take() {
+                    // SAFETY: this process has forked it, and nobody has waited for it.
+                    unsafe {
+                        kill(child, SIGKILL);
+                        waitpid(child, &mut 0, 0);
+                    }
+                }
+            }
+        }
+
+        let _lingering = Lingering;
+        LINGERS.set(true);
+        does()
+    }
+
+    /// Syncs a file, and counts that.
+    ///
+    /// # Safety
+    ///
+    /// As the system's.
+    #[no_mangle]
+    pub unsafe extern "C" fn fsync(file: c_int) -> c_int {
+        SYNCS.set(SYNCS.get() + 1);
+        // SAFETY: the file is the caller's, and the number of the fault is this thread's.
+        unsafe {
+            if SYNC_FAULT.get() == 0 {
+                return syscall(SYS_FSYNC, file) as c_int;
+            }
+            *__errno_location() = SYNC_FAULT.get();
+            -1
+        }
+    }
+
+    /// Does something, and counts the syncs. Each fails with the system's number of a fault, if that isn't 0.
+    pub fn with_sync_fault<R>(fault: c_int, does: impl FnOnce() -> R) -> (R, u32) {
+        SYNCS.set(0);
+        SYNC_FAULT.set(fault);
+        let found = does();
+        SYNC_FAULT.set(0);
+        (found, SYNCS.get())
+    }
+
+    /// Makes a pipe with a name.
+    pub fn make_pipe(path: &Path) {
+        let path = CString::new(path.as_os_str().as_bytes()).unwrap();
+        // SAFETY: it is a text that ends in a 0 byte, lent for the call.
+        assert_eq!(unsafe { mkfifo(path.as_ptr(), 0o600) }, 0);
+    }
+
+    /// What the heap of the library answers: whether there is memory, and where; else any place but null.
+    #[repr(C)]
+    pub struct Tried {
+        is_there: bool,
+        at: *mut c_void,
+    }
+
+    fn tried(find: impl FnOnce() -> *mut c_void) -> Tried {
+        let found = if HAS_MEMORY.get() { find() } else { std::ptr::null_mut() };
+        let is_there = !found.is_null();
+        Tried { is_there, at: if is_there { found } else { std::ptr::dangling_mut::<u64>().cast() } }
+    }
+
+    /// Allocates for the library.
+    ///
+    /// # Safety
+    ///
+    /// As `malloc`.
+    #[no_mangle]
+    pub unsafe extern "C" fn rattle_alloc(size: usize, align: usize) -> Tried {
+        // SAFETY: the size isn't 0.
+        tried(|| unsafe { malloc(if size != 0 { size } else { align }) })
+    }
+
+    /// Allocates again for the library.
+    ///
+    /// # Safety
+    ///
+    /// As `realloc`.
+    #[no_mangle]
+    pub unsafe extern "C" fn rattle_realloc(at: *mut c_void, _kept: usize, size: usize, align: usize) -> Tried {
+        // SAFETY: the library has the place from here.
+        tried(|| unsafe { realloc(at, if size != 0 { size } else { align }) })
+    }
+
+    /// Frees for the library.
+    ///
+    /// # Safety
+    ///
+    /// As `free`.
+    #[no_mangle]
+    pub unsafe extern "C" fn rattle_dealloc(at: *mut c_void) {
+        // SAFETY: the library has the place from here.
+        unsafe { free(at) }
+    }
+
+    /// Does something while the library gets no memory.
+    pub fn without_memory<R>(does: impl FnOnce() -> R) -> R {
+        HAS_MEMORY.set(false);
+        let found = does();
+        HAS_MEMORY.set(true);
+        found
+    }
+
+    /// Begins a thread, as the system does.
+    ///
+    /// # Safety
+    ///
+    /// As the system's.
+    #[no_mangle]
+    pub unsafe extern "C" fn pthread_create(
+        thread: *mut c_ulong,
+        attributes: *const c_void,
+        run: extern "C" fn(*mut c_void) -> *mut c_void,
+        with: *mut c_void,
+    ) -> c_int {
+        if !HAS_THREADS.get() {
+            return EAGAIN;
+        }
+        // SAFETY: the system has the function, which takes what this takes.
+        unsafe {
+            let begin = dlsym(std::ptr::without_provenance_mut(RTLD_NEXT as usize), c"pthread_create".as_ptr());
+            std::mem::transmute::<*mut c_void, Begin>(begin)(thread, attributes, run, with)
+        }
+    }
+
+    /// Does something while the system gives no thread.
+    pub fn without_threads<R>(does: impl FnOnce() -> R) -> R {
+        HAS_THREADS.set(false);
+        let found = does();
+        HAS_THREADS.set(true);
+        found
+    }
 }
