@@ -1301,7 +1301,8 @@ def try_meddlers():
     driver = Meddler(till)
     till.drive("d1", driver)
     with till.drawer("d1").in_use() as drawer:
-        told("lines in an order", "DriverError", name_of(drawer.open_drawer))
+        told("lines in an order", "InOrderError", name_of(drawer.open_drawer))
+        told("which is an error of the driver's", True, issubclass(kijolvar.InOrderError, kijolvar.DriverError))
         driver.words = ["cover open"]
         told("an order that is done", None, name_of(drawer.open_drawer))
         told("what went wrong behind it", "InputError", name_of(till.run_devices, 0))

@@ -545,7 +545,7 @@ def try_misuse():
         told("what it says too", True, str(fault).startswith("create of HardTotals t1: ETOT_NOROOM (114 201): "))
         again = pickle.loads(pickle.dumps(fault))
         told("a fault can be pickled", (type(fault), str(fault)), (type(again), str(again)))
-        others = [kijolvar.ThreadError(1, 2), kijolvar.ProfileError("a reason", 3, 4), kijolvar.DiskError(7, "a text"),
+        others = [kijolvar.ThreadError(1, 2), kijolvar.InCallError("why"), kijolvar.ProfileError("a reason", 3, 4), kijolvar.DiskError(7, "a text"),
                   kijolvar.ExchangeError("InUse"), kijolvar.LineError("bad line"), kijolvar.DamagedError("a rule", 9)]
         again = [pickle.loads(pickle.dumps(other)) for other in others]
         told("the other faults too", [(type(other), str(other), vars(other)) for other in others],
@@ -741,6 +741,125 @@ def try_totals():
         totals = till.totals("t1")
         told("a file that can't be written", "DiskError", name_of(totals.create, "A", 1))
         told("and no call after it", "DiskError", name_of(lambda: totals.state))
+
+
+# ---- what a signal's handler does during a call
+
+class Signalled:
+    """An export, or a library of which an export has the name, of which a signal's handler follows each call, or the call
+    of a number."""
+
+    def __init__(self, library, handler, name="", number=0):
+        self.library, self.handler, self.name, self.left = library, handler, name, number
+
+    def __getattr__(self, name):
+        return self if name == self.name else getattr(self.library, name)
+
+    def __call__(self, *words):
+        code = (getattr(self.library, self.name) if self.name else self.library)(*words)
+        self.left -= 1
+        if self.left <= 0 and self.handler is not None:
+            self.handler()
+        return code
+
+
+def opened_with(handler, totals=None, **named):
+    """A till of which each call with lines is followed by a handler, once `handles` is called with one."""
+    made = []
+
+    def carrier(library):
+        made.append(Signalled(session_carrier(library), None))
+        return made[-1]
+    session_carrier = kijolvar._session.carrier
+    with mock.patch("kijolvar._session.carrier", carrier):
+        till = opened(None, totals, **named)
+
+    def handles(handler):
+        made[0].handler = handler
+    return till, handles
+
+
+def try_handlers():
+    path = WORK / "signalled"
+    for number in range(1, 4):
+        path.unlink(missing_ok=True)
+        found = []
+        with opened(totals=path, create=True) as till:
+            drawer, totals = till.drawer("d1"), till.totals("t1")
+            totals.create("SALES", 8)
+            totals["SALES"].write(0, bytes(7) + b"\1")
+            session = till._session
+            session._library = Signalled(session._library, lambda: found.append(name_of(drawer.open_drawer)),
+                                         "kijolvar_next_errand", number)
+            told(f"a change that a handler interrupts after {number} errands", None,
+                 raised(totals["SALES"].write, 0, bytes(7) + b"\2"))
+            session._library = session._library.library
+            told("its call is refused", {"InCallError"}, set(found))
+            told("and changes nothing", (False, bytes(7) + b"\2"), (drawer.drawer_opened, totals["SALES"].read()))
+        told("what is in the file", {b"SALES": bytes(7) + b"\2"}, kijolvar.files(path, LIBRARY).files)
+    till, handles = opened_with(None)
+    with till:
+        drawer, printer, device = till.drawer("d1"), till.printer("r1"), till.device("r1")
+        printer.claim()
+        printer.device_enabled = True
+        device.cover(True)
+        found = {}
+        uses = {"a call": drawer.open_drawer, "a property": lambda: drawer.state, "a device": device.show,
+                "a line": lambda: till.carry_out("show d1"), "the next event": till.next_event,
+                "events": lambda: list(till.events()), "listeners": till.deliver, "a control": lambda: till.scanner("s1"),
+                "hosting": lambda: till.host("d1"), "orders": lambda: list(till.orders()),
+                "an order's bytes": lambda: till.order_bytes(HARDWARE), "paper": lambda: till.tear_off("r1"),
+                "a reply": lambda: till.replies("r1", HARDWARE, b""), "the devices' loop": till.run_devices,
+                "a driver": lambda: till.drive("d1", kijolvar.Driver())}
+        handles(lambda: found.update((name, name_of(use)) for name, use in uses.items()))
+        told("a refusal that a handler interrupts", "CoverOpenError", name_of(printer.print, "Bread\n"))
+        handles(None)
+        told("nothing is printed, and the drawer is closed", ((), False), (device.show().items, drawer.drawer_opened))
+        told("what a handler can't do", dict.fromkeys(uses, "InCallError"), found)
+        handles(drawer.open_drawer)
+        told("a handler that doesn't catch it", "InCallError", name_of(device.show))
+        handles(None)
+        told("the till goes on", None, raised(drawer.open_drawer))
+        till.host("r1")
+        device.cover(False)
+        printer.print("A\n")
+        printer.print("B\n")
+        taken, asks = [], till._session._next_order
+        till._session._next_order = Signalled(asks, lambda: taken.append(name_of(lambda: list(till.orders()))))
+        told("orders that a handler asks for too", [(b"A\n",), (b"B\n",)], [order.arguments for order in till.orders()])
+        told("are the first one's", {"InCallError"}, set(taken))
+
+
+def try_closing_handlers():
+    """What is closed by a handler during a call has ended after it."""
+    path, other = WORK / "closing", WORK / "other"
+    kijolvar.create_totals(other, LIBRARY).close()
+    before = other.read_bytes()
+    till, held = opened(totals=path, create=True), []
+    totals = till.totals("t1")
+
+    def closes():
+        if not till.is_closed:
+            till.close()
+            # It would get the number of a file that was closed.
+            held.append(open(other, "r+b"))
+    session = till._session
+    session._library = Signalled(session._library, closes, "kijolvar_next_errand")
+    told("a till that is closed before an errand is done", "TillClosedError", name_of(totals.create, "A", 1))
+    told("nothing is written into another file", True, held[0].close() is None and other.read_bytes() == before)
+    told("its own file is closed and free", (True, None), (till._file.closed, raised(lambda: opened(totals=path).close())))
+    till, handles = opened_with(None, path)
+    drawer, found = till.drawer("d1"), []
+    handles(lambda: found.append((till.close(), till.is_closed, till._file.closed, name_of(lambda: drawer.state))))
+    told("a call that is done before its till is closed", None, raised(drawer.open_drawer))
+    told("the till is closed at once, its file after the call", ([(None, True, False, "TillClosedError")], True),
+         (found, till._file.closed))
+    told("and free", None, raised(lambda: opened(totals=path).close()))
+    till, handles = opened_with(None, path)
+    drawer = till.drawer("d1")
+    with mock.patch("kijolvar._session.len", lambda lines: till.close() or len(lines), create=True):
+        told("a till that is closed as the library is called", None, name_of(drawer.open_drawer))
+    told("has ended", (True, True), (till.is_closed, till._file.closed))
 
 
 def try_files():
@@ -1097,7 +1216,7 @@ def try_reply_lines():
 def main():
     try:
         for try_it in (try_scripts, try_threads, try_fork, try_closed, try_replies, try_events, try_listeners, try_claims,
-                       try_misuse, try_many_controls, try_totals, try_files, try_any_event, try_profiles, try_library,
+                       try_misuse, try_many_controls, try_totals, try_files, try_handlers, try_closing_handlers, try_any_event, try_profiles, try_library,
                        try_help, try_devices, try_order_bytes, try_reply_lines):
             try_it()
     finally:

@@ -149,6 +149,13 @@ class ThreadError(Error):
                 f"and this is thread {self.caller}")
 
 
+class InCallError(Error):
+    """The till was used while another call of it is under way, as by a signal's handler. The call was refused, and has
+    changed nothing.
+
+    Catch it in the handler. Otherwise it passes into the call that is under way, as an interrupt does."""
+
+
 class ExchangeError(Error):
     """A peripheral can't be attached or detached.
 
@@ -165,8 +172,12 @@ class ExchangeError(Error):
 
 
 class DriverError(Error):
-    """A device can't have this driver: it is of another category, or has a driver already. Or a driver ran lines while
-    it carried out an order."""
+    """A device can't have this driver: it is of another category, or has a driver already. Or it is an InOrderError."""
+
+
+class InOrderError(DriverError, InCallError):
+    """The till was used while a driver carries out an order, by the driver or a signal's handler. The call was refused,
+    and has changed nothing. A driver may call `order_bytes` and `replies` meanwhile."""
 
 
 class InputError(Error):

@@ -49,6 +49,9 @@ class Till:
     controls; `till.device("s1")` says what happens at a device. A till can be used only in the thread that opened it,
     and it closes at the end of a `with` block. To a process that is forked it is closed. Its calls raise ThreadError
     there, and closing it changes nothing for the process that has it.
+
+    One call at a time: a signal's handler that calls the till while a call is under way gets an InCallError. It may
+    close the till.
     """
 
     def __init__(self, session: Session, totals: BinaryIO | None = None, *, where: str = "in memory",
@@ -62,6 +65,7 @@ class Till:
         self._count = 0
         self._devices: Callable[[], list[ProfileDevice]] = devices or list
         self._drives = Drives(self, session)
+        session.ended = self._close_file
 
     def __repr__(self) -> str:
         state = "closed" if self.is_closed else f"totals {self._where}, {len(self._controls)} controls"
@@ -87,7 +91,11 @@ class Till:
         return self._session.is_closed
 
     def close(self) -> None:
-        """Ends the till, and closes the file of totals if the till has opened it. Closing it again does nothing."""
+        """Ends the till, and closes the file of totals if the till has opened it. Closing it again does nothing.
+
+        A signal's handler, or a driver, may close the till while a call is under way. That call raises TillClosedError
+        then, unless it is done, and a change of totals that it has begun is in the file or not.
+        """
         if not self.is_closed:
             self._session.check()
         with contextlib.ExitStack() as ends:
@@ -99,6 +107,9 @@ class Till:
     def _close_file(self) -> None:
         """Closes the file of totals, if the till has opened it. Its lock ends, though a process that was forked may have
         the file open too: that can't use it."""
+        if self._session.is_ending:
+            # A call that is under way may write into it: it closes the file.
+            return
         if self._owns_file and self._file is not None and not self._file.closed:
             with self._file:
                 if not self._session.is_forked:
@@ -289,7 +300,7 @@ class Till:
 
         If it raises something, the device has no driver, and neither has the drawer that is on a printer.
         """
-        self._session.check()
+        self._session.check_call()
         known = {one.name: one for one in self._devices()}
         drivers = {device: driver, **driver.others()}
         for name in drivers:
