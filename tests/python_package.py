@@ -6,6 +6,7 @@ Usage: python_package.py LIBRARY PROGRAM. PROGRAM is pos_console, which moves a 
 import collections
 import contextlib
 import dataclasses
+import errno
 import fcntl
 import gc
 import importlib
@@ -691,6 +692,22 @@ def try_totals():
     with kijolvar.open_totals(path) as file:
         with opened(totals=file) as till:
             told("a file of one's own", 0, len(till.totals("t1")))
+            fault = raised(opened, totals=file)
+            told("a second till over it", ("BlockingIOError", errno.EAGAIN, str(path)),
+                 (type(fault).__name__, fault.errno, fault.filename))
+            told("what it says", "is in use: another till of this program has it open", fault.strerror)
+            with open(os.dup(file.fileno()), "r+b", buffering=0) as again:
+                told("the same open file by another object", "BlockingIOError", name_of(opened, totals=again))
+            till.totals("t1").create("KEPT", 1)
+            child = os.fork()
+            if child == 0:
+                os._exit(name_of(opened, totals=file) != "BlockingIOError")
+            told("a forked process, over it", 0, os.waitpid(child, 0)[1])
+        with opened(totals=file) as till:
+            told("once it is closed", [b"KEPT"], list(till.totals("t1")))
+            till.totals("t1").delete("KEPT")
+        told("a profile that is refused", "ProfileError", name_of(opened, "foo = 1", file))
+        told("leaves it free", None, raised(lambda: opened(totals=file).close()))
         told("stays open", False, file.closed)
     (WORK / "short").write_bytes(bytes(100))
     told("a file that is too short", "TooSmallError", name_of(opened, totals=WORK / "short"))

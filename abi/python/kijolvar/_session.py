@@ -143,9 +143,22 @@ class Session:
         self.served: Callable[[], object] | None = None
         #: Is called once the till has ended, if it was closed while a call was under way.
         self.ended: Callable[[], object] | None = None
+        # The device and the number of the file of totals, and whether the till has it no more.
+        self._place: tuple[int, int] | None = None
+        self._has_ended = False
         check(library)
         #: Carries out lines, and returns the text of their answers, once what they changed is in the file.
         self.carry_out = self._carrier()
+        try:
+            self._begin(profile, begin)
+        except BaseException:
+            self.close()
+            raise
+
+    def _begin(self, profile: bytes, begin: str) -> None:
+        """Makes the library's till."""
+        library, totals = self._library, self._totals
+        self._enter()
         if totals is None:
             code = library.kijolvar_open(profile, len(profile), self._out)
         else:
@@ -153,14 +166,28 @@ class Session:
             self._errand: Any = ctypes.create_string_buffer(KIJOLVAR_DISK_LENGTH)
             code = getattr(library, begin)(profile, len(profile), kept, len(kept), self._out)
         if code != KIJOLVAR_OK:
-            self._raw.at, self._is_closed = None, True
+            self._raw.at = None
             raise library_fault(code)
-        try:
-            self._settle()
-        except BaseException:
-            self.close()
-            raise
-        _sessions.add(self)
+        self._settle()
+
+    def _enter(self) -> None:
+        """Makes the till one of this process. Refuses a file that another one has: the lock of a file doesn't keep out
+        who uses the same open file."""
+        if self._totals is not None:
+            found = os.fstat(self._totals.fileno())
+            self._place = found.st_dev, found.st_ino
+        with _entering:
+            # A signal's handler that opens a till now has to find this one.
+            _sessions.add(self)
+            if any(other._has_file_of(self) for other in list(_sessions) if other is not self):
+                name = getattr(self._totals, "name", None)
+                raise BlockingIOError(errno.EAGAIN, "is in use: another till of this program has it open", name)
+
+    def _has_file_of(self, other: Session) -> bool:
+        """Whether this till has the file of another one. A till from before a fork has its file if the other's is the
+        same open one."""
+        return (self._place is not None and self._place == other._place and not self._has_ended
+                and (not self.is_forked or self._totals is other._totals))
 
     @property
     def is_closed(self) -> bool:
@@ -207,7 +234,7 @@ class Session:
             if at is not None:
                 self._library.kijolvar_close(Raw(at))
         finally:
-            self._mark.is_ending = False
+            self._mark.is_ending, self._has_ended = False, True
 
     def _end_at_last(self) -> None:
         """Ends the library's till, after the call during which the till was closed."""
@@ -582,9 +609,13 @@ class Session:
 
 # The tills of this process, and of those from which it was forked.
 _sessions: weakref.WeakSet[Session] = weakref.WeakSet()
+_entering = threading.RLock()
 
 
 def _disown() -> None:
+    global _entering
+    # A thread that isn't here may have it.
+    _entering = threading.RLock()
     for session in _sessions:
         session.forked()
 
