@@ -16,6 +16,7 @@ import pathlib
 import pickle
 import re
 import shutil
+import signal
 import subprocess
 import sys
 import tempfile
@@ -61,6 +62,21 @@ def name_of(call, *words, **named):
     """The name of the class of what a call raises, or what it returns."""
     fault = raised(call, *words, **named)
     return None if fault is None else type(fault).__name__
+
+
+def late(*_):
+    raise InterruptedError("it takes too long")
+
+
+def in_time(call, *words):
+    """What a call raises. One that takes too long is interrupted."""
+    before = signal.signal(signal.SIGALRM, late)
+    signal.alarm(5)
+    try:
+        return raised(call, *words)
+    finally:
+        signal.alarm(0)
+        signal.signal(signal.SIGALRM, before)
 
 
 def opened(profile=None, totals=None, **named):
@@ -898,6 +914,17 @@ def try_files():
     told("as the program says", numbers, [str(number) for number in (found.layout, found.slot, found.sequence,
                                                                      found.records, found.room)])
     told("it is sound", None, kijolvar.check(path, LIBRARY))
+    for number, wanted in ((None, None), (errno.EINVAL, None), (errno.EROFS, None), (errno.EIO, errno.EIO)):
+        fault = number and OSError(number, os.strerror(number))
+        with mock.patch("kijolvar._files.os.fsync", side_effect=fault) as syncs:
+            fault = raised(kijolvar.check, path, LIBRARY)
+        told(f"it is synced before it is read, with {number}", (1, wanted, wanted and str(path)),
+             (syncs.call_count, getattr(fault, "errno", None), getattr(fault, "filename", None)))
+    os.mkfifo(WORK / "fifo")
+    faults = [in_time(call, WORK / "fifo", LIBRARY) for call in (kijolvar.files, kijolvar.check)]
+    told("a FIFO isn't waited for", [(errno.ESPIPE, str(WORK / "fifo"))] * 2,
+         [(fault.errno, getattr(fault, "filename", None)) for fault in faults])
+    told("a folder", "IsADirectoryError", name_of(kijolvar.files, WORK, LIBRARY))
     before = path.read_bytes()
     with tempfile.NamedTemporaryFile(dir=WORK) as copy:
         copy.write(before)

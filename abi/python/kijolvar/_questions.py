@@ -132,9 +132,10 @@ def _files_of(lines: list[list[str]]) -> Iterator[tuple[bytes, bytes]]:
 
 
 def files(path: Path, library: Path | ctypes.CDLL | None = None) -> TotalsContents:
-    """What a file of totals holds. It is only read.
+    """What a file of totals holds. It is only read, and first synced, so that what is found stays.
 
     Raises:
+        OSError: It is no regular file, or can't be synced or read.
         FileNotFoundError: The file is missing.
         BlockingIOError: A till or another program has the file open.
         DamagedError: The file breaks a rule; the exception says which, and where.
@@ -154,11 +155,11 @@ def files(path: Path, library: Path | ctypes.CDLL | None = None) -> TotalsConten
 
 
 def check(path: Path, library: Path | ctypes.CDLL | None = None) -> None:
-    """Checks that a file holds sound totals. It is only read.
+    """Checks that a file holds sound totals. It is only read and synced.
 
     Raises:
         DamagedError: The file breaks a rule; the exception says which, and where.
-        UnformattedError, TooSmallError, FileNotFoundError, BlockingIOError: As `kijolvar.files`.
+        UnformattedError, TooSmallError, FileNotFoundError, BlockingIOError, OSError: As `kijolvar.files`.
     """
     files(path, library)
 
