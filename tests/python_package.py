@@ -562,7 +562,7 @@ def try_misuse():
         told("what it says too", True, str(fault).startswith("create of HardTotals t1: ETOT_NOROOM (114 201): "))
         again = pickle.loads(pickle.dumps(fault))
         told("a fault can be pickled", (type(fault), str(fault)), (type(again), str(again)))
-        others = [kijolvar.ThreadError(1, 2), kijolvar.InCallError("why"), kijolvar.ProfileError("a reason", 3, 4), kijolvar.DiskError(7, "a text"),
+        others = [kijolvar.ThreadError(1, 2), kijolvar.InCallError("why"), kijolvar.NameInUseError("a"), kijolvar.ProfileError("a reason", 3, 4), kijolvar.DiskError(7, "a text"),
                   kijolvar.ExchangeError("InUse"), kijolvar.LineError("bad line"), kijolvar.DamagedError("a rule", 9)]
         again = [pickle.loads(pickle.dumps(other)) for other in others]
         told("the other faults too", [(type(other), str(other), vars(other)) for other in others],
@@ -584,6 +584,48 @@ def try_misuse():
          [getattr(kijolvar, code["upper"] + "Error").name for code in codes])
 
 
+class Dropper(kijolvar.Driver):
+    """Drops a control while it carries out an order, and asks for an event."""
+
+    def __init__(self, till, controls):
+        self.till, self.controls = till, controls
+
+    def carry_out(self, order):
+        self.controls.clear()
+        gc.collect()
+        told("no event is there for a driver", None, self.till.next_event())
+        return True
+
+
+def try_control_that_stays():
+    """A control that can't be closed once nothing refers to it is closed later."""
+    def claimed():
+        return raised(lambda: till.scanner("s1").claim())
+    with opened() as till:
+        controls = [till.scanner("s1")]
+        controls[0].claim()
+        till.drive("d1", Dropper(till, controls))
+        told("an order during which a control is dropped", None, raised(till.drawer("d1").open_drawer))
+        told("its device is free", None, claimed())
+        for answer in (b"memory\n", kijolvar.NoMemoryError(kijolvar.KIJOLVAR_NO_MEMORY), KeyboardInterrupt()):
+            scanner, carry_out, made = till.scanner("s1"), till._carry_out, []
+            scanner.claim()
+
+            def closes(line):
+                if not line.startswith(b"close ") or made:
+                    return carry_out(line)
+                made.append(line)
+                if isinstance(answer, BaseException):
+                    raise answer
+                return answer
+            till._carry_out = closes
+            del scanner
+            gc.collect()
+            interrupted(till.next_event)
+            till._carry_out = carry_out
+            told(f"a control whose closing was answered {answer!r}", (1, None), (len(made), claimed()))
+
+
 def try_many_controls():
     with opened() as till:
         for _ in range(5000):
@@ -592,6 +634,20 @@ def try_many_controls():
         kept = [till.new_control(kijolvar.CashDrawer) for _ in range(4000)]
         told("as many as there may be", "TooManyControlsError",
              name_of(lambda: kept.extend(till.new_control(kijolvar.CashDrawer) for _ in range(200))))
+    with opened() as till:
+        mine = till.new_control(kijolvar.CashDrawer, "mine")
+        fault = raised(till.new_control, kijolvar.CashDrawer, "mine")
+        told("a name that is in use", ("NameInUseError", "mine", "a control has the name already: mine"),
+             (type(fault).__name__, getattr(fault, "control", None), str(fault)))
+        del mine, fault
+        gc.collect()
+        other = till.new_control(kijolvar.CashDrawer)
+        told("a control that needs no name doesn't get it", False, other.name == "mine")
+        told("nor one of another category", "NameInUseError", name_of(till.new_control, kijolvar.Scanner, "mine"))
+        mine = till.new_control(kijolvar.CashDrawer, "mine")
+        mine.open("d1")
+        told("the name again", ("mine", "d1"), (mine.name, mine.device))
+    try_control_that_stays()
     with warnings.catch_warnings(record=True) as caught:
         warnings.simplefilter("always")
         opened()

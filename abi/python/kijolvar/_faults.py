@@ -199,6 +199,21 @@ class LineError(Error):
         return f"the line was answered: {self.answer}"
 
 
+class NameInUseError(LineError):
+    """A control of the till has the name already.
+
+    Attributes:
+        control: The name.
+    """
+
+    def __init__(self, control: str) -> None:
+        super().__init__("bad control")
+        self.args = self.control, = control,
+
+    def __str__(self) -> str:
+        return f"a control has the name already: {self.control}"
+
+
 class TooManyControlsError(Error):
     """The till has as many controls as there may be, closed ones among them."""
 

@@ -122,7 +122,7 @@ class Session:
         self._lengthen(KIJOLVAR_SHORT, _ROOM)
         self._next_order, self._order_done, self._order_bytes, self._replies = (
             by_addresses(library, f"kijolvar_{name}") for name in ("next_order", "order_done", "order_bytes", "replies"))
-        self._later: deque[Callable[[], None]] = deque()
+        self._later: deque[Callable[[], Callable[[], None] | None]] = deque()
         self._has_served = False
         # Whether the library holds lines for which memory ran out, and what was printed of them and isn't reported yet.
         self._is_holding = False
@@ -277,15 +277,23 @@ class Session:
             raise InOrderError("a driver can't run lines while it carries out an order")
         return self._mark.doing
 
-    def later(self, deed: Callable[[], None]) -> None:
-        """Does something before the next line is carried out. Any thread may ask for it."""
+    def later(self, deed: Callable[[], Callable[[], None] | None]) -> None:
+        """Does something before the next line is carried out. Any thread may ask for it. The deed returns what is to be
+        done once after it, or None if it couldn't be done: then it is tried again later."""
         self._later.append(deed)
 
     def settle_later(self) -> None:
-        """Does what was to be done later."""
-        if not is_called(self, "settle_later"):
-            while self._later:
-                self._later.popleft()()
+        """Does what was to be done later, unless a call is under way. A deed stays until it is done, also if an interrupt
+        comes."""
+        if self._mark.doing or is_called(self, "settle_later"):
+            return
+        for _ in range(len(self._later)):
+            after = self._later[0]()
+            if after is None:
+                self._later.rotate(-1)
+            else:
+                self._later.popleft()
+                after()
 
     def _settle(self) -> None:
         """Does what the till's disk has done in the file, errand by errand."""
@@ -511,8 +519,7 @@ class Session:
         """The lowest number, start or above, of a control that has an event to deliver, or None if none has. It changes
         nothing."""
         self.check()
-        if not self._mark.doing:
-            self.settle_later()
+        self.settle_later()
         return self._found_event(start)
 
     @_as_call
