@@ -685,6 +685,52 @@ def interrupted(call, *words):
     return None
 
 
+def try_interrupted_blocks(path):
+    """An exception that ends a block isn't replaced by what can't be undone."""
+    def within(block, fault):
+        """What ends a block in which a change of totals is interrupted by a fault."""
+        with opened(totals=path) as till:
+            totals = till.totals("t1")
+            if "A" not in totals:
+                totals.create("A", 1)
+            file = totals["A"]
+            try:
+                with block(till, file), mock.patch("kijolvar._session.os.fsync", side_effect=fault):
+                    file.set_all(1)
+                    totals.create("B", 1)
+            except BaseException as found:
+                return type(found).__name__, name_of(lambda: totals.state)
+    blocks = {"use": lambda till, file: till.printer("r1").in_use(), "a claim": lambda till, file: till.printer("r1").claim(),
+              "a control": lambda till, file: till.printer("r1"), "a claim of a file": lambda till, file: file.claim()}
+    for name, block in blocks.items():
+        told(f"an interrupt in {name}", ("KeyboardInterrupt", "DiskError"), within(block, KeyboardInterrupt))
+    with opened(totals=path) as till:
+        totals = till.totals("t1")
+        file = totals["A"]
+
+        def disables(then):
+            with file.claim():
+                totals.device_enabled = False
+                then()
+        told("a claim of a file whose control is disabled", "KeyError", name_of(disables, lambda: {}["SALES"]))
+        totals.device_enabled = True
+        told("stays", "ClaimedError", name_of(till.totals("t1")["A"].read))
+        file.release()
+        told("which the end says", "DisabledError", name_of(disables, lambda: None))
+        totals.device_enabled = True
+        file.release()
+
+        def closes():
+            with totals.transaction():
+                till._session._library = Interrupted(till._session._library, "kijolvar_next_errand")
+                interrupted(totals.commit_trans)
+                till._session._library = till._session._library.library
+                raise KeyError("an exception")
+        told("an exception in a transaction whose till has ended", "KeyError", name_of(closes))
+    with opened(totals=path) as till:
+        till.totals("t1").delete("A")
+
+
 def try_totals():
     path = WORK / "totals"
     told("a file that is missing", "FileNotFoundError", name_of(opened, totals=path))
@@ -796,6 +842,16 @@ def try_totals():
             session._raw, session._out, line, len(line), session._room, 1024, session._needed_at))
         told("the next call does them first", b"\x07\x07", totals["A"].read())
         totals["A"].delete()
+    with opened(totals=path) as till:
+        totals, session = till.totals("t1"), till._session
+        totals.create("A", 2)
+        line = f"call {totals.name} setAll {totals['A'].handle} 7".encode()
+        session._library.kijolvar_carry_out(session._raw, session._out, line, len(line), session._room, 1024,
+                                            session._needed_at)
+        told("orders with errands left", [], list(till.orders()))
+        told("are done then", b"\x07\x07", totals["A"].read())
+        totals["A"].delete()
+    try_interrupted_blocks(path)
     with opened(totals=path) as till:
         totals = till.totals("t1")
         totals.create("DAY", 1)

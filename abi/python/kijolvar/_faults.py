@@ -79,7 +79,8 @@ class NoMemoryError(LibraryFault, MemoryError):
 
 
 class DiskError(LibraryFault):
-    """The file of the totals failed. What the last call changed may not be in the file; the till can only be closed."""
+    """The file of the totals failed, or an interrupt came while a change was written. What the last call changed may not
+    be in the file; the till can only be closed."""
 
 
 class DamagedError(LibraryFault):

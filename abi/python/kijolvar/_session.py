@@ -611,7 +611,11 @@ class Session:
             if code == KIJOLVAR_ORDER:
                 order: bytes = self._bytes[:self._count.value]
                 return order
-            self._lengthen(code, self._count.value)
+            if code == KIJOLVAR_ERRANDS:
+                # An interrupt has left them.
+                self._settle_call()
+            else:
+                self._lengthen(code, self._count.value)
 
 
 # The tills of this process, and of those from which it was forked.
