@@ -550,6 +550,17 @@ def try_misuse():
         told("a number that is too long", "OverflowError", name_of(display.scroll_text, 10 ** 18, 1))
         told("text that isn't ASCII", "UnicodeEncodeError", name_of(display.display_text, "é"))
         told("a line feed in a name", "ValueError", name_of(till.device, "d1\nshow"))
+        scans = till.device("s1").scan
+        told("numbers that can't happen", ["InputError"] * 7,
+             [name_of(till.device("r1").paper, number) for number in (-1, 100_001, 10 ** 18)]
+             + [name_of(scans, number, b"1", b"1") for number in (-1, 1000, 10 ** 18)]
+             + [name_of(till.device("d1").paper, 5)])
+        told("a scan that is too long", ["OverflowError"] * 2, [name_of(scans, 104, b"1" * 70_000, b"1"),
+                                                               name_of(scans, 104, b"1", b"1" * 70_000)])
+        told("text for whether it is enabled", ["TypeError"] * 2,
+             [name_of(call, device, enable="no") for call, device in ((till.drawer, "d1"), (till.totals, "t1"))])
+        told("for whether a file is created", ("TypeError", False),
+             (name_of(opened, totals=WORK / "no", create="no"), (WORK / "no").exists()))
         told("bytes of any kind", [None] * 3, [raised(totals.create, name, 1) for name in
                                                (bytearray(b"A"), memoryview(b"B"), "C")])
         fault = raised(totals.create, "A", 1)
@@ -743,6 +754,8 @@ def try_totals():
         told("a file", (handle, 4, b"SALES", bytes(4)), (sales.handle, sales.size, sales.name, sales.read()))
         told("files", [b"SALES", b"COUNT"], list(totals))
         told("one is there", (True, True, False), ("SALES" in totals, b"COUNT" in totals, 5 in totals))
+        told("names that no file can have", [False] * 4, ["K\u00e4se" in totals, "A" * 11 in totals, "" in totals,
+                                                         b"A" * 70_000 in totals])
         told("one that isn't", "NoExistError", name_of(lambda: totals["NONE"]))
         told("which is a LookupError", True, isinstance(raised(lambda: totals["NONE"]), LookupError))
         totals["SALES"].write(0, b"\x00\x00\x01\xc2")
@@ -1181,6 +1194,11 @@ def try_profiles():
         told("a profile in a file", 8, till.display("p").rows)
     with opened("") as till:
         told("a profile without devices", "NoExistError", name_of(till.drawer, "d1"))
+    path.write_bytes(b'# \xc3\xa4\nfoo = "\xc3\xa4\xff"\n')
+    for call in (lambda: opened(path), lambda: kijolvar.devices(path, LIBRARY)):
+        fault = raised(call)
+        told("a profile that isn't UTF-8", ("ProfileError", "not UTF-8", 2, 9), (
+            type(fault).__name__, getattr(fault, "reason", None), getattr(fault, "line", 0), getattr(fault, "column", 0)))
     told("a profile that is missing", "FileNotFoundError", name_of(opened, WORK / "none.toml"))
 
 

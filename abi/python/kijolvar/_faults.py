@@ -182,7 +182,7 @@ class InOrderError(DriverError, InCallError):
 
 
 class InputError(Error):
-    """What is said to have happened can't happen at a device of this kind."""
+    """What is said to have happened can't happen at a device of this kind, or a number of it is out of its range."""
 
 
 class LineError(Error):

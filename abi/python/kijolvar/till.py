@@ -16,7 +16,7 @@ from typing import BinaryIO, TypeVar
 
 from . import _files
 from ._constants import PTR_S_RECEIPT, KIJOLVAR_NO_DEVICE, KIJOLVAR_NO_MEMORY
-from ._control import Control, Text, device_word
+from ._control import Control, Text, device_word, is_true
 from ._controls import CashDrawer, LineDisplay, POSPrinter, Scanner
 from ._devices import Device, Order, read_order
 from ._drives import Drives
@@ -174,9 +174,10 @@ class Till:
             self._free.setdefault(category, deque()).append(name)
 
     def _opened(self, kind: type[C], device: str, enable: bool) -> C:
+        is_enabled = is_true(enable)
         control = self.new_control(kind)
         control._open(device)
-        if enable:
+        if is_enabled:
             control._do(control._set + b"DeviceEnabled true", "device_enabled")
         return control
 
@@ -443,10 +444,10 @@ def open(profile: Profile | None = None, totals: Path | BinaryIO | None = None, 
         TooSmallError: The file is too short for totals.
         LibraryError: The library isn't found, or is of another version.
     """
-    found, text = library_of(library), text_of(profile)
+    may_create, found, text = is_true(create), library_of(library), text_of(profile)
     with contextlib.ExitStack() as undo:
         undo.enter_context(_explaining(found, text))
-        file, owns, where = _file_of(found, totals, create, text.encode())
+        file, owns, where = _file_of(found, totals, may_create, text.encode())
         if owns and file is not None:
             undo.enter_context(file)
         session = Session(found, text.encode(), file)

@@ -34,7 +34,8 @@ class Totals(HardTotals):
             return False
         try:
             self.find(name)
-        except NoExistError:
+        except (NoExistError, UnicodeEncodeError, OverflowError):
+            # No file has a name that isn't ASCII, or is too long for a line.
             return False
         return True
 
