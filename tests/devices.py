@@ -719,6 +719,56 @@ def try_interrupts_anywhere():
         told("an interrupt anywhere", (True, []), (number > 100, wrong))
 
 
+class Ringer(Driver):
+    """Sends itself a signal while it carries out an order, and as it asks for the order's bytes."""
+
+    def __init__(self, till):
+        self.till, self.sent = till, []
+
+    def carry_out(self, order):
+        signal.raise_signal(signal.SIGUSR1)
+        session, asks = self.till._session, self.till._session._order_bytes
+
+        def rings(*words):
+            code = asks(*words)
+            signal.raise_signal(signal.SIGUSR1)
+            return code
+        with mock.patch.object(session, "_order_bytes", rings):
+            self.sent.append(self.till.order_bytes(kijolvar.WireSettings()))
+        return True
+
+
+def try_handlers():
+    """A signal's handler that uses the till during an order is refused, and the order is done."""
+    with opened() as till:
+        driver, drawer, settings = Ringer(till), till.drawer("d1"), kijolvar.WireSettings()
+        till.drive("r1", driver)
+        uses = {"a call": drawer.open_drawer, "a line": lambda: till.carry_out("show d1"), "the loop": till.run_devices,
+                "a reply": lambda: till.replies("r1", settings, b"8\0\0\0"), "an event": till.next_event}
+        found = []
+        before = signal.signal(signal.SIGUSR1, lambda *_: found.append([name_of(use) for use in uses.values()]))
+        with till.printer("r1").in_use() as printer:
+            told("an order that handlers interrupt", None, raised(printer.print, b"Bread\n"))
+        signal.signal(signal.SIGUSR1, before)
+        told("what they can't do during an order", ["InOrderError"] * 3 + [None] * 2, found[0])
+        told("and during a driver's call", ["InCallError"] * 5, found[1])
+        told("the order's bytes are its own", (1, True), (len(driver.sent), b"Bread\n" in driver.sent[0]))
+        told("the drawer is closed", False, drawer.drawer_opened)
+        told("a loop in a loop", "InCallError", loop_in_loop(till))
+
+
+def loop_in_loop(till):
+    """What a driver's loop raises within the loop."""
+    found = []
+
+    class Looper(Driver):
+        def poll(self):
+            found.append(name_of(till.run_devices))
+    till.drive("d1", Looper())
+    till.run_devices()
+    return found[0]
+
+
 class Closer(Driver):
     """Closes the till while it carries out an order."""
 
@@ -1368,7 +1418,8 @@ def try_meddlers():
     driver = Meddler(till)
     till.drive("d1", driver)
     with till.drawer("d1").in_use() as drawer:
-        told("lines in an order", "DriverError", name_of(drawer.open_drawer))
+        told("lines in an order", "InOrderError", name_of(drawer.open_drawer))
+        told("which is an error of the driver's", True, issubclass(kijolvar.InOrderError, kijolvar.DriverError))
         driver.words = ["cover open"]
         told("an order that is done", None, name_of(drawer.open_drawer))
         told("what went wrong behind it", "InputError", name_of(till.run_devices, 0))

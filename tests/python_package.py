@@ -6,6 +6,7 @@ Usage: python_package.py LIBRARY PROGRAM. PROGRAM is pos_console, which moves a 
 import collections
 import contextlib
 import dataclasses
+import errno
 import fcntl
 import gc
 import importlib
@@ -15,6 +16,7 @@ import pathlib
 import pickle
 import re
 import shutil
+import signal
 import subprocess
 import sys
 import tempfile
@@ -60,6 +62,21 @@ def name_of(call, *words, **named):
     """The name of the class of what a call raises, or what it returns."""
     fault = raised(call, *words, **named)
     return None if fault is None else type(fault).__name__
+
+
+def late(*_):
+    raise InterruptedError("it takes too long")
+
+
+def in_time(call, *words):
+    """What a call raises. One that takes too long is interrupted."""
+    before = signal.signal(signal.SIGALRM, late)
+    signal.alarm(5)
+    try:
+        return raised(call, *words)
+    finally:
+        signal.alarm(0)
+        signal.signal(signal.SIGALRM, before)
 
 
 def opened(profile=None, totals=None, **named):
@@ -533,6 +550,17 @@ def try_misuse():
         told("a number that is too long", "OverflowError", name_of(display.scroll_text, 10 ** 18, 1))
         told("text that isn't ASCII", "UnicodeEncodeError", name_of(display.display_text, "é"))
         told("a line feed in a name", "ValueError", name_of(till.device, "d1\nshow"))
+        scans = till.device("s1").scan
+        told("numbers that can't happen", ["InputError"] * 7,
+             [name_of(till.device("r1").paper, number) for number in (-1, 100_001, 10 ** 18)]
+             + [name_of(scans, number, b"1", b"1") for number in (-1, 1000, 10 ** 18)]
+             + [name_of(till.device("d1").paper, 5)])
+        told("a scan that is too long", ["OverflowError"] * 2, [name_of(scans, 104, b"1" * 70_000, b"1"),
+                                                               name_of(scans, 104, b"1", b"1" * 70_000)])
+        told("text for whether it is enabled", ["TypeError"] * 2,
+             [name_of(call, device, enable="no") for call, device in ((till.drawer, "d1"), (till.totals, "t1"))])
+        told("for whether a file is created", ("TypeError", False),
+             (name_of(opened, totals=WORK / "no", create="no"), (WORK / "no").exists()))
         told("bytes of any kind", [None] * 3, [raised(totals.create, name, 1) for name in
                                                (bytearray(b"A"), memoryview(b"B"), "C")])
         fault = raised(totals.create, "A", 1)
@@ -545,7 +573,7 @@ def try_misuse():
         told("what it says too", True, str(fault).startswith("create of HardTotals t1: ETOT_NOROOM (114 201): "))
         again = pickle.loads(pickle.dumps(fault))
         told("a fault can be pickled", (type(fault), str(fault)), (type(again), str(again)))
-        others = [kijolvar.ThreadError(1, 2), kijolvar.ProfileError("a reason", 3, 4), kijolvar.DiskError(7, "a text"),
+        others = [kijolvar.ThreadError(1, 2), kijolvar.InCallError("why"), kijolvar.NameInUseError("a"), kijolvar.ProfileError("a reason", 3, 4), kijolvar.DiskError(7, "a text"),
                   kijolvar.ExchangeError("InUse"), kijolvar.LineError("bad line"), kijolvar.DamagedError("a rule", 9)]
         again = [pickle.loads(pickle.dumps(other)) for other in others]
         told("the other faults too", [(type(other), str(other), vars(other)) for other in others],
@@ -567,6 +595,48 @@ def try_misuse():
          [getattr(kijolvar, code["upper"] + "Error").name for code in codes])
 
 
+class Dropper(kijolvar.Driver):
+    """Drops a control while it carries out an order, and asks for an event."""
+
+    def __init__(self, till, controls):
+        self.till, self.controls = till, controls
+
+    def carry_out(self, order):
+        self.controls.clear()
+        gc.collect()
+        told("no event is there for a driver", None, self.till.next_event())
+        return True
+
+
+def try_control_that_stays():
+    """A control that can't be closed once nothing refers to it is closed later."""
+    def claimed():
+        return raised(lambda: till.scanner("s1").claim())
+    with opened() as till:
+        controls = [till.scanner("s1")]
+        controls[0].claim()
+        till.drive("d1", Dropper(till, controls))
+        told("an order during which a control is dropped", None, raised(till.drawer("d1").open_drawer))
+        told("its device is free", None, claimed())
+        for answer in (b"memory\n", kijolvar.NoMemoryError(kijolvar.KIJOLVAR_NO_MEMORY), KeyboardInterrupt()):
+            scanner, carry_out, made = till.scanner("s1"), till._carry_out, []
+            scanner.claim()
+
+            def closes(line):
+                if not line.startswith(b"close ") or made:
+                    return carry_out(line)
+                made.append(line)
+                if isinstance(answer, BaseException):
+                    raise answer
+                return answer
+            till._carry_out = closes
+            del scanner
+            gc.collect()
+            interrupted(till.next_event)
+            till._carry_out = carry_out
+            told(f"a control whose closing was answered {answer!r}", (1, None), (len(made), claimed()))
+
+
 def try_many_controls():
     with opened() as till:
         for _ in range(5000):
@@ -575,6 +645,20 @@ def try_many_controls():
         kept = [till.new_control(kijolvar.CashDrawer) for _ in range(4000)]
         told("as many as there may be", "TooManyControlsError",
              name_of(lambda: kept.extend(till.new_control(kijolvar.CashDrawer) for _ in range(200))))
+    with opened() as till:
+        mine = till.new_control(kijolvar.CashDrawer, "mine")
+        fault = raised(till.new_control, kijolvar.CashDrawer, "mine")
+        told("a name that is in use", ("NameInUseError", "mine", "a control has the name already: mine"),
+             (type(fault).__name__, getattr(fault, "control", None), str(fault)))
+        del mine, fault
+        gc.collect()
+        other = till.new_control(kijolvar.CashDrawer)
+        told("a control that needs no name doesn't get it", False, other.name == "mine")
+        told("nor one of another category", "NameInUseError", name_of(till.new_control, kijolvar.Scanner, "mine"))
+        mine = till.new_control(kijolvar.CashDrawer, "mine")
+        mine.open("d1")
+        told("the name again", ("mine", "d1"), (mine.name, mine.device))
+    try_control_that_stays()
     with warnings.catch_warnings(record=True) as caught:
         warnings.simplefilter("always")
         opened()
@@ -612,6 +696,52 @@ def interrupted(call, *words):
     return None
 
 
+def try_interrupted_blocks(path):
+    """An exception that ends a block isn't replaced by what can't be undone."""
+    def within(block, fault):
+        """What ends a block in which a change of totals is interrupted by a fault."""
+        with opened(totals=path) as till:
+            totals = till.totals("t1")
+            if "A" not in totals:
+                totals.create("A", 1)
+            file = totals["A"]
+            try:
+                with block(till, file), mock.patch("kijolvar._session.os.fsync", side_effect=fault):
+                    file.set_all(1)
+                    totals.create("B", 1)
+            except BaseException as found:
+                return type(found).__name__, name_of(lambda: totals.state)
+    blocks = {"use": lambda till, file: till.printer("r1").in_use(), "a claim": lambda till, file: till.printer("r1").claim(),
+              "a control": lambda till, file: till.printer("r1"), "a claim of a file": lambda till, file: file.claim()}
+    for name, block in blocks.items():
+        told(f"an interrupt in {name}", ("KeyboardInterrupt", "DiskError"), within(block, KeyboardInterrupt))
+    with opened(totals=path) as till:
+        totals = till.totals("t1")
+        file = totals["A"]
+
+        def disables(then):
+            with file.claim():
+                totals.device_enabled = False
+                then()
+        told("a claim of a file whose control is disabled", "KeyError", name_of(disables, lambda: {}["SALES"]))
+        totals.device_enabled = True
+        told("stays", "ClaimedError", name_of(till.totals("t1")["A"].read))
+        file.release()
+        told("which the end says", "DisabledError", name_of(disables, lambda: None))
+        totals.device_enabled = True
+        file.release()
+
+        def closes():
+            with totals.transaction():
+                till._session._library = Interrupted(till._session._library, "kijolvar_next_errand")
+                interrupted(totals.commit_trans)
+                till._session._library = till._session._library.library
+                raise KeyError("an exception")
+        told("an exception in a transaction whose till has ended", "KeyError", name_of(closes))
+    with opened(totals=path) as till:
+        till.totals("t1").delete("A")
+
+
 def try_totals():
     path = WORK / "totals"
     told("a file that is missing", "FileNotFoundError", name_of(opened, totals=path))
@@ -624,6 +754,8 @@ def try_totals():
         told("a file", (handle, 4, b"SALES", bytes(4)), (sales.handle, sales.size, sales.name, sales.read()))
         told("files", [b"SALES", b"COUNT"], list(totals))
         told("one is there", (True, True, False), ("SALES" in totals, b"COUNT" in totals, 5 in totals))
+        told("names that no file can have", [False] * 4, ["K\u00e4se" in totals, "A" * 11 in totals, "" in totals,
+                                                         b"A" * 70_000 in totals])
         told("one that isn't", "NoExistError", name_of(lambda: totals["NONE"]))
         told("which is a LookupError", True, isinstance(raised(lambda: totals["NONE"]), LookupError))
         totals["SALES"].write(0, b"\x00\x00\x01\xc2")
@@ -691,6 +823,22 @@ def try_totals():
     with kijolvar.open_totals(path) as file:
         with opened(totals=file) as till:
             told("a file of one's own", 0, len(till.totals("t1")))
+            fault = raised(opened, totals=file)
+            told("a second till over it", ("BlockingIOError", errno.EAGAIN, str(path)),
+                 (type(fault).__name__, fault.errno, fault.filename))
+            told("what it says", "is in use: another till of this program has it open", fault.strerror)
+            with open(os.dup(file.fileno()), "r+b", buffering=0) as again:
+                told("the same open file by another object", "BlockingIOError", name_of(opened, totals=again))
+            till.totals("t1").create("KEPT", 1)
+            child = os.fork()
+            if child == 0:
+                os._exit(name_of(opened, totals=file) != "BlockingIOError")
+            told("a forked process, over it", 0, os.waitpid(child, 0)[1])
+        with opened(totals=file) as till:
+            told("once it is closed", [b"KEPT"], list(till.totals("t1")))
+            till.totals("t1").delete("KEPT")
+        told("a profile that is refused", "ProfileError", name_of(opened, "foo = 1", file))
+        told("leaves it free", None, raised(lambda: opened(totals=file).close()))
         told("stays open", False, file.closed)
     (WORK / "short").write_bytes(bytes(100))
     told("a file that is too short", "TooSmallError", name_of(opened, totals=WORK / "short"))
@@ -707,6 +855,16 @@ def try_totals():
             session._raw, session._out, line, len(line), session._room, 1024, session._needed_at))
         told("the next call does them first", b"\x07\x07", totals["A"].read())
         totals["A"].delete()
+    with opened(totals=path) as till:
+        totals, session = till.totals("t1"), till._session
+        totals.create("A", 2)
+        line = f"call {totals.name} setAll {totals['A'].handle} 7".encode()
+        session._library.kijolvar_carry_out(session._raw, session._out, line, len(line), session._room, 1024,
+                                            session._needed_at)
+        told("orders with errands left", [], list(till.orders()))
+        told("are done then", b"\x07\x07", totals["A"].read())
+        totals["A"].delete()
+    try_interrupted_blocks(path)
     with opened(totals=path) as till:
         totals = till.totals("t1")
         totals.create("DAY", 1)
@@ -743,6 +901,125 @@ def try_totals():
         told("and no call after it", "DiskError", name_of(lambda: totals.state))
 
 
+# ---- what a signal's handler does during a call
+
+class Signalled:
+    """An export, or a library of which an export has the name, of which a signal's handler follows each call, or the call
+    of a number."""
+
+    def __init__(self, library, handler, name="", number=0):
+        self.library, self.handler, self.name, self.left = library, handler, name, number
+
+    def __getattr__(self, name):
+        return self if name == self.name else getattr(self.library, name)
+
+    def __call__(self, *words):
+        code = (getattr(self.library, self.name) if self.name else self.library)(*words)
+        self.left -= 1
+        if self.left <= 0 and self.handler is not None:
+            self.handler()
+        return code
+
+
+def opened_with(handler, totals=None, **named):
+    """A till of which each call with lines is followed by a handler, once `handles` is called with one."""
+    made = []
+
+    def carrier(library):
+        made.append(Signalled(session_carrier(library), None))
+        return made[-1]
+    session_carrier = kijolvar._session.carrier
+    with mock.patch("kijolvar._session.carrier", carrier):
+        till = opened(None, totals, **named)
+
+    def handles(handler):
+        made[0].handler = handler
+    return till, handles
+
+
+def try_handlers():
+    path = WORK / "signalled"
+    for number in range(1, 4):
+        path.unlink(missing_ok=True)
+        found = []
+        with opened(totals=path, create=True) as till:
+            drawer, totals = till.drawer("d1"), till.totals("t1")
+            totals.create("SALES", 8)
+            totals["SALES"].write(0, bytes(7) + b"\1")
+            session = till._session
+            session._library = Signalled(session._library, lambda: found.append(name_of(drawer.open_drawer)),
+                                         "kijolvar_next_errand", number)
+            told(f"a change that a handler interrupts after {number} errands", None,
+                 raised(totals["SALES"].write, 0, bytes(7) + b"\2"))
+            session._library = session._library.library
+            told("its call is refused", {"InCallError"}, set(found))
+            told("and changes nothing", (False, bytes(7) + b"\2"), (drawer.drawer_opened, totals["SALES"].read()))
+        told("what is in the file", {b"SALES": bytes(7) + b"\2"}, kijolvar.files(path, LIBRARY).files)
+    till, handles = opened_with(None)
+    with till:
+        drawer, printer, device = till.drawer("d1"), till.printer("r1"), till.device("r1")
+        printer.claim()
+        printer.device_enabled = True
+        device.cover(True)
+        found = {}
+        uses = {"a call": drawer.open_drawer, "a property": lambda: drawer.state, "a device": device.show,
+                "a line": lambda: till.carry_out("show d1"), "the next event": till.next_event,
+                "events": lambda: list(till.events()), "listeners": till.deliver, "a control": lambda: till.scanner("s1"),
+                "hosting": lambda: till.host("d1"), "orders": lambda: list(till.orders()),
+                "an order's bytes": lambda: till.order_bytes(HARDWARE), "paper": lambda: till.tear_off("r1"),
+                "a reply": lambda: till.replies("r1", HARDWARE, b""), "the devices' loop": till.run_devices,
+                "a driver": lambda: till.drive("d1", kijolvar.Driver())}
+        handles(lambda: found.update((name, name_of(use)) for name, use in uses.items()))
+        told("a refusal that a handler interrupts", "CoverOpenError", name_of(printer.print, "Bread\n"))
+        handles(None)
+        told("nothing is printed, and the drawer is closed", ((), False), (device.show().items, drawer.drawer_opened))
+        told("what a handler can't do", dict.fromkeys(uses, "InCallError"), found)
+        handles(drawer.open_drawer)
+        told("a handler that doesn't catch it", "InCallError", name_of(device.show))
+        handles(None)
+        told("the till goes on", None, raised(drawer.open_drawer))
+        till.host("r1")
+        device.cover(False)
+        printer.print("A\n")
+        printer.print("B\n")
+        taken, asks = [], till._session._next_order
+        till._session._next_order = Signalled(asks, lambda: taken.append(name_of(lambda: list(till.orders()))))
+        told("orders that a handler asks for too", [(b"A\n",), (b"B\n",)], [order.arguments for order in till.orders()])
+        told("are the first one's", {"InCallError"}, set(taken))
+
+
+def try_closing_handlers():
+    """What is closed by a handler during a call has ended after it."""
+    path, other = WORK / "closing", WORK / "other"
+    kijolvar.create_totals(other, LIBRARY).close()
+    before = other.read_bytes()
+    till, held = opened(totals=path, create=True), []
+    totals = till.totals("t1")
+
+    def closes():
+        if not till.is_closed:
+            till.close()
+            # It would get the number of a file that was closed.
+            held.append(open(other, "r+b"))
+    session = till._session
+    session._library = Signalled(session._library, closes, "kijolvar_next_errand")
+    told("a till that is closed before an errand is done", "TillClosedError", name_of(totals.create, "A", 1))
+    told("nothing is written into another file", True, held[0].close() is None and other.read_bytes() == before)
+    told("its own file is closed and free", (True, None), (till._file.closed, raised(lambda: opened(totals=path).close())))
+    till, handles = opened_with(None, path)
+    drawer, found = till.drawer("d1"), []
+    handles(lambda: found.append((till.close(), till.is_closed, till._file.closed, name_of(lambda: drawer.state))))
+    told("a call that is done before its till is closed", None, raised(drawer.open_drawer))
+    told("the till is closed at once, its file after the call", ([(None, True, False, "TillClosedError")], True),
+         (found, till._file.closed))
+    told("and free", None, raised(lambda: opened(totals=path).close()))
+    till, handles = opened_with(None, path)
+    drawer = till.drawer("d1")
+    with mock.patch("kijolvar._session.len", lambda lines: till.close() or len(lines), create=True):
+        told("a till that is closed as the library is called", None, name_of(drawer.open_drawer))
+    told("has ended", (True, True), (till.is_closed, till._file.closed))
+
+
 def try_files():
     path = WORK / "told"
     told("no file to tell of", ("FileNotFoundError",) * 3,
@@ -762,6 +1039,17 @@ def try_files():
     told("as the program says", numbers, [str(number) for number in (found.layout, found.slot, found.sequence,
                                                                      found.records, found.room)])
     told("it is sound", None, kijolvar.check(path, LIBRARY))
+    for number, wanted in ((None, None), (errno.EINVAL, None), (errno.EROFS, None), (errno.EIO, errno.EIO)):
+        fault = number and OSError(number, os.strerror(number))
+        with mock.patch("kijolvar._files.os.fsync", side_effect=fault) as syncs:
+            fault = raised(kijolvar.check, path, LIBRARY)
+        told(f"it is synced before it is read, with {number}", (1, wanted, wanted and str(path)),
+             (syncs.call_count, getattr(fault, "errno", None), getattr(fault, "filename", None)))
+    os.mkfifo(WORK / "fifo")
+    faults = [in_time(call, WORK / "fifo", LIBRARY) for call in (kijolvar.files, kijolvar.check)]
+    told("a FIFO isn't waited for", [(errno.ESPIPE, str(WORK / "fifo"))] * 2,
+         [(fault.errno, getattr(fault, "filename", None)) for fault in faults])
+    told("a folder", "IsADirectoryError", name_of(kijolvar.files, WORK, LIBRARY))
     before = path.read_bytes()
     with tempfile.NamedTemporaryFile(dir=WORK) as copy:
         copy.write(before)
@@ -906,6 +1194,11 @@ def try_profiles():
         told("a profile in a file", 8, till.display("p").rows)
     with opened("") as till:
         told("a profile without devices", "NoExistError", name_of(till.drawer, "d1"))
+    path.write_bytes(b'# \xc3\xa4\nfoo = "\xc3\xa4\xff"\n')
+    for call in (lambda: opened(path), lambda: kijolvar.devices(path, LIBRARY)):
+        fault = raised(call)
+        told("a profile that isn't UTF-8", ("ProfileError", "not UTF-8", 2, 9), (
+            type(fault).__name__, getattr(fault, "reason", None), getattr(fault, "line", 0), getattr(fault, "column", 0)))
     told("a profile that is missing", "FileNotFoundError", name_of(opened, WORK / "none.toml"))
 
 
@@ -1097,7 +1390,7 @@ def try_reply_lines():
 def main():
     try:
         for try_it in (try_scripts, try_threads, try_fork, try_closed, try_replies, try_events, try_listeners, try_claims,
-                       try_misuse, try_many_controls, try_totals, try_files, try_any_event, try_profiles, try_library,
+                       try_misuse, try_many_controls, try_totals, try_files, try_handlers, try_closing_handlers, try_any_event, try_profiles, try_library,
                        try_help, try_devices, try_order_bytes, try_reply_lines):
             try_it()
     finally:

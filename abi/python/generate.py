@@ -24,9 +24,10 @@ DEFAULTS = {
     ("cutPaper", "percentage"): "PTR_CP_FULLCUT",
 }
 # The classes of kijolvar/_faults.py.
-FAULTS = ["DamagedError", "DiskError", "DriverError", "Error", "ExchangeError", "FormattedError", "InputError", "LibraryError",
-          "LibraryFault", "LineError", "MovedError", "NoDeviceError", "NoMemoryError", "NoOrderError", "ProfileError",
-          "SettingsError", "ThreadError", "TillClosedError", "TooManyControlsError", "TooSmallError", "UnformattedError", "UposError"]
+FAULTS = ["DamagedError", "DiskError", "DriverError", "Error", "ExchangeError", "FormattedError", "InCallError",
+          "InOrderError", "InputError", "LibraryError", "LibraryFault", "LineError", "MovedError", "NameInUseError",
+          "NoDeviceError", "NoMemoryError", "NoOrderError", "ProfileError", "SettingsError", "ThreadError",
+          "TillClosedError", "TooManyControlsError", "TooSmallError", "UnformattedError", "UposError"]
 # Classes of errors that are a kind of an error of Python's too.
 BASES = {"E_NOEXIST": ", LookupError"}
 

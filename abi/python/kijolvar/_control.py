@@ -49,6 +49,11 @@ def truth(value: bool) -> str:
     return "true" if is_true(value) else "false"
 
 
+def undoing(value: BaseException | None) -> contextlib.AbstractContextManager[None]:
+    """For what the end of a `with` block undoes: its own exceptions don't take the place of one that ends the block."""
+    return contextlib.nullcontext() if value is None else contextlib.suppress(Exception)
+
+
 def device_word(name: str) -> bytes:
     """The name of a device, as a line has it: 1 to 16 ASCII letters, digits and hyphens."""
     if not isinstance(name, str):
@@ -107,8 +112,9 @@ class Control:
 
     def __exit__(self, kind: type[BaseException] | None, value: BaseException | None,
                  trace: TracebackType | None) -> None:
-        if self._device is not None and not self._till.is_closed:
-            self._close()
+        with undoing(value):
+            if self._device is not None and not self._till.is_closed:
+                self._close()
 
     # Answers.
 
@@ -223,9 +229,16 @@ class Control:
             self._do(self._set + b"DeviceEnabled true", "device_enabled")
             try:
                 yield self
-            finally:
-                if self._has_claim():
-                    self._do(self._set + b"DeviceEnabled false", "device_enabled")
+            except BaseException as fault:
+                with undoing(fault):
+                    self._disable()
+                raise
+            self._disable()
+
+    def _disable(self) -> None:
+        """Disables the control at the end of its use."""
+        if self._has_claim():
+            self._do(self._set + b"DeviceEnabled false", "device_enabled")
 
 
 class Claim:
@@ -242,5 +255,6 @@ class Claim:
 
     def __exit__(self, kind: type[BaseException] | None, value: BaseException | None,
                  trace: TracebackType | None) -> None:
-        if self._control._has_claim():
-            self._control._release()
+        with undoing(value):
+            if self._control._has_claim():
+                self._control._release()

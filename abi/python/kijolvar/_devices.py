@@ -168,10 +168,13 @@ class Device:
             raise ExchangeError(answer.split()[1])
         return answer
 
-    def _happens(self, words: bytes) -> None:
+    def _happens(self, words: bytes, is_in_range: bool = True) -> None:
+        """Says what has happened, and whether its number is in its range."""
         answer = self._answer(b"input %b %b" % (self._name, words))
-        if answer == "bad input":
+        if answer == "bad input" or answer == "bad line" and not is_in_range:
             raise InputError(f"that can't happen at {self.name!r}")
+        if answer == "bad line":
+            raise OverflowError(f"all that is said to happen at {self.name!r} has at most 140,000 bytes in hex")
         if answer != "ok":
             raise LineError(answer)
 
@@ -190,8 +193,12 @@ class Device:
             kind: The type of the bar code, 0 to 999, such as 104 (SCAN_SDT_EAN13).
             data: All that was read.
             label: The label in it.
+
+        Raises:
+            InputError: The type is out of its range, or the device is no scanner.
+            OverflowError: Data and label have more than 70,000 bytes together.
         """
-        self._happens(f"scan {index(kind)} {hexed(data)} {hexed(label)}".encode())
+        self._happens(f"scan {index(kind)} {hexed(data)} {hexed(label)}".encode(), 0 <= index(kind) <= 999)
 
     def scan_fault(self) -> None:
         """The scanner fails to read a bar code."""
@@ -202,8 +209,12 @@ class Device:
         self._happens(b"cover open" if is_true(is_open) else b"cover closed")
 
     def paper(self, lines: SupportsIndex) -> None:
-        """The printer is loaded with paper: so many lines are left, 0 to 100,000."""
-        self._happens(b"paper %d" % index(lines))
+        """The printer is loaded with paper: so many lines are left, 0 to 100,000.
+
+        Raises:
+            InputError: The lines are out of their range, or the device is no printer.
+        """
+        self._happens(b"paper %d" % index(lines), 0 <= index(lines) <= 100_000)
 
     def work(self) -> WorkDone | WorkFailed | None:
         """Works on the device's output: its first request that waits is done, or fails. Returns None if none waits."""

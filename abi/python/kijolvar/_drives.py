@@ -10,7 +10,7 @@ from typing import TYPE_CHECKING
 from ._constants import KIJOLVAR_NO_MEMORY
 from ._control import device_word
 from ._devices import Device, Order, WorkFailed, read_order
-from ._faults import DriverError, InputError, LineError, NoDeviceError, NoMemoryError, library_fault
+from ._faults import DriverError, InCallError, InputError, LineError, NoDeviceError, NoMemoryError, library_fault
 from ._questions import ProfileDevice
 from ._session import Session, is_called
 from .drivers import Driver, Scan
@@ -217,6 +217,9 @@ class Drives:
     def run(self, seconds: float) -> bool:
         """Does what the devices need, and waits for something to do as long as it may. Returns whether anything was
         done."""
+        self._session.check_call(is_line=True)
+        if is_called(self, "run"):
+            raise InCallError("the devices' loop is under way")
         end = time.monotonic() + seconds
         while True:
             # A signal's handler may have closed the till meanwhile. Its ports stay closed.

@@ -79,7 +79,8 @@ class NoMemoryError(LibraryFault, MemoryError):
 
 
 class DiskError(LibraryFault):
-    """The file of the totals failed. What the last call changed may not be in the file; the till can only be closed."""
+    """The file of the totals failed, or an interrupt came while a change was written. What the last call changed may not
+    be in the file; the till can only be closed."""
 
 
 class DamagedError(LibraryFault):
@@ -149,6 +150,13 @@ class ThreadError(Error):
                 f"and this is thread {self.caller}")
 
 
+class InCallError(Error):
+    """The till was used while another call of it is under way, as by a signal's handler. The call was refused, and has
+    changed nothing.
+
+    Catch it in the handler. Otherwise it passes into the call that is under way, as an interrupt does."""
+
+
 class ExchangeError(Error):
     """A peripheral can't be attached or detached.
 
@@ -165,12 +173,16 @@ class ExchangeError(Error):
 
 
 class DriverError(Error):
-    """A device can't have this driver: it is of another category, or has a driver already. Or a driver ran lines while
-    it carried out an order."""
+    """A device can't have this driver: it is of another category, or has a driver already. Or it is an InOrderError."""
+
+
+class InOrderError(DriverError, InCallError):
+    """The till was used while a driver carries out an order, by the driver or a signal's handler. The call was refused,
+    and has changed nothing. A driver may call `order_bytes` and `replies` meanwhile."""
 
 
 class InputError(Error):
-    """What is said to have happened can't happen at a device of this kind."""
+    """What is said to have happened can't happen at a device of this kind, or a number of it is out of its range."""
 
 
 class LineError(Error):
@@ -186,6 +198,21 @@ class LineError(Error):
 
     def __str__(self) -> str:
         return f"the line was answered: {self.answer}"
+
+
+class NameInUseError(LineError):
+    """A control of the till has the name already.
+
+    Attributes:
+        control: The name.
+    """
+
+    def __init__(self, control: str) -> None:
+        super().__init__("bad control")
+        self.args = self.control, = control,
+
+    def __str__(self) -> str:
+        return f"a control has the name already: {self.control}"
 
 
 class TooManyControlsError(Error):

@@ -3,6 +3,7 @@ from __future__ import annotations
 
 import contextlib
 import ctypes
+import errno
 import fcntl
 import os
 from collections.abc import Iterator
@@ -82,10 +83,31 @@ def move_totals(library: ctypes.CDLL, path: Path) -> None:
 def read_totals(path: Path) -> bytes:
     """The bytes of a file of totals that no till has open, as many as totals have.
 
+    It syncs them: what a till has written last before it was killed may be in memory alone, and not stay.
+
     Raises:
         FileNotFoundError: The file is missing.
         BlockingIOError: A till or another program has the file open.
+        OSError: It is no regular file, or can't be synced or read.
     """
-    with open(path, "rb") as totals:
-        _lock(totals, os.fspath(path), fcntl.LOCK_SH)
-        return totals.read(KIJOLVAR_DISK_LENGTH)
+    name = os.fspath(path)
+    with open(name, "rb", buffering=0, opener=_open_at_once) as totals:
+        _lock(totals, name, fcntl.LOCK_SH)
+        try:
+            try:
+                os.fsync(totals.fileno())
+            except OSError as fault:
+                # A file system that can't sync can't be written.
+                if fault.errno not in (errno.EINVAL, errno.EROFS):
+                    raise
+            kept = b""
+            while more := os.pread(totals.fileno(), KIJOLVAR_DISK_LENGTH - len(kept), len(kept)):
+                kept += more
+        except OSError as fault:
+            raise OSError(fault.errno, fault.strerror, name) from None
+        return kept
+
+
+def _open_at_once(path: str, flags: int) -> int:
+    """Opens a file. One that isn't regular, such as a FIFO that nobody writes, isn't waited for."""
+    return os.open(path, flags | os.O_NONBLOCK)

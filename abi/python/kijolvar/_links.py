@@ -62,8 +62,8 @@ class Wire:
 
     def reply(self, data: bytes, asked: int = 0) -> tuple[int, bytes]:
         """The first reply in what the device has sent: how many bytes were read, and the text of its lines."""
-        text = self._session.reply_text(self._device, self._settings, asked, data)
-        return self._session.used, text
+        used, _, text = self._session.reply_text(self._device, self._settings, asked, data)
+        return used, text
 
 
 @dataclass(frozen=True)

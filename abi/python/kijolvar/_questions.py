@@ -21,8 +21,18 @@ def text_of(profile: Profile | None) -> str:
     """The text of a profile. To the library an empty one is the built profile; here that is None."""
     if profile is None:
         return ""
-    text = profile if isinstance(profile, str) else pathlib.Path(profile).read_text(encoding="utf-8")
-    return text or "\n"
+    if isinstance(profile, str):
+        return profile or "\n"
+    try:
+        return pathlib.Path(profile).read_text(encoding="utf-8") or "\n"
+    except UnicodeDecodeError as fault:
+        # As the library says it of bytes.
+        raise ProfileError("not UTF-8", *_place(fault.object[:fault.start].decode())) from None
+
+
+def _place(before: str) -> tuple[int, int]:
+    """The line and the column behind a text, counted from 1."""
+    return before.count("\n") + 1, len(before) - before.rfind("\n")
 
 
 def library_of(library: Path | ctypes.CDLL | None) -> ctypes.CDLL:
@@ -51,7 +61,7 @@ def explain(library: ctypes.CDLL, text: str) -> LibraryFault:
         before = profile[:at.value].decode(errors="replace")
         if "\n" not in text and os.path.exists(text):
             reason += ": a str is the text of a profile; pass the path of a file as a pathlib.Path"
-        return ProfileError(reason, before.count("\n") + 1, len(before) - before.rfind("\n"))
+        return ProfileError(reason, *_place(before))
     return library_fault(code)
 
 
@@ -132,9 +142,10 @@ def _files_of(lines: list[list[str]]) -> Iterator[tuple[bytes, bytes]]:
 
 
 def files(path: Path, library: Path | ctypes.CDLL | None = None) -> TotalsContents:
-    """What a file of totals holds. It is only read.
+    """What a file of totals holds. It is only read, and first synced, so that what is found stays.
 
     Raises:
+        OSError: It is no regular file, or can't be synced or read.
         FileNotFoundError: The file is missing.
         BlockingIOError: A till or another program has the file open.
         DamagedError: The file breaks a rule; the exception says which, and where.
@@ -154,11 +165,11 @@ def files(path: Path, library: Path | ctypes.CDLL | None = None) -> TotalsConten
 
 
 def check(path: Path, library: Path | ctypes.CDLL | None = None) -> None:
-    """Checks that a file holds sound totals. It is only read.
+    """Checks that a file holds sound totals. It is only read and synced.
 
     Raises:
         DamagedError: The file breaks a rule; the exception says which, and where.
-        UnformattedError, TooSmallError, FileNotFoundError, BlockingIOError: As `kijolvar.files`.
+        UnformattedError, TooSmallError, FileNotFoundError, BlockingIOError, OSError: As `kijolvar.files`.
     """
     files(path, library)
 

@@ -3,13 +3,14 @@ from __future__ import annotations
 
 import ctypes
 import errno
+import functools
 import os
 import sys
 import threading
 import weakref
 from collections import Counter, deque
 from collections.abc import Callable, Iterator
-from typing import Any, BinaryIO, NoReturn
+from typing import Any, BinaryIO, Concatenate, NoReturn, ParamSpec, TypeVar
 
 from ._constants import (KIJOLVAR_CUT, KIJOLVAR_DISK_FAILED, KIJOLVAR_DISK_LENGTH, KIJOLVAR_ERRANDS, KIJOLVAR_EVENT,
                          KIJOLVAR_NO_MEMORY, KIJOLVAR_NO_ORDER, KIJOLVAR_OK, KIJOLVAR_ORDER, KIJOLVAR_SHORT,
@@ -17,7 +18,10 @@ from ._constants import (KIJOLVAR_CUT, KIJOLVAR_DISK_FAILED, KIJOLVAR_DISK_LENGT
 from ._faults import NO_THREAD, library_fault
 from ._library import Raw, by_addresses, carrier, check
 from ._wire import RawSettings, Reply
-from .errors import DriverError, ThreadError, TillClosedError
+from .errors import InCallError, InOrderError, ThreadError, TillClosedError
+
+P = ParamSpec("P")
+T = TypeVar("T")
 
 _identity = threading.get_ident
 _ROOM = 1024
@@ -29,6 +33,8 @@ _UNWRITTEN = ctypes.c_size_t(-1).value
 _UNANSWERED = KIJOLVAR_ERRANDS, KIJOLVAR_SHORT
 # The outcomes of an order.
 _DONE, _NOT_DONE = 0, 1
+# What a till is doing: nothing, a call, or an order that a driver carries out for one.
+_NOTHING, _CALL, _ORDER = 0, 1, 2
 
 
 def _write_whole(file: int, data: bytes, at: int) -> None:
@@ -40,13 +46,48 @@ def _write_whole(file: int, data: bytes, at: int) -> None:
         data, at = data[count:], at + count
 
 
-def is_called(owner: object, name: str) -> bool:
-    """Whether the owner's method of this name is among the callers of the method that asks. A mark that says so could
-    stay: an interrupt may come before it is taken away."""
-    frame = sys._getframe(1).f_back
-    while frame is not None and not (frame.f_code.co_name == name and frame.f_locals.get("self") is owner):
+def is_called(owner: object, *names: str, passed: int = 1) -> bool:
+    """Whether a method of the owner that has one of these names is among the callers of the method that asks, of which
+    so many are passed over. A mark that says so could stay: an interrupt may come before it is taken away."""
+    frame = sys._getframe(passed).f_back
+    while frame is not None and not (frame.f_code.co_name in names and frame.f_locals.get("self") is owner):
         frame = frame.f_back
     return frame is not None
+
+
+class _Mark:
+    """What the till is doing, and whether it was closed by what interrupted that: then the call has to end it. Only an
+    interrupt between a call and its end, as a trace raises one, leaves a mark; `_met` sees that."""
+
+    __slots__ = ("doing", "is_ending")
+
+    def __init__(self) -> None:
+        self.doing, self.is_ending = _NOTHING, False
+
+
+def _as_call(method: Callable[Concatenate[Session, P], T]) -> Callable[Concatenate[Session, P], T]:
+    """Makes a method of a session a call: it refuses another thread, a till that is closed, and a call while another one
+    is under way. A driver may make it while it carries out an order."""
+
+    @functools.wraps(method)
+    def as_call(self: Session, /, *words: P.args, **named: P.kwargs) -> T:
+        if _identity() != self._thread:
+            self._check_thread()
+        mark = self._mark
+        before = mark.doing
+        if before:
+            before = self._met()
+        try:
+            mark.doing = _CALL
+            if self._is_closed:
+                self._refuse_closed()
+            return method(self, *words, **named)
+        finally:
+            mark.doing = before
+            if mark.is_ending and not before:
+                self._end_at_last()
+
+    return as_call
 
 
 class Session:
@@ -54,6 +95,10 @@ class Session:
 
     Only the thread that made it may use it, in its own process: one that is forked has the till as a closed one. A file
     that isn't formatted opens too: enabling its totals is E_NOHARDWARE.
+
+    One call at a time: the library's answers and the errands of the disk are in the same places for all of them. A
+    signal's handler that calls the till meanwhile is refused. What it closes is ended when the call is over.
+
     `begin` is the export that makes the till over a file: another one formats the file first, or moves it to layout 2.
     """
 
@@ -62,6 +107,7 @@ class Session:
         self._thread = _identity()
         self._library, self._totals = library, totals
         self._raw = Raw()
+        self._mark, self._is_closed = _Mark(), False
         # The library writes what the till is from then on into the same place, so no call has to copy it.
         self._out = ctypes.cast(ctypes.pointer(self._raw), ctypes.POINTER(ctypes.c_void_p))
         self._room: Any = ctypes.create_string_buffer(_ROOM)
@@ -76,7 +122,7 @@ class Session:
         self._lengthen(KIJOLVAR_SHORT, _ROOM)
         self._next_order, self._order_done, self._order_bytes, self._replies = (
             by_addresses(library, f"kijolvar_{name}") for name in ("next_order", "order_done", "order_bytes", "replies"))
-        self._later: deque[Callable[[], None]] = deque()
+        self._later: deque[Callable[[], Callable[[], None] | None]] = deque()
         self._has_served = False
         # Whether the library holds lines for which memory ran out, and what was printed of them and isn't reported yet.
         self._is_holding = False
@@ -95,9 +141,24 @@ class Session:
         self.taken: Callable[[bool, list[bytes]], object] | None = None
         #: Is called after lines whose orders were carried out so.
         self.served: Callable[[], object] | None = None
+        #: Is called once the till has ended, if it was closed while a call was under way.
+        self.ended: Callable[[], object] | None = None
+        # The device and the number of the file of totals, and whether the till has it no more.
+        self._place: tuple[int, int] | None = None
+        self._has_ended = False
         check(library)
         #: Carries out lines, and returns the text of their answers, once what they changed is in the file.
         self.carry_out = self._carrier()
+        try:
+            self._begin(profile, begin)
+        except BaseException:
+            self.close()
+            raise
+
+    def _begin(self, profile: bytes, begin: str) -> None:
+        """Makes the library's till."""
+        library, totals = self._library, self._totals
+        self._enter()
         if totals is None:
             code = library.kijolvar_open(profile, len(profile), self._out)
         else:
@@ -107,16 +168,35 @@ class Session:
         if code != KIJOLVAR_OK:
             self._raw.at = None
             raise library_fault(code)
-        try:
-            self._settle()
-        except BaseException:
-            self.close()
-            raise
-        _sessions.add(self)
+        self._settle()
+
+    def _enter(self) -> None:
+        """Makes the till one of this process. Refuses a file that another one has: the lock of a file doesn't keep out
+        who uses the same open file."""
+        if self._totals is not None:
+            found = os.fstat(self._totals.fileno())
+            self._place = found.st_dev, found.st_ino
+        with _entering:
+            # A signal's handler that opens a till now has to find this one.
+            _sessions.add(self)
+            if any(other._has_file_of(self) for other in list(_sessions) if other is not self):
+                name = getattr(self._totals, "name", None)
+                raise BlockingIOError(errno.EAGAIN, "is in use: another till of this program has it open", name)
+
+    def _has_file_of(self, other: Session) -> bool:
+        """Whether this till has the file of another one. A till from before a fork has its file if the other's is the
+        same open one."""
+        return (self._place is not None and self._place == other._place and not self._has_ended
+                and (not self.is_forked or self._totals is other._totals))
 
     @property
     def is_closed(self) -> bool:
-        return self._raw.at is None
+        return self._is_closed
+
+    @property
+    def is_ending(self) -> bool:
+        """Whether the till was closed while a call was under way, which ends it and may write to its file until then."""
+        return self._mark.is_ending
 
     @property
     def is_owner(self) -> bool:
@@ -131,17 +211,38 @@ class Session:
     def forked(self) -> None:
         """This process was forked from the till's: nothing of the till can be used or has to be ended in it."""
         self._thread, self._raw.at = NO_THREAD, None
+        self._is_closed, self._mark.is_ending = True, False
         self._disown_calls()
 
     def close(self) -> None:
-        """Ends the till, once. The file stays open."""
-        if self._raw.at is None:
+        """Ends the till, once. The file stays open. A signal's handler, or a driver, may close the till while a call is
+        under way: it is closed at once, the call raises TillClosedError unless it is done, and ends the till then."""
+        if self._is_closed and not (self._mark.is_ending and self.is_owner):
             return
         self._check_thread()
+        if not self._is_closed:
+            self._refuse_calls()
+            self._is_closed = self._mark.is_ending = True
+        if not (self._mark.doing and is_called(self, "carry_out", "as_call")):
+            self._end()
+
+    def _end(self) -> None:
+        """Ends the library's till."""
         # An interrupt comes as the library's call returns. It mustn't end the till again.
-        ended, self._raw.at = Raw(self._raw.at), None
-        self._refuse_calls()
-        self._library.kijolvar_close(ended)
+        at, self._raw.at = self._raw.at, None
+        try:
+            if at is not None:
+                self._library.kijolvar_close(Raw(at))
+        finally:
+            self._mark.is_ending, self._has_ended = False, True
+
+    def _end_at_last(self) -> None:
+        """Ends the library's till, after the call during which the till was closed."""
+        try:
+            self._end()
+        finally:
+            if self.ended is not None:
+                self.ended()
 
     def _check_thread(self) -> None:
         if _identity() != self._thread:
@@ -153,18 +254,46 @@ class Session:
     def check(self) -> None:
         """Refuses another thread, and a till that is closed."""
         self._check_thread()
-        if self._raw.at is None:
+        if self._is_closed:
             self._refuse_closed()
 
-    def later(self, deed: Callable[[], None]) -> None:
-        """Does something before the next line is carried out. Any thread may ask for it."""
+    def check_call(self, is_line: bool = False) -> None:
+        """Refuses what `check` does, and a call while another one is under way. One with lines is refused during an order
+        too."""
+        self.check()
+        if self._mark.doing:
+            self._met(is_line)
+
+    def _met(self, is_line: bool = False) -> int:
+        """What a call interrupts: nothing, or an order that a driver carries out. During another call, or with lines
+        during an order, it is refused."""
+        self.check()
+        if not is_called(self, "carry_out", "as_call", passed=2):
+            # It is over.
+            self._mark.doing = _NOTHING
+        if self._mark.doing == _CALL:
+            raise InCallError("another call of the till is under way")
+        if self._mark.doing == _ORDER and is_line:
+            raise InOrderError("a driver can't run lines while it carries out an order")
+        return self._mark.doing
+
+    def later(self, deed: Callable[[], Callable[[], None] | None]) -> None:
+        """Does something before the next line is carried out. Any thread may ask for it. The deed returns what is to be
+        done once after it, or None if it couldn't be done: then it is tried again later."""
         self._later.append(deed)
 
     def settle_later(self) -> None:
-        """Does what was to be done later."""
-        if not is_called(self, "settle_later"):
-            while self._later:
-                self._later.popleft()()
+        """Does what was to be done later, unless a call is under way. A deed stays until it is done, also if an interrupt
+        comes."""
+        if self._mark.doing or is_called(self, "settle_later"):
+            return
+        for _ in range(len(self._later)):
+            after = self._later[0]()
+            if after is None:
+                self._later.rotate(-1)
+            else:
+                self._later.popleft()
+                after()
 
     def _settle(self) -> None:
         """Does what the till's disk has done in the file, errand by errand."""
@@ -188,8 +317,7 @@ class Session:
                 else:
                     raise library_fault(KIJOLVAR_DISK_FAILED)
             except BaseException:
-                if self._raw.at is not None:
-                    failed(self._raw, self._out)
+                failed(self._raw, self._out)
                 raise
 
     def _settle_call(self) -> None:
@@ -201,7 +329,7 @@ class Session:
 
     def _carrier(self) -> Callable[[bytes], bytes]:
         """The function that carries out lines. What it uses is at hand without a look at the session."""
-        owner, later, raw, needed = self._thread, self._later, self._raw, self._needed
+        owner, later, raw, needed, mark = self._thread, self._later, self._raw, self._needed, self._mark
         room = self._room
         raw_at, room_at, needed_at = map(ctypes.addressof, (raw, room, needed))
         call: Callable[..., Any] = carrier(self._library)
@@ -209,13 +337,25 @@ class Session:
         def carry_out(lines: bytes) -> bytes:
             if _identity() != owner:
                 self._check_thread()
+            if mark.doing:
+                self._met(is_line=True)
             if later:
                 self.settle_later()
-            code = call(raw, raw_at, lines, len(lines), room_at, _ROOM, needed_at)
-            if code:
-                return self._carry_on(code, lines)
-            answer: bytes = room[:needed.value]
-            return answer
+            try:
+                mark.doing = _CALL
+                code = call(raw, raw_at, lines, len(lines), room_at, _ROOM, needed_at)
+                if code:
+                    return self._carry_on(code, lines)
+                answer: bytes = room[:needed.value]
+                return answer
+            finally:
+                mark.doing = _NOTHING
+                if mark.is_ending:
+                    self._end_at_last()
+
+        def call_again(lines: bytes) -> int:
+            code: int = call(raw, raw_at, lines, len(lines), room_at, _ROOM, needed_at)
+            return code
 
         def refuse() -> None:
             nonlocal call
@@ -225,36 +365,39 @@ class Session:
             nonlocal owner
             owner = NO_THREAD
 
-        def mark() -> None:
+        def watch() -> None:
             nonlocal call
             export = call
 
-            def marked(*words: Any) -> int:
+            def watched(*words: Any) -> int:
                 needed.value = _UNWRITTEN
                 code: int = export(*words)
                 return code
 
-            call = marked
+            call = watched
 
-        self._refuse_calls, self._disown_calls, self._mark_calls = refuse, disown, mark
+        self._call_again = call_again
+        self._refuse_calls, self._disown_calls, self._watch_calls = refuse, disown, watch
         return carry_out
 
     def _carry_on(self, code: int, lines: bytes) -> bytes:
         """What is left to do where a call with lines isn't done: the errands, a longer room, and the orders for which
         lines wait. An interrupt may have left errands or lines of an earlier call; then the call is made again."""
-        if code == KIJOLVAR_UNDONE:
-            self._settle_call()
-            return self.carry_out(lines)
-        is_held = code == KIJOLVAR_WAITS or (code == KIJOLVAR_NO_MEMORY and self._is_holding)
-        if is_held and self._needed.value == _UNWRITTEN:
-            # Lines of an earlier call are held, and none of these was carried out.
-            if is_called(self, "_served"):
-                raise DriverError("a driver can't run lines while it carries out an order")
-            self._give_up()
-            return self.carry_out(lines)
+        while True:
+            if code == KIJOLVAR_UNDONE:
+                self._settle_call()
+            elif ((code == KIJOLVAR_WAITS or (code == KIJOLVAR_NO_MEMORY and self._is_holding))
+                  and self._needed.value == _UNWRITTEN):
+                # Lines of an earlier call are held, and none of these was carried out.
+                self._give_up()
+            else:
+                break
+            code = self._call_again(lines)
         text = self._told(code)
         if self._has_served and self.served is not None:
             self._has_served = False
+            # The lines are done. What comes now is calls of their own.
+            self._mark.doing = _NOTHING
             self.served()
         return text
 
@@ -333,11 +476,14 @@ class Session:
         self._served_device = order[:order.find(b" ")]
         self._has_served = True
         try:
+            self._mark.doing = _ORDER
             is_done, inputs = self.serve(order)
         except Exception:
             # It may be because the till is closed.
             self.check()
             raise
+        finally:
+            self._mark.doing = _CALL
         # The driver, or a signal's handler, may have closed the till meanwhile.
         self.check()
         return (_DONE, b"") if is_done else (_NOT_DONE, inputs)
@@ -349,11 +495,11 @@ class Session:
 
     def _driven_order(self) -> bytes | None:
         """Takes out the order of the driven device for which a line waits. Those of hosted devices are kept."""
-        for order in self._taken_out():
+        while (order := self._take_out()) is not None:
             if order.partition(b" ")[0] in self._driven:
-                return order
+                break
             self._hosted.append(order)
-        return None
+        return order
 
     def _give_up(self) -> None:
         """Ends lines of an earlier call that was interrupted, or for which memory ran out: an order that wasn't printed has
@@ -361,9 +507,9 @@ class Session:
         self._is_holding = False
         self._told(self._answer_into(self._room), is_wanted=False)
 
+    @_as_call
     def number_of(self, control: bytes) -> int:
         """The library's number of the control of this name."""
-        self.check()
         code = self._library.kijolvar_control(self._raw, self._out, control, len(control), self._number_at)
         if code != KIJOLVAR_OK:
             raise library_fault(code)
@@ -374,19 +520,22 @@ class Session:
         nothing."""
         self.check()
         self.settle_later()
-        code = self._library.kijolvar_next_event(self._raw, self._out, start, self._number_at)
-        if code == KIJOLVAR_ERRANDS:
+        return self._found_event(start)
+
+    @_as_call
+    def _found_event(self, start: int) -> int | None:
+        next_event = self._library.kijolvar_next_event
+        while (code := next_event(self._raw, self._out, start, self._number_at)) == KIJOLVAR_ERRANDS:
             self._settle_call()
-            return self.next_event(start)
         if code == KIJOLVAR_EVENT:
             return self._number.value
         if code != KIJOLVAR_OK:
             raise library_fault(code)
         return None
 
+    @_as_call
     def host(self, device: bytes) -> None:
         """Says that the host has the device of this name: its orders come by `orders` from then on."""
-        self.check()
         code = self._library.kijolvar_host(self._raw, self._out, device, len(device))
         if code != KIJOLVAR_OK:
             raise library_fault(code)
@@ -396,29 +545,33 @@ class Session:
         its driver's."""
         # Lines of an earlier call that wait are given up first.
         self.carry_out(b"")
-        self._hosted += list(self._taken_out())
+        self._keep_orders()
 
+    @_as_call
+    def _keep_orders(self) -> None:
+        while (order := self._take_out()) is not None:
+            self._hosted.append(order)
+
+    @_as_call
     def drive(self, device: bytes) -> None:
         """Says that the orders of the device of this name wait until the host has said what became of them."""
-        self.check()
         code = self._library.kijolvar_drive(self._raw, self._out, device, len(device))
         if code != KIJOLVAR_OK:
             raise library_fault(code)
         if not self._driven:
-            self._mark_calls()
+            self._watch_calls()
         self._driven.add(device)
 
+    @_as_call
     def tear_off(self, device: bytes) -> None:
         """Takes away what the device of this name has printed. Its line that has begun stays."""
-        self.check()
         code = self._library.kijolvar_tear_off(self._raw, self._out, device, len(device))
         if code != KIJOLVAR_OK:
             raise library_fault(code)
 
+    @_as_call
     def order_bytes(self, settings: RawSettings, is_new: bool, behind: int) -> bytes:
         """The bytes of the order that waits or that the host has. Nothing changes."""
-        if self._raw.at is None or _identity() != self._thread:
-            self.check()
         while True:
             code = self._order_bytes(self._raw, self._raw_at, ctypes.addressof(settings), is_new, behind,
                                      self._bytes_at, self._size, self._count_at)
@@ -427,28 +580,21 @@ class Session:
                 return told
             self._lengthen(code, self._count.value)
 
-    def reply_text(self, device: bytes, settings: RawSettings, asked: int, data: bytes) -> bytes:
-        """Reads the first reply of what a printer sent, for its device or that of its drawer: the text of its lines.
-        `used` has how many bytes were read. Nothing changes."""
-        if self._raw.at is None or _identity() != self._thread:
-            self.check()
+    @_as_call
+    def reply_text(self, device: bytes, settings: RawSettings, asked: int, data: bytes) -> tuple[int, int, bytes]:
+        """Reads the first reply of what a printer sent, for its device or that of its drawer: how many bytes were read,
+        how many of them are no reply, and the text of its lines. Nothing changes."""
         while True:
             code = self._replies(self._raw, self._raw_at, device, len(device), ctypes.addressof(settings), asked, data,
                                  len(data), self._used_at, self._skipped_at, self._bytes_at, self._size, self._count_at)
             if code == KIJOLVAR_OK:
-                told: bytes = self._bytes[:self._count.value]
-                return told
+                return self._used.value, self._skipped.value, self._bytes[:self._count.value]
             self._lengthen(code, self._count.value)
-
-    @property
-    def used(self) -> int:
-        """How many bytes were read for the last reply."""
-        return self._used.value
 
     def reply(self, device: bytes, settings: RawSettings, asked: int, data: bytes) -> Reply:
         """Reads a reply as `reply_text` does."""
-        text = self.reply_text(device, settings, asked, data)
-        return Reply(self._used.value, self._skipped.value, tuple(text.decode().splitlines()))
+        used, skipped, text = self.reply_text(device, settings, asked, data)
+        return Reply(used, skipped, tuple(text.decode().splitlines()))
 
     def _lengthen(self, code: int, size: int) -> None:
         """Makes room for the bytes of an order or the lines of a reply. Another cause of the code is raised."""
@@ -459,29 +605,40 @@ class Session:
 
     def orders(self) -> Iterator[bytes]:
         """The orders of the devices that the host has, oldest first. Each is taken out as it is given."""
-        while self._hosted:
-            self.check()
-            yield self._hosted.popleft()
-        yield from self._taken_out()
+        while (order := self._next_hosted()) is not None:
+            yield order
 
-    def _taken_out(self) -> Iterator[bytes]:
-        """The orders that the library has."""
+    @_as_call
+    def _next_hosted(self) -> bytes | None:
+        """Takes out the oldest order of the devices that the host has, if there is one."""
+        return self._hosted.popleft() if self._hosted else self._take_out()
+
+    def _take_out(self) -> bytes | None:
+        """Takes out the oldest order that the library has, if there is one."""
         while True:
             self.check()
             code = self._next_order(self._raw, self._raw_at, self._bytes_at, self._size, self._count_at)
             if code == KIJOLVAR_OK:
-                return
+                return None
             if code == KIJOLVAR_ORDER:
-                yield self._bytes[:self._count.value]
+                order: bytes = self._bytes[:self._count.value]
+                return order
+            if code == KIJOLVAR_ERRANDS:
+                # An interrupt has left them.
+                self._settle_call()
             else:
                 self._lengthen(code, self._count.value)
 
 
 # The tills of this process, and of those from which it was forked.
 _sessions: weakref.WeakSet[Session] = weakref.WeakSet()
+_entering = threading.RLock()
 
 
 def _disown() -> None:
+    global _entering
+    # A thread that isn't here may have it.
+    _entering = threading.RLock()
     for session in _sessions:
         session.forked()
 

@@ -4,10 +4,10 @@ Written by abi/python/generate.py: don't change it by hand.
 """
 from __future__ import annotations
 
-from ._faults import (DamagedError, DiskError, DriverError, Error, ExchangeError, FormattedError, InputError,
-                      LibraryError, LibraryFault, LineError, MovedError, NoDeviceError, NoMemoryError, NoOrderError,
-                      ProfileError, SettingsError, ThreadError, TillClosedError, TooManyControlsError, TooSmallError,
-                      UnformattedError, UposError)
+from ._faults import (DamagedError, DiskError, DriverError, Error, ExchangeError, FormattedError, InCallError,
+                      InOrderError, InputError, LibraryError, LibraryFault, LineError, MovedError, NameInUseError,
+                      NoDeviceError, NoMemoryError, NoOrderError, ProfileError, SettingsError, ThreadError,
+                      TillClosedError, TooManyControlsError, TooSmallError, UnformattedError, UposError)
 
 
 class ClosedError(UposError):
@@ -205,8 +205,9 @@ BY_EXTENDED: dict[tuple[str, int], type[UposError]] = {
 __all__ = [
     "BusyError", "ClaimedError", "ClosedError", "CoverOpenError", "DamagedError", "DisabledError", "DiskError",
     "DriverError", "Error", "ExchangeError", "ExistsError", "ExtendedError", "FailureError", "FormattedError",
-    "IllegalError", "InputError", "LibraryError", "LibraryFault", "LineError", "MovedError", "NoDeviceError",
-    "NoExistError", "NoHardwareError", "NoMemoryError", "NoOrderError", "NoRoomError", "NoServiceError",
-    "NotClaimedError", "OfflineError", "ProfileError", "ReceiptEmptyError", "SettingsError", "ThreadError",
-    "TillClosedError", "TimeoutError", "TooManyControlsError", "TooSmallError", "UnformattedError", "UposError",
+    "IllegalError", "InCallError", "InOrderError", "InputError", "LibraryError", "LibraryFault", "LineError",
+    "MovedError", "NameInUseError", "NoDeviceError", "NoExistError", "NoHardwareError", "NoMemoryError", "NoOrderError",
+    "NoRoomError", "NoServiceError", "NotClaimedError", "OfflineError", "ProfileError", "ReceiptEmptyError",
+    "SettingsError", "ThreadError", "TillClosedError", "TimeoutError", "TooManyControlsError", "TooSmallError",
+    "UnformattedError", "UposError",
 ]

@@ -16,12 +16,13 @@ from typing import BinaryIO, TypeVar
 
 from . import _files
 from ._constants import PTR_S_RECEIPT, KIJOLVAR_NO_DEVICE, KIJOLVAR_NO_MEMORY
-from ._control import Control, Text, device_word
+from ._control import Control, Text, device_word, is_true
 from ._controls import CashDrawer, LineDisplay, POSPrinter, Scanner
 from ._devices import Device, Order, read_order
 from ._drives import Drives
 from ._events import Event
-from ._faults import Error, LineError, NoDeviceError, NoMemoryError, ProfileError, TooManyControlsError
+from ._faults import (Error, LineError, NameInUseError, NoDeviceError, NoMemoryError, ProfileError,
+                      TooManyControlsError)
 from ._library import Path
 from ._questions import Profile, ProfileDevice, devices, explain, library_of, text_of
 from ._session import Session
@@ -49,6 +50,9 @@ class Till:
     controls; `till.device("s1")` says what happens at a device. A till can be used only in the thread that opened it,
     and it closes at the end of a `with` block. To a process that is forked it is closed. Its calls raise ThreadError
     there, and closing it changes nothing for the process that has it.
+
+    One call at a time: a signal's handler that calls the till while a call is under way gets an InCallError. It may
+    close the till.
     """
 
     def __init__(self, session: Session, totals: BinaryIO | None = None, *, where: str = "in memory",
@@ -58,10 +62,13 @@ class Till:
         self._file, self._owns_file = totals, owns_totals
         self._controls: weakref.WeakValueDictionary[str, Control] = weakref.WeakValueDictionary()
         self._names: dict[int, str] = {}
+        # The names of controls that were given back: made up ones by their category, and the categories of chosen ones.
         self._free: dict[str, deque[str]] = {}
+        self._free_chosen: dict[str, str] = {}
         self._count = 0
         self._devices: Callable[[], list[ProfileDevice]] = devices or list
         self._drives = Drives(self, session)
+        session.ended = self._close_file
 
     def __repr__(self) -> str:
         state = "closed" if self.is_closed else f"totals {self._where}, {len(self._controls)} controls"
@@ -87,7 +94,11 @@ class Till:
         return self._session.is_closed
 
     def close(self) -> None:
-        """Ends the till, and closes the file of totals if the till has opened it. Closing it again does nothing."""
+        """Ends the till, and closes the file of totals if the till has opened it. Closing it again does nothing.
+
+        A signal's handler, or a driver, may close the till while a call is under way. That call raises TillClosedError
+        then, unless it is done, and a change of totals that it has begun is in the file or not.
+        """
         if not self.is_closed:
             self._session.check()
         with contextlib.ExitStack() as ends:
@@ -99,6 +110,9 @@ class Till:
     def _close_file(self) -> None:
         """Closes the file of totals, if the till has opened it. Its lock ends, though a process that was forked may have
         the file open too: that can't use it."""
+        if self._session.is_ending:
+            # A call that is under way may write into it: it closes the file.
+            return
         if self._owns_file and self._file is not None and not self._file.closed:
             with self._file:
                 if not self._session.is_forked:
@@ -111,16 +125,21 @@ class Till:
 
         Args:
             kind: CashDrawer, Scanner, LineDisplay, Printer or Totals.
-            name: The control's name in the lines of the text layer, 1 to 16 letters, digits or hyphens.
+            name: The control's name in the lines of the text layer, 1 to 16 letters, digits or hyphens. Once nothing
+                refers to the control, you can use the name again for a control of its category.
 
         Raises:
             TooManyControlsError: There are 4,096 controls.
+            NameInUseError: A control has the name, or one of another category had it.
         """
         self._session.check()
         free = self._free.setdefault(kind.category, deque())
         self._session.settle_later()
         if name is None and free:
             return self._adopt(kind(self, free.popleft()))
+        if name is not None and self._free_chosen.get(name) == kind.category:
+            del self._free_chosen[name]
+            return self._adopt(kind(self, name), is_chosen=True)
         word = name
         while True:
             if name is None:
@@ -130,25 +149,35 @@ class Till:
             answer = self._carry_out(b"new %b %b" % (device_word(word), kind.category.encode()))
             if answer == b"ok\n":
                 self._names[self._session.number_of(word.encode())] = word
-                return self._adopt(kind(self, word))
+                return self._adopt(kind(self, word), is_chosen=name is not None)
             if answer == b"refused Full\n":
                 raise TooManyControlsError("there are as many controls as there may be")
             if answer == b"memory\n":
                 raise NoMemoryError(KIJOLVAR_NO_MEMORY, "there was no memory for a control")
-            if name is not None or answer != b"bad control\n":
+            if answer != b"bad control\n":
                 raise LineError(answer.decode().strip())
+            if name is not None:
+                raise NameInUseError(name)
 
-    def _adopt(self, control: C) -> C:
+    def _adopt(self, control: C, is_chosen: bool = False) -> C:
         """Keeps the control's name, so that another control takes its place once nothing refers to it."""
         self._controls[control.name] = control
-        end = functools.partial(_end_control, weakref.ref(self), control.category, control.name)
+        end = functools.partial(_end_control, weakref.ref(self), control.category, control.name, is_chosen)
         weakref.finalize(control, self._session.later, end).atexit = False
         return control
 
+    def _give_back(self, category: str, name: str, is_chosen: bool) -> None:
+        """Lets the name of a control that is closed be used again. A chosen one isn't used for another name."""
+        if is_chosen:
+            self._free_chosen[name] = category
+        else:
+            self._free.setdefault(category, deque()).append(name)
+
     def _opened(self, kind: type[C], device: str, enable: bool) -> C:
+        is_enabled = is_true(enable)
         control = self.new_control(kind)
         control._open(device)
-        if enable:
+        if is_enabled:
             control._do(control._set + b"DeviceEnabled true", "device_enabled")
         return control
 
@@ -289,7 +318,7 @@ class Till:
 
         If it raises something, the device has no driver, and neither has the drawer that is on a printer.
         """
-        self._session.check()
+        self._session.check_call()
         known = {one.name: one for one in self._devices()}
         drivers = {device: driver, **driver.others()}
         for name in drivers:
@@ -378,13 +407,20 @@ class Till:
         return answer
 
 
-def _end_control(till: weakref.ref[Till], category: str, name: str) -> None:
-    """Closes a control that nothing refers to any more, so that its name can be used again."""
+def _end_control(till: weakref.ref[Till], category: str, name: str, is_chosen: bool) -> Callable[[], None] | None:
+    """Closes a control that nothing refers to any more. Returns what lets its name be used again, or None if the control
+    couldn't be closed, as without memory: then it may have a claim still."""
     found = till()
-    if found is not None and not found.is_closed:
-        with contextlib.suppress(Error):
-            found._carry_out(b"close %b" % name.encode())
-            found._free.setdefault(category, deque()).append(name)
+    if found is None or found.is_closed:
+        return _nothing
+    with contextlib.suppress(Error):
+        if found._carry_out(b"close %b" % name.encode()) != b"memory\n":
+            return functools.partial(found._give_back, category, name, is_chosen)
+    return None
+
+
+def _nothing() -> None:
+    """What is to be done for a control whose till is closed."""
 
 
 def open(profile: Profile | None = None, totals: Path | BinaryIO | None = None, *, create: bool = False,
@@ -408,10 +444,10 @@ def open(profile: Profile | None = None, totals: Path | BinaryIO | None = None, 
         TooSmallError: The file is too short for totals.
         LibraryError: The library isn't found, or is of another version.
     """
-    found, text = library_of(library), text_of(profile)
+    may_create, found, text = is_true(create), library_of(library), text_of(profile)
     with contextlib.ExitStack() as undo:
         undo.enter_context(_explaining(found, text))
-        file, owns, where = _file_of(found, totals, create, text.encode())
+        file, owns, where = _file_of(found, totals, may_create, text.encode())
         if owns and file is not None:
             undo.enter_context(file)
         session = Session(found, text.encode(), file)

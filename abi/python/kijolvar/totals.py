@@ -7,7 +7,7 @@ from types import TracebackType
 from typing import SupportsIndex
 
 from ._constants import E_NOEXIST
-from ._control import Text
+from ._control import Text, undoing
 from ._controls import HardTotals
 from .errors import IllegalError, NoExistError
 
@@ -34,7 +34,8 @@ class Totals(HardTotals):
             return False
         try:
             self.find(name)
-        except NoExistError:
+        except (NoExistError, UnicodeEncodeError, OverflowError):
+            # No file has a name that isn't ASCII, or is too long for a line.
             return False
         return True
 
@@ -73,8 +74,9 @@ class Totals(HardTotals):
             self.begin_trans()
             yield self
         except BaseException:
-            if not was_in_transaction and self._is_in_transaction():
-                self.rollback()
+            with contextlib.suppress(Exception):
+                if not was_in_transaction and self._is_in_transaction():
+                    self.rollback()
             raise
         self._commit()
 
@@ -164,7 +166,8 @@ class TotalsFile:
 
 
 class FileClaim:
-    """A claim of a file. At the end of a `with` block the file is released."""
+    """A claim of a file. At the end of a `with` block the file is released. If the block has disabled the control, that is
+    a DisabledError, and the file stays claimed until the control releases it or is closed."""
 
     def __init__(self, file: TotalsFile) -> None:
         self._file = file
@@ -179,7 +182,7 @@ class FileClaim:
                  trace: TracebackType | None) -> None:
         if self._file._totals.device is not None and not self._file._totals.till.is_closed:
             # The block may have released it, or deleted the file.
-            with contextlib.suppress(IllegalError):
+            with undoing(value), contextlib.suppress(IllegalError):
                 self._file.release()
 
 
