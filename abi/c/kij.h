@@ -169,7 +169,7 @@ enum kij_flags {
  *
  * Creating a file is all or nothing: it gets its name once it is whole and synced. The file is locked (flock) until
  * kij_close. A call that changes the totals returns once the change is synced. In a process that was forked from the
- * till's, it writes nothing: KIJ_DISK_FAILED.
+ * till's, such a call writes nothing: KIJ_DISK_FAILED.
  *
  * @param profile the profile's text (TOML, docs/reference/profile.md), which ends in a 0 byte; null or empty is the
     *   built profile
@@ -679,12 +679,12 @@ typedef struct kij_scan {
     size_t label_size;
 } kij_scan;
 
-/** A driver of your own, for other hardware. Each function gets the context that kij_driver_open got, and may be null.
- * None may call the till: KIJ_IN_CALL. */
+/** A driver of your own, for other hardware. Each function gets the context that kij_driver_open got. All but `carry_out`
+ * may be null, and a scanner has none. No function may call the till: KIJ_IN_CALL. */
 typedef struct kij_driver {
     /** The category of the device: KIJ_CASH_DRAWER, KIJ_SCANNER, KIJ_LINE_DISPLAY or KIJ_POS_PRINTER. */
     kij_category category;
-    /** Carries out an order, which is lent, in a bounded time: whether the device has done it. Scanners have none. */
+    /** Carries out an order, which is lent, in a bounded time: whether the device has done it. */
     bool (*carry_out)(void *context, const kij_order *order);
     /** What has happened at the device since the last call, as the words of `input` lines after the device's name
      * (docs/reference/console.md), each with a line feed: "cover open\npaper 0\n". Null if nothing has. Keep the text
@@ -700,14 +700,14 @@ typedef struct kij_driver {
     int (*file)(void *context);
     /** A spare serves the device from now on (kij_attach), which knows nothing of what `happened` said before. */
     void (*attached)(void *context);
-    /** The till is closed. */
+    /** The till is closed, by the process that opened it. */
     void (*end)(void *context);
 } kij_driver;
 
 /**
  * Has a driver of your own carry out the orders of a device from now on, and tell what happens there.
  *
- * @param driver  it is copied; begin with all fields null. `carry_out` isn't null, unless it is a scanner's
+ * @param driver  it is copied; begin with all fields null
  * @param context what its functions get
  * @return as kij_escpos_printer_open
  */

@@ -852,18 +852,13 @@ static void free_drive(kij_drive *drive) {
 /* Keeps the orders of hosted devices that nobody has taken out yet: those of a device that is driven from now on aren't
    its driver's. No line waits. A code of enum kij_code. */
 static int keep_hosted(kij_till *till) {
-    kij_buffer *hosted = &till->drives->hosted;
-    for (;;) {
-        size_t needed = 0;
-        uint32_t code = kijolvar_next_order(till->inner, &till->inner.at, NULL, 0, &needed);
-        if (code == KIJOLVAR_OK) return KIJ_OK;
-        if (code != KIJOLVAR_SHORT) return code == KIJOLVAR_NO_MEMORY ? KIJ_NO_MEMORY : KIJ_DISK_FAILED;
-        if (!kij_internal_buffer_room(hosted, hosted->size + needed + 1)) return KIJ_NO_MEMORY;
-        char *line = hosted->bytes + hosted->size;
-        code = kijolvar_next_order(till->inner, &till->inner.at, (uint8_t *)line, needed, &needed);
-        if (code != KIJOLVAR_ORDER) return KIJ_NO_MEMORY;
-        line[needed] = '\n';
-        hosted->size += needed + 1;
+    kij_drive *drive = NULL;
+    char *line = NULL;
+    switch (take_order(till, &drive, &line)) {
+    case KIJOLVAR_NO_ORDER: return KIJ_OK;
+    case KIJOLVAR_NO_MEMORY: return KIJ_NO_MEMORY;
+    case KIJOLVAR_DISK_FAILED: return KIJ_DISK_FAILED;
+    default: return KIJ_BAD_ANSWER;
     }
 }
 
