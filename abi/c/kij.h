@@ -679,8 +679,8 @@ typedef struct kij_scan {
     size_t label_size;
 } kij_scan;
 
-/** A driver of your own, for other hardware. Each function gets the context that kij_driver_open got. All but `carry_out`
- * may be null, and a scanner has none. No function may call the till: KIJ_IN_CALL. */
+/** A driver of your own, for other hardware. Each function gets the context that kij_driver_open got. All but
+ * `carry_out` may be null, and a scanner has none. No function may call the till: KIJ_IN_CALL. */
 typedef struct kij_driver {
     /** The category of the device: KIJ_CASH_DRAWER, KIJ_SCANNER, KIJ_LINE_DISPLAY or KIJ_POS_PRINTER. */
     kij_category category;
