@@ -110,15 +110,13 @@ fn book(till: &Till, cents: u64) -> Result<(), Error> {
         (file_of(&totals, "SALES")?, cents),
         (file_of(&totals, "COUNT")?, 1),
     ];
-    totals.begin_trans()?;
-    for (handle, more) in files {
-        totals.write(
-            handle,
-            0,
-            (number_in(&totals, handle)? + more).to_be_bytes(),
-        )?;
-    }
-    totals.commit_trans()
+    totals.transaction(|totals| {
+        for (handle, more) in files {
+            let sum = number_in(totals, handle)? + more;
+            totals.write(handle, 0, sum.to_be_bytes())?;
+        }
+        Ok(())
+    })
 }
 
 /// Prints the receipt while the sale goes on. The paper runs out, and is loaded.

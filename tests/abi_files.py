@@ -345,7 +345,7 @@ def failures(library, folder):
 
 LOOK = ["new t HardTotals", "open t t1", "set t DeviceEnabled true", "get t NumberOfFiles"]
 CHANGE = [*LOOK[:3], "call t create 41 8 false", "call t write 1 0 0000000000000001"]
-FORMAT = ["lock", f"length {KIJOLVAR_DISK_LENGTH}",
+FORMAT = ["lock", f"write {KIJOLVAR_DISK_LENGTH} at 0",
           *(f"write 1 at {gate}" for gate in (0, 16384, 32768, 49152, 65536, 196608)), "sync file",
           "write 14 at 1", "sync file", "write 1 at 0", "sync file"]
 

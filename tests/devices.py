@@ -10,13 +10,14 @@ tcp:HOST:PORT. The last line is 'N passed, M failed'.
 import argparse
 import contextlib
 import ctypes
+import gc
 import io
 import os
-import operator
 import pathlib
 import random
 import re
 import shutil
+import select
 import signal
 import socket
 import statistics
@@ -24,7 +25,10 @@ import struct
 import subprocess
 import sys
 import tempfile
+import termios
+import threading
 import time
+import types
 from unittest import mock
 
 TOP = pathlib.Path(__file__).resolve().parent.parent
@@ -98,15 +102,20 @@ def opened(profile=PROFILE, totals=None, **named):
 
 def cable(kind="usb"):
     """A new cable: "usb" hangs up with the device, "serial" doesn't, and "tcp" is a network printer's. "asked" is a
-    simpler printer on "usb". With "stays" behind it, the port stays open while the device is off."""
+    simpler printer on "usb". With "stays" behind it, the port stays open while the device is off. With "holds" it is a
+    serial line that keeps what the device doesn't take."""
     global made
     made += 1
     hangs_up = kind != "serial" and "stays" not in kind
-    return TcpCable(hangs_up=hangs_up) if "tcp" in kind else PtyCable(WORK / f"port-{made}", hangs_up=hangs_up)
+    if "tcp" in kind:
+        return TcpCable(hangs_up=hangs_up)
+    return PtyCable(WORK / f"port-{made}", hangs_up=hangs_up, holds="holds" in kind)
 
 
 def port_of(device, kind="usb"):
-    return SerialPort(device.path, 115200, flow="none") if kind == "serial" else device.path
+    if kind != "serial" and "holds" not in kind:
+        return device.path
+    return SerialPort(device.path, 115200, flow="none" if kind == "serial" else "rts-cts")
 
 
 def signs_of(device):
@@ -149,6 +158,13 @@ def same_paper(name, printer, items):
     told(name, (len(wanted), wanted[at:at + 2], []), (len(paper), paper[at:at + 2], strange))
 
 
+def not_whole(printer, items):
+    """Those items of `show` that aren't on the paper as they should be, in their order. Others may be between them."""
+    printer.wait(lambda: printer.is_idle)
+    found = iter(printer.receipt())
+    return [item for item in items if item_of(item) not in found]
+
+
 def characters_of(printer):
     return [item.characters for item in printer.receipt() if isinstance(item, Line)]
 
@@ -175,6 +191,9 @@ class Bench:
                 continue
             self.devices[device.name], self.drivers[device.name] = found, driver
             self.till.drive(device.name, driver)
+            if isinstance(driver, EscPosPrinter):
+                # A script knows how many lines are left near the end of the paper, which a driver doesn't.
+                driver._near = 0
         self.settle()
 
     def printer(self, device):
@@ -334,6 +353,10 @@ class Shop:
         self.till._drives.hand_in()
         return known
 
+    def begins(self):
+        """Prints a line. Once that is answered, nothing else is on its way to the printer."""
+        assert self.settle() and raised(self.control.print, b"Before\n") is None
+
     def same_paper(self, name):
         same_paper(name, self.device, self.till.device("r1").show().items)
 
@@ -429,6 +452,150 @@ def try_ports_that_stay():
                 told(f"{name}: nothing else", 0, shop.driver.late_orders)
 
 
+def try_power_behind_a_line():
+    """A printer that loses its power in the middle of a line, on a cable that keeps the rest: that is printed once the
+    printer is on again, and acknowledged. Each line is whole on the paper."""
+    for kind in ("holds", "asked holds"):
+        for place, pause, timeout in ((6, None, TIMEOUT), (35, None, TIMEOUT), (35, 2.5, 5.0)):
+            name = f"off after {place} bytes for {pause or 'longer than the timeout'}, over {kind}"
+            with contextlib.ExitStack() as stack:
+                shop = Shop(stack, kind, timeout=timeout)
+                shop.begins()
+                shop.device.ROOM = 8
+                port = shop.driver.link.port
+                dropped = stack.enter_context(mock.patch.object(port, "discard", wraps=port.discard))
+                shop.device.after(place if "asked" not in kind else place - 8 * (place > 14), shop.device.pull_plug)
+                if pause is not None:
+                    timer = threading.Timer(pause, shop.device.plug_in)
+                    timer.start()
+                    stack.callback(timer.join)
+                told(f"{name}: the answer", (111, 0), raised(shop.control.print, TEXT))
+                told(f"{name}: what the line has is dropped", True, dropped.called)
+                if pause is None:
+                    until(lambda: shop.till.run_devices(0.01) and False, 1.5 * TIMEOUT)
+                    told(f"{name}: still off", (108, 0), raised(shop.control.print, TEXT))
+                    shop.device.plug_in()
+                    told(f"{name}: it is back", True, shop.settle())
+                told(f"{name}: again", True, until(lambda: raised(shop.control.print, TEXT) is None))
+                told(f"{name}: another order", None, raised(shop.control.print, b"Other\n"))
+                items = shop.till.device("r1").show().items
+                told(f"{name}: each line is whole", (5, []), (len(items), not_whole(shop.device, items)))
+                told(f"{name}: at most one part of a line", True, len(shop.device.receipt()) <= 9)
+                told(f"{name}: nothing else", 0, shop.driver.late_orders)
+
+
+def try_order_behind_a_line():
+    """A printer that is off before an order, on a cable that keeps what is sent: only the first order waits in it. A slow
+    printer on it that answers isn't taken for one that is off."""
+    with contextlib.ExitStack() as stack:
+        shop = Shop(stack, "holds")
+        shop.begins()
+        shop.device.pull_plug()
+        told("off before an order", (111, 0), raised(shop.control.print, TEXT))
+        told("off before another one", True, raised(shop.control.print, TEXT) is not None)
+        held = b""
+        while some := shop.device.cable.read(4096):
+            held += some
+        told("how often the order waits", 1, held.count(b"Third line"))
+        shop.device.plug_in()
+        told("it is back", True, shop.settle())
+        told("the order again", None, raised(shop.control.print, TEXT))
+        shop.same_paper("off before an order: the paper")
+    with contextlib.ExitStack() as stack:
+        shop = Shop(stack, "holds", timeout=3 * TIMEOUT)
+        stack.enter_context(mock.patch("kijolvar._links._SILENT", TIMEOUT))
+        shop.begins()
+        shop.device.slow(1.5 * TIMEOUT)
+        told("a line takes long", None, raised(shop.control.print, TEXT))
+        shop.same_paper("a line takes long: the paper")
+        shop.device.hang()
+        began = time.monotonic()
+        told("a silent printer", (111, 0), raised(shop.control.print, TEXT))
+        told("a silent printer: when it has failed", True, TIMEOUT <= time.monotonic() - began < 2.5 * TIMEOUT)
+
+
+def try_late_answer_behind_a_line():
+    """A printer that is asked and answers late what its line has kept: that answer, which has no number, counts for no line
+    that is sent again."""
+    with contextlib.ExitStack() as stack:
+        shop = Shop(stack, "asked holds", timeout=max(TIMEOUT, 1.0))
+        shop.begins()
+        shop.device.slow(0.3)
+        shop.device.after(13, shop.device.hang)
+        told("it falls silent in a line", (111, 0), raised(shop.control.print, TEXT))
+        shop.device.hang(False)
+        told("it goes on", True, until(
+            lambda: shop.till.run_devices() is not None and raised(shop.control.print, TEXT) is None))
+        told("all is printed that was acknowledged", True, shop.device.is_idle)
+        shop.device.slow(0)
+        told("each line is whole", [], not_whole(shop.device, shop.till.device("r1").show().items))
+
+
+def try_cover_behind_a_line():
+    """A printer that takes nothing while its cover is open, on a cable that keeps what is sent."""
+    for place, pause in ((6, 0), (35, 0), (35, 3.5 * TIMEOUT)):
+        name = f"the cover is open for {pause} s after {place} bytes"
+        with contextlib.ExitStack() as stack:
+            shop = Shop(stack, "holds")
+            shop.begins()
+            shop.device.ROOM = 8
+            shop.device.after(place, lambda: shop.device.cover(True))
+            answers = {raised(shop.control.print, TEXT)}
+            until(lambda: shop.till.run_devices(0.01) is None or answers.add(raised(shop.control.print, TEXT)), pause)
+            told(f"{name}: the answers", ({(114, 201)}, True), (answers, shop.driver.is_online))
+            shop.device.cover(False)
+            told(f"{name}: it goes on", True, shop.settle())
+            told(f"{name}: again", None, raised(shop.control.print, TEXT))
+            shop.same_paper(f"{name}: the paper")
+            told(f"{name}: nothing else", (4, 0), (len(shop.device.receipt()), shop.driver.late_orders))
+    for opens, closes, wanted in ((lambda device: device.cover(True), lambda device: device.cover(False), (114, 201)),
+                                  (lambda device: device.load(0), lambda device: device.load(1000), (114, 203))):
+        name = f"off and on while it has stopped ({wanted[1]})"
+        with contextlib.ExitStack() as stack:
+            shop = Shop(stack, "holds")
+            shop.begins()
+            shop.device.ROOM = 8
+            shop.device.after(35, lambda: opens(shop.device))
+            told(f"{name}: the answer", wanted, raised(shop.control.print, TEXT))
+            shop.device.pull_plug()
+            until(lambda: shop.till.run_devices(0.01) and False, 0.7)
+            shop.device.plug_in()
+            until(lambda: shop.till.run_devices(0.01) and False, 0.7)
+            told(f"{name}: still", wanted, raised(shop.control.print, TEXT))
+            closes(shop.device)
+            told(f"{name}: again", True, until(
+                lambda: shop.till.run_devices(0.01) is not None and raised(shop.control.print, TEXT) is None))
+            items = shop.till.device("r1").show().items
+            told(f"{name}: each line is whole", (4, []), (len(items), not_whole(shop.device, items)))
+
+
+def try_lines_that_hold():
+    """Which ports hold back what is sent, and that they drop it."""
+    link = WORK / "a-line"
+    with Printer(cable("holds")) as device:
+        os.symlink(device.path, link)
+        ports = [SerialPort(device.path), SerialPort(device.path, flow="xon-xoff"), SerialPort(device.path, flow="none"),
+                 kijolvar.FilePort(device.path), kijolvar.TcpPort("127.0.0.1"), kijolvar.port_of(link),
+                 kijolvar.port_of(link, flow="none")]
+        with mock.patch("kijolvar.ports._is_line", return_value=True):
+            for port in ports[-2:]:
+                port.open()
+                port.close()
+        told("ports that hold back", [True, True, False, False, False, True, False], [port.holds_back for port in ports])
+        told("serial lines", [True, True, True, False, False, True, True], [port.is_line for port in ports])
+        device.pull_plug()
+        for port in (ports[0], ports[2]):
+            port.open()
+            sent, found = port.write_some(b"x" * 8000), b""
+            port.discard()
+            while some := device.cable.read(8000):
+                found += some
+            told(f"what is dropped of a line that holds back: {port.holds_back}", port.holds_back, len(found) < sent)
+            port.close()
+        ports[0].discard()
+        told("a port that is closed drops nothing", False, ports[0].is_open)
+
+
 def try_blinks():
     """A port that stays open while the printer has no power for a moment, and loses a line of several: no answer to a
     later line counts for it."""
@@ -450,6 +617,136 @@ def try_blinks():
         time.sleep(1.5 * TIMEOUT)
         shop.till.run_devices()
         told("the printer is there, though nobody has looked for long", True, shop.driver.is_online)
+
+
+def clears_output(shop):
+    shop.control.clear_output()
+
+
+def releases(shop):
+    shop.control.release()
+    shop.control.claim()
+    shop.control.device_enabled = True
+
+
+def closes(shop):
+    shop.control.close()
+    shop.control.open("r1")
+    shop.control.claim()
+    shop.control.device_enabled = True
+
+
+def discards(shop):
+    """Nothing refers to the control any more, and another one takes its place."""
+    shop.control = None
+    gc.collect()
+    shop.control = shop.till.printer("r1")
+    shop.control.claim()
+    shop.control.device_enabled = True
+
+
+def runs_lines(shop, *lines):
+    answers = shop.till.carry_out("".join(f"{line}\n" for line in lines))
+    assert "err" not in answers, answers
+
+
+# How an application gives up an order that has failed: with its control, and with lines; and how it doesn't.
+WAYS = {
+    "clear_output": clears_output,
+    "a line that clears": lambda shop: runs_lines(shop, "# No answer", f" call  {shop.control.name} clearOutput "),
+}
+NO_WAYS = {
+    "a release": releases, "a close": closes, "a control that is discarded": discards,
+    "a line that releases": lambda shop: runs_lines(
+        shop, f"release {shop.control.name}", f"claim {shop.control.name} 0",
+        f"set {shop.control.name} DeviceEnabled true"),
+}
+
+
+def try_given_up():
+    """An order that failed and was given up: the same order is a new one. What comes out late is counted. One whose
+    control was only released or closed isn't given up."""
+    lines = [b"First line", b"Second line", b"Third line"]
+    for name, does in (WAYS | NO_WAYS).items():
+        with contextlib.ExitStack() as stack:
+            till, device = stack.enter_context(opened()), stack.enter_context(Printer(cable()))
+            shop = types.SimpleNamespace(till=till, control=till.printer("r1"))
+            till.drive("r1", driver := EscPosPrinter(device.path, timeout=TIMEOUT, pause=PAUSE))
+            shop.control.claim()
+            shop.control.device_enabled = True
+            device.after(3, lambda: device.cover(True))
+            told(f"{name}: the order fails", (114, 201), raised(shop.control.print, TEXT))
+            does(shop)
+            device.cover(False)
+            late = int(name in WAYS)
+            told(f"{name}: what comes out late", True, until(
+                lambda: (till.run_devices(0.01), driver.late_orders == late and characters_of(device) == lines)[1]))
+            until(lambda: not till.run_devices(0.01) and not driver.link.is_stopped)
+            told(f"{name}: the same order", (None, lines * (1 + late)),
+                 (raised(shop.control.print, TEXT), characters_of(device)))
+            told(f"{name}: late orders", late, driver.late_orders)
+    for name, gives_up in {"a reply": lambda event: event.reply(kijolvar.ER_CLEAR), "a reply in a line": None}.items():
+        with contextlib.ExitStack() as stack:
+            shop = Shop(stack)
+            shop.begins()
+            shop.control.async_mode = True
+            shop.device.after(20, lambda: shop.device.cover(True))
+            shop.control.print(TEXT)
+            shop.till.run_devices()
+            shop.device.cover(False)
+            # It is printed before it is given up.
+            shop.device.wait(lambda: len(shop.device.receipt()) == 4)
+            shop.driver.poll()
+            if gives_up is None:
+                told(f"{name}: the event", "event ErrorEvent 114 201 1", shop.till.carry_out(
+                    f"deliver {shop.control.name}\ndeliver {shop.control.name} clear").splitlines()[-1])
+            else:
+                events = [event for event in shop.till.events() if isinstance(event, kijolvar.ErrorEvent)
+                          and gives_up(event) is None]
+                told(f"{name}: the event", [201], [event.extended for event in events])
+            shop.control.async_mode = False
+            told(f"{name}: it is late", 1, shop.driver.late_orders)
+            shop.settle()
+            told(f"{name}: the same order", (None, [b"Before", *lines, *lines]),
+                 (raised(shop.control.print, TEXT), characters_of(shop.device)))
+            told(f"{name}: late orders", 1, shop.driver.late_orders)
+
+
+def try_given_up_by_a_text():
+    """A text that gives an order up and then has the same one."""
+    with contextlib.ExitStack() as stack:
+        shop = Shop(stack)
+        shop.begins()
+        shop.device.after(20, lambda: shop.device.cover(True))
+        told("an order that fails", (114, 201), raised(shop.control.print, TEXT))
+        shop.device.cover(False)
+        shop.settle()
+        name = shop.control.name
+        told("the text", "ok\nok\nok 2\n", shop.till.carry_out(
+            f"call {name} clearOutput\ncall {name} printNormal 2 {TEXT.hex()}\nget {name} State\n"))
+        told("it is printed twice", (7, 1), (len(shop.device.receipt()), shop.driver.late_orders))
+
+
+def try_not_given_up():
+    """What gives up nothing: other devices' controls, a refused call, and a reply to no ErrorEvent."""
+    with contextlib.ExitStack() as stack:
+        shop = Shop(stack)
+        drawer, other = shop.till.drawer("d1"), shop.till.printer("r1")
+        shop.device.after(20, lambda: shop.device.cover(True))
+        told("an order that fails", (114, 201), raised(shop.control.print, TEXT))
+        drawer.claim()
+        drawer.release()
+        drawer.close()
+        told("a call that is refused", (102, 0), raised(other.clear_output))
+        told("a reply to no error", True, isinstance(shop.control.next_event(kijolvar.ER_CLEAR), StatusUpdateEvent))
+        told("lines that do nothing", "bad line\nbad control\n", shop.till.carry_out(" clear\ndeliver nobody clear\n"))
+        with shop.till.display("p1").in_use() as display:
+            told("a display that is cleared", None, raised(display.clear_text))
+        shop.device.cover(False)
+        shop.settle()
+        told("the order again", None, raised(shop.control.print, TEXT))
+        shop.same_paper("what gives up nothing: the paper")
+        told("nothing is late", 0, shop.driver.late_orders)
 
 
 def try_asynchronous():
@@ -544,14 +841,14 @@ def try_errands():
         totals = till.totals("t1")
         totals.create("COUNT", 1)
         printer = stack.enter_context(till.printer("r1").in_use())
-        handle = operator.index(totals["COUNT"])
+        handle = totals["COUNT"].handle
 
         def lines(first, text, second):
             return (f"call {totals.name} write {handle} 0 {first:02x}\ncall {printer.name} printNormal 2 {text}\n"
                     f"call {totals.name} write {handle} 0 {second:02x}\n")
 
         def kept():
-            return path.read_bytes(), totals["COUNT"].read(0, 1)
+            return path.read_bytes(), totals["COUNT"].read(count=1)
         told("totals around an order", "ok\nok\nok\n", till.carry_out(lines(1, "410a", 2)))
         told("they are there", b"\2", kept()[1])
         device.after(5, lambda: device.cover(True))
@@ -846,13 +1143,22 @@ def code_without_memory(heap, number, call, *words):
 
 
 def try_slow():
-    """A slow printer has time until the timeout, and what comes later isn't printed again."""
+    """A slow printer has time until the timeout for each line, and what comes later isn't printed again."""
     limit = 2.5 * TIMEOUT
+    for kind in ("usb", "asked", "holds"):
+        with contextlib.ExitStack() as stack:
+            shop = Shop(stack, kind)
+            shop.device.slow(TIMEOUT / 2)
+            began = time.monotonic()
+            told(f"a receipt that takes long over {kind}", None, raised(shop.control.print, TEXT + TEXT))
+            told(f"a receipt that takes long over {kind}: how long", True, time.monotonic() - began > 2.5 * TIMEOUT)
+            shop.device.slow(0)
+            shop.same_paper(f"a receipt that takes long over {kind}: the paper")
     with contextlib.ExitStack() as stack:
         shop = Shop(stack, timeout=limit)
         shop.device.slow(limit / 10)
         told("a slow printer", None, raised(shop.control.print, TEXT))
-        shop.device.slow(limit / 2)
+        shop.device.slow(1.5 * limit)
         told("a printer that is too slow", (111, 0), raised(shop.control.print, TEXT))
         shop.device.slow(0)
         told("the same again", None, raised(shop.control.print, TEXT))
@@ -1093,6 +1399,49 @@ def try_status():
         shop.same_paper("a jam: the paper")
 
 
+def try_near_end():
+    """Paper that is near its end: the till takes a request of as many lines as its device's `near` while the printer sees
+    paper."""
+    for kind in ("usb", "asked"):
+        with contextlib.ExitStack() as stack:
+            shop = Shop(stack, kind)
+            shop.device.near = 90
+            shop.device.load(90)
+            shop.settle()
+            list(shop.control.events())
+            shop.device.load(89)
+            texts = [b"".join(b"%d %d\n" % (number, line) for line in range(15)) for number in range(3)]
+            told(f"near the end over {kind}", [None] * 3, [raised(shop.control.print, text) for text in texts])
+            shop.control.async_mode = True
+            told(f"near the end over {kind}: waiting output", [None] * 2,
+                 [raised(shop.control.print, b"y\n" * 10) for _ in range(2)])
+            told(f"near the end over {kind}: it is printed", True,
+                 until(lambda: shop.till.run_devices(0.01) and shop.control.state == 2))
+            told(f"near the end over {kind}: no event but that", [], [
+                event for event in shop.control.events() if not isinstance(event, OutputCompleteEvent)])
+            told(f"near the end over {kind}: what it shows", (True, False),
+                 (shop.control.rec_near_end, shop.control.rec_empty))
+            shop.control.async_mode = False
+            told(f"near the end over {kind}: as many as there may be", [None, None, (114, 203)],
+                 [raised(shop.control.print, b"x\n" * count) for count in (1, 20, 21)])
+            shop.till.run_devices()
+            told(f"near the end over {kind}: the end", (None, (114, 203)),
+                 (raised(shop.control.print, b"z\n" * 3), raised(shop.control.print, b"z\n" * 3)))
+            told(f"near the end over {kind}: it is empty", (True, 0), (shop.control.rec_empty, shop.device.lines_left))
+            shop.device.load(1000)
+            shop.settle()
+            told(f"near the end over {kind}: a new roll", None, raised(shop.control.print, b"z\n" * 3))
+            shop.same_paper(f"near the end over {kind}: the paper")
+    with contextlib.ExitStack() as stack:
+        till = stack.enter_context(opened(PROFILE.replace("near = 20", "near = 0")))
+        device = stack.enter_context(Printer(cable(), lines=90, near=90))
+        till.drive("r1", EscPosPrinter(device.path, timeout=TIMEOUT, pause=PAUSE, lines=50))
+        with till.printer("r1").in_use() as printer:
+            told("a device that is never near its end", [None] * 2, [raised(printer.print, b"x\n" * 15) for _ in range(2)])
+            told("it counts down", (False, till.device("r1").show().lines_left),
+                 (printer.rec_near_end, 1000 - 30))
+
+
 def try_drawer():
     """A drawer on a printer's connector."""
     for is_open_high in (True, False):
@@ -1173,6 +1522,91 @@ def try_display():
                 told(f"{name}: scrolled", True, shows(b"Total           9.00" + b" " * 20))
                 display.clear_text()
                 told(f"{name}: cleared", True, shows(b" " * 40))
+
+
+def try_display_that_was_off():
+    """A display with its own power supply, which was off and on again while nobody could see it."""
+    for kind in ("usb stays", "serial"):
+        with contextlib.ExitStack() as stack:
+            till = stack.enter_context(opened())
+            device = stack.enter_context(Display(cable(kind), 2, 20))
+            till.drive("p1", SerialDisplay(port_of(device, kind), pause=PAUSE))
+            display = stack.enter_context(till.display("p1").in_use())
+            blank, welcome = b" " * 40, b"Welcome" + b" " * 33
+
+            def starts():
+                # What was sent before has arrived.
+                device.wait(lambda: device.is_idle and not select.select(device.cable.files(), [], [], 0)[0])
+                device.pull_plug()
+                device.plug_in()
+                with device.lock:
+                    device.cells[0][:7] = b"Welcome"
+
+            def shows(text):
+                return device.wait(lambda: device.shows() == text, PATIENCE) or device.shows()
+            told(f"over {kind}: an order", None, raised(display.clear_text))
+            starts()
+            told(f"over {kind}: what it shows by itself", True, shows(welcome))
+            told(f"over {kind}: an order that changes nothing", (None, True), (raised(display.clear_text), shows(blank)))
+            told(f"over {kind}: a row", (None, True),
+                 (raised(display.display_text, b"Bread"), shows(b"Bread" + b" " * 35)))
+            starts()
+            told(f"over {kind}: the other row soon after", (None, True),
+                 (raised(display.display_text_at, 1, 0, b"Milk"), shows(b"Welcome" + b" " * 13 + b"Milk" + b" " * 16)))
+            starts()
+            with mock.patch("kijolvar.drivers._UNSEEN", 0.05):
+                time.sleep(0.06)
+                told(f"over {kind}: a row after a while", (None, True), (
+                    raised(display.display_text_at, 1, 0, b"Eggs"), shows(b"Bread" + b" " * 15 + b"Eggs" + b" " * 16)))
+
+
+def try_flow():
+    """What of a line's settings is as it has to be: no flow control for a display, and which bytes count."""
+    with Scanner(cable()) as device:
+        def flags_of(port):
+            port.open()
+            found = termios.tcgetattr(port.fileno())
+            port.close()
+            return bool(found[0] & termios.IGNBRK), bool(found[0] & termios.INPCK), bool(found[2] & termios.CRTSCTS)
+        with mock.patch("kijolvar.ports._is_line", return_value=True):
+            line = SerialPort(device.path)
+            for name, port, wanted in (
+                    ("a display", SerialDisplay(device.path).port, False),
+                    ("a display at a line", SerialDisplay(line).port, True),
+                    ("a printer", EscPosPrinter(device.path).link.port, True),
+                    ("a scanner", WedgeScanner(device.path).port, True)):
+                told(f"{name}: breaks, parity and flow", (True, False, wanted), flags_of(port))
+        with mock.patch("kijolvar.ports._is_line", side_effect=[False, False, True, True]):
+            told("links that lead to a line later", [False, True],
+                 [flags_of(port)[2] for port in (SerialDisplay(device.path).port, EscPosPrinter(device.path).link.port)])
+        told("a file that is no line", (True, False), flags_of(kijolvar.FilePort(device.path))[:2])
+        for parity in ("even", "odd"):
+            told(f"a line with {parity} parity", (True, True, False),
+                 flags_of(SerialPort(device.path, parity=parity, flow="none")))
+
+
+def try_disturbed_scans():
+    """A 0 byte from a serial line is one that the line has disturbed: its code is a failed scan."""
+    for port, wanted in ((SerialPort, ["ErrorEvent", "DataEvent"]), (kijolvar.FilePort, ["DataEvent"] * 2)):
+        with contextlib.ExitStack() as stack:
+            till = stack.enter_context(opened())
+            device = stack.enter_context(Scanner(cable()))
+            till.drive("s1", WedgeScanner(port(device.path), pause=PAUSE))
+            scanner = stack.enter_context(till.scanner("s1").in_use())
+            found, codes = [], []
+
+            def scans():
+                till.run_devices(0.01)
+                scanner.data_event_enabled = True
+                for event in scanner.events():
+                    found.append(type(event).__name__)
+                    codes.append(scanner.scan_data)
+                    scanner.data_event_enabled = True
+                return len(found) == 2
+            device.garbage(b"40063\x008133\r")
+            until(lambda: scans() or len(found) == 1)
+            device.garbage(b"4006381\r")
+            told(f"a 0 byte at a {port.__name__}", (True, wanted, b"4006381"), (until(scans), found, codes[-1]))
 
 
 def try_scanner():
@@ -1352,6 +1786,11 @@ class Own(Driver):
         codes, self.codes = self.codes, []
         return codes
 
+    def given_up(self):
+        self.did.append("given up")
+        if self.says:
+            raise OSError("a driver's fault")
+
 
 def try_own():
     """Drivers of one's own: what was before them, and in which order the till is told what they say."""
@@ -1365,6 +1804,12 @@ def try_own():
             printer.print(b"C\n")
             told("orders of a device that was hosted before", [("print", b"B\n"), ("print", b"C\n")], own.did)
             told("the host's", [("r1", (b"A\n",))], [(order.device, order.arguments) for order in till.orders()])
+            own.did.clear()
+            told("output that is cleared", (None, ["given up"]), (name_of(printer.clear_output), own.did))
+            own.says = ["power on"]
+            told("a driver's fault then", (None, "OSError"), (name_of(printer.clear_output), name_of(till.run_devices, 0)))
+            own.did, own.says = [], []
+        told("a control that is released", [], own.did)
         till.device("d1").power(False)
         till.drive("d1", drawer := Own("CashDrawer"))
         told("a device that was off before", None, raised(till.drawer("d1").open_drawer))
@@ -1650,6 +2095,21 @@ def try_refusals():
                 told("and prints", (None, 3), (raised(printer.print, TEXT), len(device.receipt())))
         with opened(PROFILE.replace("chars = 42", "chars = 48").replace("near = 20", "near = 2")) as till:
             told("a driver for another till", None, name_of(till.drive, "r1", driver))
+    with contextlib.ExitStack() as stack:
+        till, device = stack.enter_context(opened(flaky)), stack.enter_context(Printer(cable()))
+        till.drive("r1", driver := EscPosPrinter(device.path, timeout=TIMEOUT, pause=PAUSE))
+        control = stack.enter_context(till.printer("r1").in_use())
+        told("a drawer that can't be driven, later", "NoDeviceError", name_of(till.drive, "d1", EscPosDrawer(driver)))
+        told("its printer is there still", True, driver.is_online)
+        told("and prints still", (None, 3), (raised(control.print, TEXT), len(device.receipt())))
+    with contextlib.ExitStack() as stack:
+        till, device = stack.enter_context(opened()), stack.enter_context(Printer(cable()))
+        driver = EscPosPrinter(device.path, width=20, timeout=TIMEOUT, pause=PAUSE)
+        till.drive("d1", EscPosDrawer(driver))
+        told("a printer that can't be driven", "ValueError", name_of(till.drive, "r1", driver))
+        told("its drawer opens still", (None, 1), (raised(till.drawer("d1").open_drawer), len(device.pulses)))
+        till.close()
+        told("nobody has its port", False, driver.link.port.is_open)
     with opened(PROFILE.replace("near = 20", f"near = {MOST_LINES}")) as till:
         told("near its end for ever", "ValueError", name_of(till.drive, "r1", EscPosPrinter("/dev/null")))
     told("no such cutter", "ValueError", name_of(EscPosPrinter, "/dev/null", cutter="axe"))
@@ -1671,8 +2131,9 @@ def try_refusals():
 # ---- random faults
 
 def try_random():
-    """Random trouble: each order that was answered ok is on the paper once, in order, and nothing else is."""
-    kinds = "usb", "tcp", "asked", "usb stays", "tcp stays", "asked stays"
+    """Random trouble: each order that was answered ok is on the paper once, in order, and nothing else is. On a line that
+    holds back what is sent, it may be there again, and parts of it if the printer had no power."""
+    kinds = "usb", "tcp", "asked", "usb stays", "tcp stays", "asked stays", "holds", "asked holds"
     for kind in kinds:
         chance, left = random.Random(f"{WORDS.seed} {kind}"), WORDS.faults // len(kinds)
         while left > 0:
@@ -1686,18 +2147,43 @@ def random_rounds(kind, chance, rounds):
     with contextlib.ExitStack() as stack:
         shop = Shop(stack, kind, lines=100_000)
         shop.device.load(100_000)
+        # What the printer hasn't read ahead is in the line.
+        shop.device.ROOM = 8 if "holds" in kind else shop.device.ROOM
+        strange = []
         for number in range(rounds):
+            before = len(shop.device.receipt()), len(shop.till.device("r1").show().items)
             trouble = random_round(shop, chance, number, SIMPLE if "asked" in kind else ())
             counts[trouble] = counts.get(trouble, 0) + 1
+            strange += strange_on_paper(shop, *before, trouble, kind) if "holds" in kind else []
         shop.device.clear_triggers()
-        shop.same_paper(f"{name}: the paper")
+        if "holds" not in kind:
+            shop.same_paper(f"{name}: the paper")
+        told(f"{name}: no paper of a round is strange", [], strange[:1])
         told(f"{name}: each order is printed", rounds,
              len({item.characters.split()[0] for item in shop.till.device("r1").show().items
                   if not isinstance(item, PrintedCut)}))
         told(f"{name}: no late order", 0, shop.driver.late_orders)
         most = counts.get("plug", 0) + MOST_PIECES * counts.get("lost answers", 0)
-        told(f"{name}: no more doubts than there was reason for", True, len(shop.device.doubts) <= most)
+        told(f"{name}: no more doubts than there was reason for", True,
+             "holds" in kind or len(shop.device.doubts) <= most)
         print(f"{name}: {counts}, in doubt: {len(shop.device.doubts)}", flush=True)
+
+
+def strange_on_paper(shop, had, items, trouble, kind):
+    """What is wrong with the paper of a round over a line that holds back what is sent: each line of the order is whole.
+    Only a printer that was silent may print more than once, and only one that had no power a part of a line."""
+    shop.device.wait(lambda: shop.device.is_idle)
+    wanted = [item_of(item) for item in shop.till.device("r1").show().items[items:]]
+    left, others = list(wanted), []
+    for item in shop.device.receipt()[had:]:
+        if left and item == left[0]:
+            del left[0]
+        else:
+            others.append(item)
+    parts = [item for item in others if item not in wanted]
+    may_repeat = trouble in ("plug", "silence", "lost answers") or "asked" in kind and trouble in ("cover", "paper", "jam")
+    is_right = not left and (may_repeat or not others) and (trouble == "plug" or not parts)
+    return [] if is_right else [(trouble, wanted, shop.device.receipt()[had:])]
 
 
 # What a printer that is asked must not meet: its answers have no number.
@@ -1814,7 +2300,7 @@ with kijolvar.open(profile, path, library=library) as till:
     till.drive("r1", kijolvar.EscPosPrinter(port))
     printer, totals = till.printer("r1"), till.totals("t1")
     with printer.in_use():
-        count = int.from_bytes(totals["COUNT"].read(0, 4), "big")
+        count = int.from_bytes(totals["COUNT"].read(count=4), "big")
         while True:
             count += 1
             printer.print(b"Sale %d\\n" % count)

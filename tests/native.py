@@ -70,11 +70,13 @@ def told(name, wanted, found):
 
 def cable(kind="usb"):
     """A new cable: "usb" hangs up with the device, a serial line doesn't, "tcp" is a network printer's. With "stays"
-    behind it, the port stays open while the device is off."""
+    behind it, the port stays open while the device is off. "holds" is a serial line with RTS/CTS."""
     global made
     made += 1
     hangs_up = "serial" not in kind and "stays" not in kind
-    return TcpCable(hangs_up=hangs_up) if "tcp" in kind else PtyCable(WORK / f"port-{made}", hangs_up=hangs_up)
+    if "tcp" in kind:
+        return TcpCable(hangs_up=hangs_up)
+    return PtyCable(WORK / f"port-{made}", hangs_up=hangs_up, holds="holds" in kind)
 
 
 def until(condition, seconds=PATIENCE):
@@ -139,6 +141,7 @@ class Shop:
         self.device = stack.enter_context(made(cable(kind), lines=lines, is_simple="asked" in kind))
         self.host = Host(stack)
         words += " asked" * ("asked" in kind) + " serial 115200" * ("serial" in kind)
+        words += " serial 115200 flow rts-cts" * ("holds" in kind)
         opened = f"printer r1 {self.device.path} timeout {timeout} pause 10 lines 1000 {words}"
         told("the printer is opened", "ok", self.host.ask(opened))
         # On a machine that is busy it may have been silent meanwhile.
@@ -171,7 +174,7 @@ class Shop:
 
 def try_plain():
     """Orders by lines and by a typed call, asynchronous output, and lines around orders."""
-    for kind in ("usb", "tcp", "serial", "asked"):
+    for kind in ("usb", "tcp", "serial", "asked", "holds", "asked holds"):
         with contextlib.ExitStack() as stack:
             shop = Shop(stack, kind, timeout=AMPLE)
             told(f"an order over {kind}", "ok", shop.print(TEXT))
@@ -231,6 +234,115 @@ def try_troubles():
                     told(f"{name}: again", True, until(lambda: shop.print(TEXT) == "ok"))
                     told(f"{name}: the paper", PRINTED, shop.paper())
                     told(f"{name}: nothing else", "0", shop.late())
+
+
+def try_long_receipt():
+    """A receipt that takes longer than the timeout is printed, since each line is acknowledged in time; and it fails in
+    time where no line is."""
+    lines = [b"Line %d" % number for number in range(12)]
+    for kind in ("usb", "tcp", "serial", "asked", "holds"):
+        with contextlib.ExitStack() as stack:
+            shop = Shop(stack, kind)
+            shop.device.slow(TIMEOUT / 4000)
+            began = time.monotonic()
+            told(f"a long receipt over {kind}", "ok", shop.print(b"\n".join(lines) + b"\n"))
+            told(f"it takes its time over {kind}", True, time.monotonic() - began > 2.5 * TIMEOUT / 1000)
+            told(f"its paper over {kind}", lines, [item[1] for item in shop.paper()])
+            ends = []
+            # It stops within the fourth line.
+            shop.device.after(70, shop.device.hang, lambda: ends.append(time.monotonic()))
+            told(f"one that stops over {kind}", "err 111", shop.print(b"\n".join(lines) + b"\n"))
+            took = time.monotonic() - ends[0] if ends else None
+            told(f"it fails in time over {kind}", True, took is not None and took < TIMEOUT / 1000 + WORDS.slack)
+
+
+RECEIPT = [b"Article %d of the receipt" % number for number in range(8)]
+
+
+def print_receipt(shop):
+    return shop.print(b"\n".join(RECEIPT) + b"\n")
+
+
+def missing(shop):
+    """The lines of the receipt that aren't whole on the paper."""
+    shop.device.wait(lambda: shop.device.is_idle)
+    return [line for line in RECEIPT if line not in [item.characters for item in shop.device.receipt()]]
+
+
+def is_done_after_all(shop):
+    """Whether a retry of the receipt is done."""
+    return until(lambda: shop.host.ask("run 10") and print_receipt(shop) == "ok")
+
+
+def try_end_held_back():
+    """A serial line holds the end of a line back while the printer is off: that isn't told as printed."""
+    for kind in ("holds", "asked holds"):
+        for place in (10, 60, 150):
+            name = f"off after {place} bytes, over {kind}"
+            with contextlib.ExitStack() as stack:
+                shop = Shop(stack, kind)
+                shop.device.ROOM = 8
+                shop.device.after(place, shop.device.pull_plug)
+                told(f"{name}: the answer", "err 111", print_receipt(shop))
+                end = time.monotonic() + 1.5 * TIMEOUT / 1000
+                until(lambda: shop.host.ask("run 10") and time.monotonic() > end)
+                told(f"{name}: still", "err", print_receipt(shop)[:3])
+                shop.device.plug_in()
+                told(f"{name}: again", True, is_done_after_all(shop))
+                told(f"{name}: each line is whole", [], missing(shop))
+                told(f"{name}: the last line", RECEIPT[-1], shop.device.receipt()[-1].characters)
+            name = f"off for a while after {place} bytes, over {kind}"
+            with contextlib.ExitStack() as stack:
+                shop = Shop(stack, kind, timeout=5000)
+                shop.device.ROOM = 8
+                timer = threading.Timer(2.5, shop.device.plug_in)
+                shop.device.after(place, shop.device.pull_plug, timer.start)
+                told(f"{name}: it is done", True, print_receipt(shop) == "ok" or is_done_after_all(shop))
+                timer.join()
+                told(f"{name}: each line is whole", [], missing(shop))
+
+
+def try_cover_over_line():
+    """A printer whose cover is open takes nothing from a line with RTS/CTS, not even a question: its cover is known to
+    be open all the time, and a retry prints once."""
+    for place in (10, 60, 150):
+        for seconds in (0.1, 3.5 * TIMEOUT / 1000):
+            name = f"the cover is open for {seconds} s after {place} bytes"
+            with contextlib.ExitStack() as stack:
+                shop = Shop(stack, "holds")
+                shop.device.ROOM = 8
+                shop.device.after(place, lambda: shop.device.cover(True))
+                answers, end = {print_receipt(shop)}, time.monotonic() + seconds
+                while time.monotonic() < end:
+                    shop.host.ask("run 10")
+                    answers.add(print_receipt(shop))
+                told(f"{name}: the answers", {"err 114 201"}, answers)
+                told(f"{name}: it is on", "online 0", shop.host.ask("state r1"))
+                shop.device.cover(False)
+                told(f"{name}: it ends", True, shop.settle())
+                told(f"{name}: again", "ok", print_receipt(shop))
+                told(f"{name}: the paper", RECEIPT, [item[1] for item in shop.paper()])
+                told(f"{name}: nothing else", "0", shop.late())
+
+
+def try_reset_with_open_cover():
+    """A printer is off and on again while its cover is open: what its line held back is only the end of what it had."""
+    for place in (10, 60, 150):
+        name = f"it is reset after {place} bytes"
+        with contextlib.ExitStack() as stack:
+            shop = Shop(stack, "holds")
+            shop.device.ROOM = 8
+            shop.device.after(place, lambda: shop.device.cover(True))
+            told(f"{name}: the answer", "err 114 201", print_receipt(shop))
+            # What it acknowledges soon after it has stopped was printed before.
+            end = time.monotonic() + 1.2
+            until(lambda: shop.host.ask("run 10") and time.monotonic() > end)
+            shop.device.pull_plug()
+            shop.device.plug_in()
+            told(f"{name}: still", "err 114 201", print_receipt(shop))
+            shop.device.cover(False)
+            told(f"{name}: again", True, is_done_after_all(shop))
+            told(f"{name}: each line is whole", [], missing(shop))
 
 
 def try_ports_that_stay():
@@ -487,6 +599,121 @@ def try_late():
         told("two were late", "2", shop.late())
 
 
+def is_late(shop):
+    """Whether a ticket comes out that nobody waits for, and the till knows that the printer is well."""
+    shop.device.cover(False)
+    return until(lambda: len(shop.device.receipt()) == len(PRINTED)) and shop.settle()
+
+
+def opens_cover_within(shop):
+    """Opens the cover in the first line of the next order."""
+    shop.device.wait(lambda: shop.device.is_idle)
+    shop.device.after(10, lambda: shop.device.cover(True))
+
+
+def try_given_up():
+    """An order that failed and was given up is a new one if it comes again. The first one is late."""
+    again = ("claim r 0", "set r DeviceEnabled true")
+    order = f"call r printNormal 2 {TEXT.hex()}"
+    ways = {"cleared": ("call r clearOutput",), "released": ("release r", *again),
+            "closed": (" close  r", "open r r1", *again)}
+    for kind in ("usb", "asked"):
+        for way, lines in ways.items():
+            with contextlib.ExitStack() as stack:
+                shop, is_given_up = Shop(stack, kind), way == "cleared"
+                opens_cover_within(shop)
+                told(f"{way} over {kind}: it fails", "err 114 201", shop.print(TEXT))
+                told(f"{way} over {kind}", ["ok"] * len(lines), shop.host.lines(*lines))
+                if kind == "usb":
+                    told(f"{way} over {kind}: it is late", True, is_late(shop))
+                    told(f"{way} over {kind}: it is counted", str(int(is_given_up)), shop.late())
+                shop.device.cover(False)
+                told(f"{way} over {kind}: another one", True,
+                     until(lambda: shop.host.ask("run 10") and shop.print(TEXT) == "ok"))
+                twice = PRINTED * 2 if kind == "usb" else [PRINTED[0], *PRINTED]
+                told(f"{way} over {kind}: the paper", twice if is_given_up else PRINTED, shop.paper())
+    with contextlib.ExitStack() as stack:
+        shop = Shop(stack)
+        shop.device.hang()
+        told("an order of a silent printer", "err 111", shop.print(TEXT))
+        shop.device.hang(False)
+        told("it is printed late", True, is_late(shop))
+        told("it may be tried again", "0", shop.late())
+        told("given up and ordered in one text", ["ok", "ok"], shop.host.lines("call r clearOutput", order))
+        told("it is printed twice", PRINTED * 2, shop.paper())
+        told("one of them was late", "1", shop.late())
+        shop.device.hang()
+        told("a third one", "err 111", shop.print(TEXT))
+        shop.device.hang(False)
+        told("what gives up nothing", ["bad control", "err 106", "bad line"],
+             shop.host.lines("call q clearOutput", "call r clearInput", "release"))
+        told("it answers again", True, shop.settle())
+        told("the third one again", "ok", shop.print(TEXT))
+        told("it is printed once", PRINTED * 3, shop.paper())
+        told("no other was late", "1", shop.late())
+        shop.device.hang()
+        told("a fourth one", "err 111", shop.print(TEXT))
+        shop.device.hang(False)
+        told("it answers once more", True, shop.settle())
+        told("given up by a line that ends in CR LF", ["ok", "ok"],
+             shop.host.lines("call r clearOutput\r", "get r State")[:1] + [shop.print(TEXT)])
+        told("it is printed twice, too", PRINTED * 5, shop.paper())
+
+
+def try_given_up_by_reply():
+    """Output that failed, and is given up by the reply to its ErrorEvent: the same request is printed again."""
+    with contextlib.ExitStack() as stack:
+        shop = Shop(stack)
+        events = []
+
+        def is_complete(number):
+            shop.host.ask("run 10")
+            events.extend(events_of(shop.host))
+            return f"event OutputCompleteEvent {number}" in events
+        request = f"call r printNormal 2 {TEXT.hex()}"
+        told("output waits", ["ok", "ok"], shop.host.lines("set r AsyncMode true", request))
+        opens_cover_within(shop)
+        told("it is tried", "true", shop.host.ask("run 0"))
+        delivered = shop.host.line("deliver r clear")
+        while delivered.startswith("event StatusUpdateEvent"):
+            delivered = shop.host.line("deliver r clear")
+        told("it fails, and is cleared", "event ErrorEvent 114 201 1", delivered)
+        told("it is late", True, is_late(shop))
+        told("the same again", "ok", shop.host.line(request))
+        told("that is printed", True, until(lambda: is_complete(2)))
+        told("both are on the paper", PRINTED * 2, shop.paper())
+        told("one was late", "1", shop.late())
+
+
+def try_given_up_typed():
+    """An order that failed and was given up by a typed call, or whose control was only released or closed."""
+    ways = {"cleared": ("clear",), "released": ("release", "close"), "closed": ("close",)}
+    for way, words in ways.items():
+        with contextlib.ExitStack() as stack:
+            shop, late = Shop(stack, is_claimed=False), int(way == "cleared")
+            opens_cover_within(shop)
+            told(f"{way}: it fails", "E_EXTENDED 201", shop.host.ask(f"print {TEXT.hex()}"))
+            told(way, ["ok"] * len(words), [shop.host.ask(word) for word in words])
+            shop.device.cover(False)
+            told(f"{way}: it comes out", True,
+                 until(lambda: shop.host.ask("run 10") and shop.late() == str(late) and shop.paper() == PRINTED))
+            told(f"{way}: another one", True,
+                 until(lambda: shop.host.ask("run 10") and shop.host.ask(f"print {TEXT.hex()}") == "ok"))
+            told(f"{way}: the paper", PRINTED * (1 + late), shop.paper())
+            told(f"{way}: how many were late", str(late), shop.late())
+    with contextlib.ExitStack() as stack:
+        shop = Shop(stack, is_claimed=False)
+        told("output waits", "ok", shop.host.ask(f"later {TEXT.hex()}"))
+        opens_cover_within(shop)
+        told("it is tried", "true", shop.host.ask("run 0"))
+        told("it fails, and is cleared by a reply", "1", shop.host.ask("reply"))
+        shop.device.cover(False)
+        told("it is late all the same", True, until(lambda: shop.host.ask("run 10") and shop.late() == "1"))
+        told("the same waits", "ok", shop.host.ask(f"later {TEXT.hex()}"))
+        told("it is on the paper a second time", True,
+             until(lambda: shop.host.ask("run 10") and shop.paper() == PRINTED * 2))
+
+
 def try_drawer():
     """The drawer on the printer's connector: its pulse, its sensor, and what the printer's trouble is for it."""
     for kind in ("usb", "asked"):
@@ -539,6 +766,82 @@ def try_display():
             device.pull_plug()
             told(f"{protocol}: an order that changes nothing, without a display", True,
                  until(lambda: host.line(f"call p displayTextAt 0 0 {b'Total 9.00'.hex()} 0") == "err 108", 5))
+
+
+class Greeting(Display):
+    """A display with a power supply of its own, which shows a text when it is switched on."""
+
+    def started(self):
+        self.cells = [bytearray(b"Welcome".ljust(self.columns)) for _ in range(self.rows)]
+
+
+def try_display_switched():
+    """A display was off and on again, which nobody sees: an order that changes nothing shows all that is to be there.
+    """
+    orders = ("call p clearText", b" " * 40), ("call p displayTextAt 0 0 546f74616c 0", b"Total".ljust(40))
+    for protocol in ("cd5220", "escpos"):
+        for line, wanted in orders:
+            with contextlib.ExitStack() as stack:
+                device = stack.enter_context(Greeting(cable("stays"), protocol=protocol))
+                host = Host(stack)
+                word = "escpos" if protocol == "escpos" else ""
+                told(f"{protocol}: a display", "ok", host.ask(f"display p1 {device.path} {word} pause 10"))
+                host.lines("new p LineDisplay", "open p p1", "claim p 0", "set p DeviceEnabled true")
+                for turn in ("at first", "after it was off"):
+                    told(f"{protocol}: it greets {turn}", True, device.shows().startswith(b"Welcome"))
+                    told(f"{protocol}: {line} {turn}", "ok", host.line(line))
+                    told(f"{protocol}: it is shown {turn}", True, until(lambda: device.shows() == wanted, 2))
+                    device.pull_plug()
+                    device.plug_in()
+
+
+def try_long_pause():
+    """A port that is tried again only after weeks is opened the first time."""
+    with contextlib.ExitStack() as stack:
+        display = stack.enter_context(Display(cable()))
+        scanner = stack.enter_context(Scanner(cable()))
+        host = Host(stack)
+        told("a display with a long pause", ["ok", "online 0"],
+             [host.ask(f"display p1 {display.path} pause 2147483647"), host.ask("state p1")])
+        told("a scanner with a long pause", ["ok", "online 0"],
+             [host.ask(f"scanner s1 {scanner.path} pause 2147483647"), host.ask("state s1")])
+
+
+def try_flow():
+    """The flow control of serial lines, if they say which they have."""
+    with contextlib.ExitStack() as stack:
+        display = stack.enter_context(Display(cable()))
+        scanner = stack.enter_context(Scanner(cable()))
+        printer = stack.enter_context(Printer(cable()))
+        host = Host(stack)
+        for device, opened, wanted in ((display, f"display p1 {display.path} serial 9600 flow rts-cts", True),
+                                       (scanner, f"scanner s1 {scanner.path} serial 9600", False),
+                                       (printer, f"printer r1 {printer.path} serial 9600 flow rts-cts", True)):
+            told(opened.split()[0], "ok", host.ask(opened))
+            with open(device.path, "rb", buffering=0) as line:
+                told("its flow control", wanted, termios.tcgetattr(line)[2] & termios.CRTSCTS != 0)
+
+
+def try_disturbed():
+    """A 0 byte in a code over a serial line, which stands for one that was disturbed, makes it a failed scan. Over
+    another port it is a byte of the code."""
+    for kind, words in (("a serial line", "serial 9600"), ("another port", "")):
+        with contextlib.ExitStack() as stack:
+            device = stack.enter_context(Scanner(cable()))
+            host = Host(stack)
+            told(f"a scanner on {kind}", "ok", host.ask(f"scanner s1 {device.path} pause 10 {words}"))
+            host.lines("new s Scanner", "open s s1", "claim s 0", "set s DeviceEnabled true")
+
+            def comes(code, name, wanted):
+                device.scan(code)
+                told(f"{name} comes over {kind}", True, until(lambda: host.ask("run 10") == "true", 5))
+                event = host.lines("set s DataEventEnabled true", "deliver s")[1]
+                told(f"{name} over {kind}", wanted,
+                     host.line("get s ScanData") if event == "event DataEvent 0" else event)
+            failed = "event ErrorEvent 111 0 2"
+            comes(b"40063\x0081", "a 0 byte", failed if words else "ok " + b"40063\x0081".hex())
+            comes(b"4006381", "a code after it", "ok " + b"4006381".hex())
+            comes(b"\0", "a 0 byte alone", failed if words else "ok 00")
 
 
 def try_scanner():
@@ -726,6 +1029,9 @@ def try_late_line():
     with contextlib.ExitStack() as stack:
         for file in (master, slave):
             stack.callback(os.close, file)
+        settings = termios.tcgetattr(slave)
+        settings[2] |= termios.CRTSCTS
+        termios.tcsetattr(slave, termios.TCSANOW, settings)
         host = Host(stack, terminal=slave)
         told("a display that isn't there", "ok", host.ask(f"display p1 {path} pause 10"))
         told("it is off", "offline 0", host.ask("state p1"))
@@ -733,7 +1039,8 @@ def try_late_line():
         told("it is found", True, until(lambda: host.ask("run 10") and host.ask("state p1") == "online 0"))
         settings = termios.tcgetattr(slave)
         told("its speed", [termios.B9600] * 2, settings[4:6])
-        told("its flow control", True, settings[2] & termios.CRTSCTS != 0)
+        # A display answers nothing, and may have a cable of three wires.
+        told("it has no flow control", True, settings[2] & termios.CRTSCTS == 0)
         host.lines("new p LineDisplay", "open p p1", "claim p 0", "set p DeviceEnabled true")
         told("an order of it", "ok", host.line("call p displayTextAt 0 0 546f74616c 0"))
         told("its text", True, b"Total" in os.read(master, 1000))
@@ -857,13 +1164,17 @@ def try_link():
                 self.program = subprocess.Popen(words, **pipes, start_new_session=True)
                 stack.callback(self.close)
         host = Session(stack)
+        with open(device.path, "rb", buffering=0) as line:
+            settings = termios.tcgetattr(line)
+            settings[2] |= termios.CRTSCTS
+            termios.tcsetattr(line, termios.TCSANOW, settings)
         told("a link that is missing", "ok", host.ask(f"display p1 {link} pause 10"))
         told("the display is off", "offline 0", host.ask("state p1"))
         link.symlink_to("/dev/tty")
         told("it is found", True, until(lambda: host.ask("run 10") and host.ask("state p1") == "online 0", 5))
         with open(device.path, "rb", buffering=0) as line:
             control, speed = termios.tcgetattr(line)[2], termios.tcgetattr(line)[5]
-        told("its line is set up", (True, termios.B9600), (control & termios.CRTSCTS != 0, speed))
+        told("its line is set up", (False, termios.B9600), (control & termios.CRTSCTS != 0, speed))
 
 
 def try_silence():
@@ -1072,6 +1383,32 @@ def try_counted_down():
         answers = [host.line("call r printNormal 2 " + "410a" * 30) for _ in range(20)]
         told("it prints", ["ok"] * 20, answers)
         told("it isn't near its end", "none", host.line("deliver r"))
+
+
+def try_near():
+    """While the sensor sees paper near its end, requests are taken that are no longer than from where it is near, and
+    nothing but that is told."""
+    for near in (20, 0):
+        with contextlib.ExitStack() as stack:
+            device = stack.enter_context(Printer(cable(), lines=100, near=70))
+            host = Host(stack, PROFILE.replace("near = 20", f"near = {near}"))
+            told(f"a printer, near {near}", "ok",
+                 host.ask(f"printer r1 {device.path} timeout {AMPLE} pause 10 lines 1000"))
+            host.lines("new r POSPrinter", "open r r1", "claim r 0", "set r DeviceEnabled true")
+            told(f"enough paper, near {near}", "none", host.line("deliver r"))
+            told(f"lines up to where it is near, near {near}", "ok", host.line("call r printNormal 2 " + "410a" * 40))
+            if near == 0:
+                continue
+            told("it is near", True, until(lambda: host.ask("run 10") and host.line("get r RecNearEnd") == "ok true"))
+            told("the event", ["event StatusUpdateEvent 25", "none"], host.lines("deliver r", "deliver r"))
+            for number in range(3):
+                told(f"receipt {number}", "ok", host.line("call r printNormal 2 " + "420a" * 15))
+                told(f"what the till counts with after receipt {number}", "20", host.line("show r1").split()[2])
+            told("no other event", ["ok false", "none"], host.lines("get r RecEmpty", "deliver r"))
+            told("all is on the paper", 85, len(device.receipt()))
+            device.load(0)
+            told("it is empty", True, until(lambda: host.ask("run 10") and host.line("get r RecEmpty") == "ok true"))
+            told("an order then", "err 114 203", host.line("call r printNormal 2 430a"))
 
 
 def try_refusals():
@@ -1391,6 +1728,28 @@ def try_memory_own_reports():
             host.ask("run 0")
             opened.append(host.line("get d DrawerOpened"))
         told("want of memory: what a driver says before a report", ["ok false"] * 29, opened)
+
+
+def try_memory_own_texts():
+    """Want of memory at each allocation of what a driver of the host's own says, first of which can't be: the till
+    knows the last of it."""
+    with contextlib.ExitStack() as stack:
+        host = Host(stack)
+        if host.ask("memory 0") != "ok":
+            return
+        host.ask("own r1 0 printer")
+        wanted, papers, answers = [], [], set()
+        for number in range(1, 20):
+            for count in ("", " 1", " 2"):
+                host.ask(f"says open;cover open;paper {number + 100}")
+                host.ask(f"memory {number}{count}")
+                answers.add(host.ask("run 0"))
+                host.ask("memory 0")
+                answers.add(host.ask("run 0"))
+                wanted.append(str(number + 100))
+                papers.append(host.line("show r1").split()[2])
+        told("want of memory: answers", True, {"KIJ_NO_MEMORY", "KIJ_BAD_INPUT"} <= answers)
+        told("want of memory: the last that a driver says", wanted, papers)
 
 
 def try_memory_own_scans():
@@ -1746,6 +2105,24 @@ def try_random():
                 counts[trouble] = counts.get(trouble, 0) + 1
             told(f"random faults over {kind}: the paper", wanted, [item[1] for item in shop.paper()])
             told(f"random faults over {kind}: no late order", "0", shop.late())
+            print(f"{WORDS.name}, {WORDS.faults // len(KINDS)} random faults over {kind}: {counts}", flush=True)
+
+
+def try_random_held():
+    """Random trouble at a printer whose line holds back what it doesn't take: each order that was answered ok is whole
+    on the paper. What nobody knows of may be there twice."""
+    for kind, unless in (("holds", ()), ("asked holds", ("garbage",))):
+        chance, counts, wanted = random.Random(f"{WORDS.seed} {kind}"), {}, []
+        with contextlib.ExitStack() as stack:
+            shop = Shop(stack, kind, lines=100_000)
+            shop.device.ROOM = 8
+            for number in range(WORDS.faults // len(KINDS)):
+                lines, trouble = random_round(shop, chance, number, unless)
+                wanted += lines
+                counts[trouble] = counts.get(trouble, 0) + 1
+            shop.device.wait(lambda: shop.device.is_idle)
+            found = {item.characters for item in shop.device.receipt()}
+            told(f"random faults over {kind}: no line is missing", [], [line for line in wanted if line not in found])
             print(f"{WORDS.name}, {WORDS.faults // len(KINDS)} random faults over {kind}: {counts}", flush=True)
 
 

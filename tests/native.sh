@@ -98,7 +98,7 @@ runs "what measures the cost is built" gcc -std=c99 "${strict[@]}" -O2 -o "$work
   "$work/libkijolvar.a"
 runs "what tries the system is built" gcc -std=c99 "${strict[@]}" -O1 -g -fsanitize=address,undefined \
   -fno-sanitize-recover -o "$work/system" "$here/system.c" "$abi"/c/kij_*.c "${bare[@]}" \
-  -Wl,--wrap=getaddrinfo,--wrap=fsync,--wrap=pread,--wrap=pwrite
+  -Wl,--wrap=getaddrinfo,--wrap=fsync,--wrap=pread,--wrap=pwrite,--wrap=ioctl
 runs "ports and files where the system does less" "$work/system" "$work"
 runs "what tries want of memory is built" gcc -std=c99 "${strict[@]}" -O1 -g -fsanitize=address,undefined \
   -fno-sanitize-recover -o "$work/memory" "$here/memory.c" "$abi"/c/kij_*.c -Wl,--wrap=malloc,--wrap=realloc

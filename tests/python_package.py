@@ -3,6 +3,7 @@
 Usage: python_package.py LIBRARY PROGRAM. PROGRAM is pos_console, which moves a disk to layout 2. The last line is
 'N passed, M failed'.
 """
+import builtins
 import collections
 import contextlib
 import dataclasses
@@ -22,6 +23,7 @@ import sys
 import tempfile
 import threading
 import warnings
+import weakref
 from unittest import mock
 
 import typed
@@ -496,6 +498,64 @@ def try_listeners():
                  (till.deliver(), heard))
 
 
+def scanned(till):
+    """What a listener hears, which alone refers to its scanner's control, and that control, weakly."""
+    scanner, heard = till.scanner("s1"), []
+    scanner.claim()
+    scanner.device_enabled = scanner.data_event_enabled = True
+
+    @scanner.listen
+    def hears(event):
+        heard.append(scanner.scan_data)
+        scanner.data_event_enabled = True
+    return heard, weakref.ref(scanner)
+
+
+def try_kept_listeners():
+    """A listener keeps its control open, until that is closed or has none any more."""
+    with opened() as till:
+        heard = []
+        till.drawer("d1").listen(heard.append)
+        codes, scanner = scanned(till)
+        gc.collect()
+        till.device("d1").drawer(is_open=True)
+        till.device("s1").scan(104, "1", "1")
+        till.device("s1").scan(104, "2", "2")
+        told("controls that only have a listener", (3, [1], [b"1", b"2"]),
+             (till.deliver(), [event.status for event in heard], codes))
+        told("are open", [kijolvar.CashDrawer, kijolvar.Scanner], [type(control) for control in till.controls()])
+        told("a claim stays", "TimeoutError", name_of(lambda: till.scanner("s1").claim()))
+        scanner().listen(None)
+        gc.collect()
+        told("one without a listener ends", (None, None), (scanner(), raised(lambda: till.scanner("s1").claim())))
+        codes, scanner = scanned(till)
+        scanner().close()
+        gc.collect()
+        told("a closed one ends too", None, scanner())
+        control = till.new_control(kijolvar.Scanner)
+        control.listen(heard.append)
+        left = weakref.ref(control)
+        del control
+        gc.collect()
+        told("so does one that isn't open", None, left())
+        control = till.new_control(kijolvar.Scanner)
+        control.listen(heard.append)
+        control.open("s1")
+        left = weakref.ref(control)
+        del control
+        gc.collect()
+        told("and one that is opened later stays", "s1", left() and left().device)
+        codes, scanner = scanned(till)
+    gc.collect()
+    told("none outlives its till", (None, None), (scanner(), left()))
+    with warnings.catch_warnings(record=True) as caught:
+        warnings.simplefilter("always")
+        opened().drawer("d1").listen(heard.append)
+        gc.collect()
+    told("a till that isn't closed is told in spite of them", ["ResourceWarning"],
+         [warning.category.__name__ for warning in caught])
+
+
 def try_claims():
     with opened() as till:
         first, second = till.display("p1"), till.display("p1")
@@ -742,9 +802,34 @@ def try_interrupted_blocks(path):
         till.totals("t1").delete("A")
 
 
+class Numbered:
+    """A handle that is no int, as some libraries have numbers."""
+
+    def __init__(self, number):
+        self.number = number
+
+    def __index__(self):
+        return self.number
+
+
+def try_handles(totals, file):
+    """Wherever a handle is asked for, the file does too."""
+    held = file.read()
+    for handle in (file.handle, file, Numbered(file.handle)):
+        found = [totals.set_all(handle, 5), totals.read(handle, 1, 2), totals.write(handle, 0, held),
+                 totals.claim_file(handle), totals.release_file(handle), totals.rename(handle, "OTHER"),
+                 list(totals)[0], totals.rename(handle, file.name), totals.read(handle, 0, 4)]
+        told(f"{handle!r} as a handle", [None, b"\5\5", None, None, None, None, b"OTHER", None, held], found)
+    told("what is no handle", ["TypeError"] * 3, [name_of(totals.read, word, 0, 1) for word in ("1", 1.0, None)])
+
+
 def try_totals():
     path = WORK / "totals"
     told("a file that is missing", "FileNotFoundError", name_of(opened, totals=path))
+    told("one that is to be created, without a path", ("ValueError", "create needs the path of a file of totals"),
+         (name_of(opened, create=True), str(raised(opened, create=True))))
+    with kijolvar.create_totals(WORK / "whole", LIBRARY) as file:
+        told("a new file has room for all of its bytes", True, os.fstat(file.fileno()).st_blocks * 512 >= 327_680)
     with opened(totals=path, create=True) as till:
         totals = till.totals("t1")
         told("no files", (0, [], False), (len(totals), list(totals), "SALES" in totals))
@@ -761,8 +846,11 @@ def try_totals():
         totals["SALES"].write(0, b"\x00\x00\x01\xc2")
         totals.write(totals["COUNT"], 0, b"\x00\x01")
         told("what is written", (b"\x01\xc2", b"\x01", b"\x00\x01"),
-             (sales.read(2), sales.read(2, 1), totals["COUNT"].read()))
+             (sales.read(offset=2), sales.read(offset=2, count=1), totals["COUNT"].read()))
+        told("a number of bytes without its name", "TypeError", name_of(sales.read, 2))
+        told("a file as bytes", (b"\x00\x00\x01\xc2", "TypeError"), (bytes(sales), name_of(bytearray, sales)))
         told("out of the file", "IllegalError", name_of(sales.write, 3, b"ab"))
+        try_handles(totals, sales)
         with totals.transaction():
             told("in a transaction", True, totals.transaction_in_progress)
             sales.set_all(7)
@@ -1126,6 +1214,182 @@ def try_any_event():
     told("a closed till", "TillClosedError", name_of(kept))
 
 
+def try_lines_without_memory():
+    """If there is no memory after the first of several lines, their call says that lines were carried out."""
+    lines = "detach d1\nattach d1 1\nopen a d1\n"
+
+    class Forgetful(kijolvar.Driver):
+        def attached(self):
+            raise kijolvar.NoMemoryError(kijolvar.KIJOLVAR_NO_MEMORY)
+
+    def refused_at(number):
+        with opened() as till:
+            carry_out, asked = till._carry_out, []
+
+            def forgets(line):
+                asked.append(line)
+                if len(asked) == number:
+                    raise kijolvar.NoMemoryError(kijolvar.KIJOLVAR_NO_MEMORY)
+                return carry_out(line)
+            if number == 0:
+                till.drive("d1", Forgetful())
+            with mock.patch.object(till, "_carry_out", forgets):
+                fault = raised(till.carry_out, lines)
+            return type(fault), getattr(fault, "library_code", None), len(asked)
+    told("no memory at the first line", (kijolvar.NoMemoryError, kijolvar.KIJOLVAR_NO_MEMORY, 1), refused_at(1))
+    for number in (2, 3):
+        told(f"no memory at line {number}", (kijolvar.NoMemoryError, kijolvar.KIJOLVAR_CUT, number), refused_at(number))
+    told("no memory for what a line has attached", (kijolvar.NoMemoryError, kijolvar.KIJOLVAR_CUT, 2), refused_at(0))
+    told("memory for all", (type(None), None, 3), refused_at(4))
+
+
+# ---- drivers
+
+PRINTER = '[[device]]\nname = "{}"\ncategory = "POSPrinter"\nchars = 42\nlines = 100\nnear = 2\n'
+TWO_PRINTERS = (PRINTER.format("r1") + '[[device]]\nname = "d1"\ncategory = "CashDrawer"\n'
+                '[[device]]\nname = "s1"\ncategory = "Scanner"\n' + PRINTER.format("r2"))
+
+
+class Part(kijolvar.Driver):
+    """A device that does each order, whose port is open while it is driven. A method does first what the test wants, by
+    its name."""
+
+    def __init__(self, says=(), codes=(), **first):
+        self.says, self.codes, self.first = list(says), list(codes), first
+        self.did, self.is_open, self.closed = [], False, 0
+
+    def _does(self, name):
+        self.first.get(name, lambda: None)()
+
+    def start(self, device):
+        self._does("start")
+        self.is_open = True
+
+    def carry_out(self, order):
+        self._does("carry_out")
+        self.is_open = True
+        self.did.append(order.name)
+        return True
+
+    def happened(self):
+        self._does("happened")
+        said, self.says = self.says, []
+        return said
+
+    def poll(self):
+        self._does("poll")
+        self.is_open = True
+
+    def scans(self):
+        self._does("scans")
+        codes, self.codes = self.codes, []
+        return codes
+
+    def close(self):
+        self.is_open = False
+        self.closed += 1
+        self._does("close")
+
+
+def fails(text="the port failed"):
+    raise OSError(text)
+
+
+def try_faults_of_drivers():
+    """What one driver raises keeps no other device from being served."""
+    code = kijolvar.Scan(104, b"31", b"31")
+    for stage in ("poll", "happened", "scans", "carry_out", "all"):
+        with opened(TWO_PRINTERS) as till:
+            names = ("poll", "happened", "scans") if stage == "all" else (stage,)
+            parts = {name: Part() for name in ("r1", "d1", "s1", "r2")}
+            for name, part in parts.items():
+                till.drive(name, part)
+            printers = [till.printer(name) for name in ("r1", "r2")]
+            for printer in printers:
+                printer.claim()
+                printer.device_enabled = printer.async_mode = True
+                printer.print("A\n")
+            scanner = till.scanner("s1")
+            scanner.claim()
+            scanner.device_enabled = True
+            parts["r1"].first = {name: lambda name=name: fails(name) for name in names}
+            parts["d1"].says, parts["s1"].codes = ["open"], [code]
+            fault = raised(till.run_devices)
+            told(f"what is raised if {stage} fails", ("OSError", names[0]), (type(fault).__name__, str(fault)))
+            told(f"the devices after it if {stage} fails", (True, 1, ["print"]),
+                 (till.device("d1").show().is_open, scanner.data_count, parts["r2"].did))
+            told(f"its own output if {stage} fails", stage != "carry_out", parts["r1"].did == ["print"])
+            parts["r1"].first = {}
+            told(f"the next round after {stage} failed", None, raised(till.run_devices))
+    with opened() as till:
+        till.drive("r1", Part(says=["cover open"]))
+        drawer, display = Part(), Part()
+        till.drive("d1", drawer)
+        till.drive("p1", display)
+        drawer.says, display.first = ["paper 5"], {"poll": fails}
+        told("a fault of a later device in an earlier stage", "OSError", name_of(till.run_devices))
+
+
+def try_closed_drivers():
+    """A till closes each driver once, and only its own."""
+    part, till = Part(), opened()
+    till.drive("d1", part)
+    till.close()
+    till.close()
+    told("a till that is closed twice", (1, False), (part.closed, part.is_open))
+    with opened() as other:
+        other.drive("d1", part)
+        till.close()
+        told("a driver that another till has by now", (1, True), (part.closed, part.is_open))
+    told("is closed by that", (2, False), (part.closed, part.is_open))
+    with opened() as till:
+        part = Part(says=["paper 5"])
+        told("a driver that says what can't be", "InputError", name_of(till.drive, "d1", part))
+        told("is closed once", (1, False), (part.closed, part.is_open))
+        part = Part(start=fails)
+        told("one that can't begin", "OSError", name_of(till.drive, "d1", part))
+        told("is closed once too", 1, part.closed)
+        part = Part(says=["paper 5"], close=lambda: fails("closing failed"))
+        told("one that can't be closed either", "InputError", name_of(till.drive, "d1", part))
+        told("the device has none of them", None, name_of(till.drive, "d1", Part()))
+
+    def ends(block):
+        with opened() as till:
+            till.drive("d1", Part(close=lambda: fails("closing failed")))
+            block()
+    told("an exception of a till's block", "KeyError", name_of(ends, lambda: {}["SALES"]))
+    told("a fault as it closes", "closing failed", str(raised(ends, lambda: None)))
+
+
+def try_closed_in_a_round():
+    """A signal's handler that closes the till leaves no port open, wherever a driver is."""
+    def rings():
+        signal.raise_signal(signal.SIGUSR1)
+
+    def closed_in(name):
+        """What the loop raises if the till is closed in a method of its second driver, which then opens its port, and
+        which ports are open."""
+        with opened() as till:
+            parts = [Part(), Part(), Part()]
+            for device, part in zip(("r1", "d1", "p1"), parts):
+                till.drive(device, part)
+            ask, opens = getattr(parts[1], name), parts[1].poll
+            parts[1].first = {name: rings}
+            setattr(parts[1], name, lambda: (ask(), opens())[0])
+            signal.signal(signal.SIGUSR1, lambda *_: till.close())
+            return name_of(till.run_devices), [part.is_open for part in parts]
+    before = signal.getsignal(signal.SIGUSR1)
+    for name in ("poll", "happened", "scans"):
+        told(f"a till that is closed in {name}", ("TillClosedError", [False] * 3), closed_in(name))
+    for name, device in (("carry_out", "d1"), ("start", "d1"), ("start", "s1")):
+        with opened() as till:
+            drawer, part = till.drawer("d1"), Part(**{name: rings})
+            signal.signal(signal.SIGUSR1, lambda *_: till.close())
+            told(f"a till that is closed in {name} of {device}", ("TillClosedError", False),
+                 (name_of(lambda: (till.drive(device, part), drawer.open_drawer())), part.is_open))
+    signal.signal(signal.SIGUSR1, before)
+
+
 # ---- profiles, the library, help
 
 def said_of(text):
@@ -1256,6 +1520,13 @@ def try_help():
             text = inspect.getdoc(getattr(kind, about["snake"])) or ""
             missing += [] if f"chapter {about['chapter']}" in re.sub(r"\s+", " ", text) else [about["name"]]
     told("each of the standard's names its chapter", [], missing)
+    hidden = [kind.__name__ for kind in classes if issubclass(kind, Exception) and hasattr(builtins, kind.__name__)]
+    told("an exception that hides one of Python's", ["TimeoutError"], hidden)
+    bare, full = (re.compile(f"{start}({'|'.join(hidden)})\\b") for start in (r"(?<![.\w])", r"\bkijolvar\."))
+    helps = {f"{kind.__name__}.{name}": inspect.getdoc(member) for kind in own for name, member in members(kind)}
+    told("no help names Python's", [], [name for name, text in helps.items() if bare.search(text)])
+    told("but the package's", {"Claim", "ClaimFile", "InUse"}, {
+        name.split(".")[1].title().replace("_", "") for name, text in helps.items() if full.search(text)})
     told("a function's help", True, "attribute: How the characters are shown. One of DISP_DT_NORMAL, DISP_DT_BLINK"
          in re.sub(r"\s+", " ", kijolvar.LineDisplay.display_text.__doc__))
     package = (TOP / "abi/python/kijolvar")
@@ -1389,8 +1660,11 @@ def try_reply_lines():
 
 def main():
     try:
-        for try_it in (try_scripts, try_threads, try_fork, try_closed, try_replies, try_events, try_listeners, try_claims,
-                       try_misuse, try_many_controls, try_totals, try_files, try_handlers, try_closing_handlers, try_any_event, try_profiles, try_library,
+        for try_it in (try_scripts, try_threads, try_fork, try_closed, try_replies, try_events, try_listeners,
+                       try_kept_listeners, try_claims,
+                       try_misuse, try_many_controls, try_totals, try_files, try_handlers, try_closing_handlers, try_any_event,
+                       try_lines_without_memory, try_faults_of_drivers, try_closed_drivers, try_closed_in_a_round,
+                       try_profiles, try_library,
                        try_help, try_devices, try_order_bytes, try_reply_lines):
             try_it()
     finally:

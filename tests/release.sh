@@ -242,10 +242,13 @@ try_again() {
   mkdir -p -m 2775 "$work/prefix/bin"
   echo old > "$work/prefix/bin/pos_console"
   ln "$work/prefix/bin/pos_console" "$work/in_use"
+  mkdir "$work/prefix/elsewhere"
+  ln -s elsewhere "$work/prefix/share"
   "$top/tools/install" "$work/prefix" > "$work/said" 2>&1
   told "tools/install" 0 "$?"
   told "tools/install leaves a file that is in use" old "$(cat "$work/in_use")"
   told "tools/install leaves the mode of a folder" 2775 "$(stat -c %a "$work/prefix/bin")"
+  told "tools/install leaves a link to a folder" elsewhere "$(readlink "$work/prefix/share")"
   for place in bin include lib share; do
     told "tools/install lays out $place/ as the archive has it" "" \
       "$(diff -r -x __pycache__ "$tree/$place" "$work/prefix/$place" 2>&1)"
@@ -456,6 +459,7 @@ deb_versions() {
 try_local() {
   blocks "$tree/README.md" "Install it" indented > "$outside/local.sh"
   runs "it is unpacked below /usr/local" sh -ec '. ./local.sh'
+  told "with the documents for C" yes "$([ -s "$root/usr/local/share/doc/kijolvar/abi/README.md" ] && echo yes)"
   # shellcheck disable=SC2016
   runs "the sale in C is built from /usr/local" sh -c \
     'cc -o sale_local /usr/local/share/doc/kijolvar/examples/sale.c $(pkg-config --cflags --libs kijolvar)'

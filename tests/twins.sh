@@ -12,7 +12,8 @@ twins=$top/tests/twins
 work=$(mktemp -d)
 trap 'rm -rf "$work"' EXIT
 if [ $# -eq 0 ]; then
-  mapfile -t crates < <(cd "$top/crates" && printf '%s\n' */must-fail | sed 's:/must-fail::')
+  mapfile -t crates < <(cd "$top/crates" && basename -a "$edits"/* "$twins"/* && ls -d */must-fail | cut -d / -f 1)
+  mapfile -t crates < <(printf '%s\n' "${crates[@]}" | sort -u)
   set -- "${crates[@]}"
 fi
 cp -a "$top/crates" "$top/crates.txt" "$top/HANDLES" "$work" && cd "$work" || exit 1

@@ -102,8 +102,7 @@ def counted_files():
         if not crate.endswith("_tests") and crate not in ("pos_till", "pos_escpos", "pos_report"):
             for folder, ending in (("src", "rt"), ("specs", "antt"), ("proofs", "antt")):
                 found += [(short(crate), path, re.sub(r"(?m)^\s*(//|--).*$", "", sources.read(path)))
-                          for path in sources.Tree.paths(crate, folder, ending)
-                          if not path.endswith("/src/tests.rt")]
+                          for path in sources.Tree.paths(crate, folder, ending)]
     return found
 
 

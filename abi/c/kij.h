@@ -85,8 +85,8 @@ enum kij_code {
     KIJ_BAD_PROFILE = 2,
     /** The call was carried out, but there was no memory for its answer. */
     KIJ_NO_ANSWER = 4,
-    /** The file of the totals couldn't be written. The last call may be in it or not, and the till can only be closed.
-     */
+    /** The file of the totals couldn't be written: kij_disk_error says why. The last call may be in it or not, and the
+     * till can only be closed. */
     KIJ_DISK_FAILED = 7,
     /** The file is shorter than a disk of totals. */
     KIJ_TOO_SMALL = 9,
@@ -99,7 +99,8 @@ enum kij_code {
     KIJ_DAMAGED = 16,
     /** The totals in the file have layout 2 already. Nothing was written. */
     KIJ_MOVED = 17,
-    /** The header, the typed layer and the library aren't of the same version. */
+    /** The typed layer was compiled with the header (kijolvar.h) of another version of the library. Nothing compares
+     * kij.h: a program compares KIJ_VERSION with kij_version() itself. */
     KIJ_WRONG_VERSION = 32,
     /** The system refused a call on the file of the totals. The extended code is errno: ENOENT if the file is missing,
      * EEXIST if it is there already, EWOULDBLOCK if another till has it. */
@@ -183,8 +184,14 @@ enum kij_flags {
 kij_result kij_open(const char *profile, const char *totals, int flags, kij_till **till);
 
 /** Closes a till and its controls, and the file of its totals. Null is fine. No other call of the till may be under
- * way. In a process that was forked it leaves the lock and the devices to the process that opened the till. */
+ * way. In a process that was forked it leaves the lock and the devices to the process that opened the till. Such a
+ * process that lives on should call it too: otherwise it keeps device files open, as /dev/usb/lp0, which no other
+ * process can open then. */
 void kij_close(kij_till *till);
+
+/** Returns why the file of the totals failed (errno), or 0 if it hasn't: ENOSPC if the disk is full, EPERM after a
+ * change in a forked process, ENOMEM without memory. */
+int kij_disk_error(const kij_till *till);
 
 /**
  * Carries out lines of the text interface (docs/reference/console.md) one after the other, and returns their answers.
@@ -533,7 +540,7 @@ typedef struct kij_serial_settings {
     kij_flow flow;
 } kij_serial_settings;
 
-/** 9,600 bits per second, 8 bits, 1 stop bit, no parity, RTS/CTS. */
+/** 9,600 bits per second, 8 bits, 1 stop bit, no parity, RTS/CTS: for a printer or a scanner. */
 #define KIJ_SERIAL_SETTINGS                                                                                            \
     { false, 9600, 8, 1, KIJ_PARITY_NONE, KIJ_FLOW_RTS_CTS }
 
@@ -565,18 +572,20 @@ typedef struct kij_escpos_settings {
     /** How many lines the till counts with when the sensors see enough paper: more than where its device is near the
      * end, at most 100,000. If they still see enough when it has counted down to the near end, it begins again. With
      * 100 lines or more before that it begins a quarter of those earlier, or 4,096, so that no long request is refused.
-     */
+     * While the sensors see paper near its end, the till counts with the device's `near` (docs/reference/profile.md)
+     * before each call: that is the longest request that may still be taken then. */
     int lines;
     /** Whether the printer says nothing by itself, and doesn't know GS ( H. Then it is asked for its status (DLE EOT),
      * and whether an order is printed (GS r). */
     bool is_asked;
-    /** How long an order may take, and how long to wait before a lost port is tried again, in milliseconds. */
+    /** How long the printer may go on without acknowledging a line, and how long to wait before a lost port is tried
+     * again, in milliseconds. */
     int timeout;
     int pause;
     kij_serial_settings serial;
 } kij_escpos_settings;
 
-/** A printer with both cuts, without a drawer; 5 seconds for an order, and 1 until a lost port is tried again. */
+/** A printer with both cuts, without a drawer; 5 seconds without a line, and 1 until a lost port is tried again. */
 #define KIJ_ESCPOS_SETTINGS                                                                                            \
     { NULL, 0, KIJ_CUTTER_BOTH, 3, 2, 25, 250, true, 100000, false, 5000, 1000, KIJ_SERIAL_SETTINGS }
 
@@ -586,15 +595,16 @@ typedef enum kij_protocol { KIJ_CD5220 = 0, KIJ_ESCPOS = 1 } kij_protocol;
 /** A customer display. Begin with KIJ_DISPLAY_SETTINGS. */
 typedef struct kij_display_settings {
     kij_protocol protocol;
-    /** As those of kij_escpos_settings. */
+    /** How long an order may take, and how long to wait before a lost port is tried again, in milliseconds. */
     int timeout;
     int pause;
     kij_serial_settings serial;
 } kij_display_settings;
 
-/** A display with CD5220; 2 seconds for an order, and 1 until a lost port is tried again. */
+/** A display with CD5220; 2 seconds for an order, and 1 until a lost port is tried again. A serial line is as
+ * KIJ_SERIAL_SETTINGS, but without flow control: many displays have a cable of three wires. */
 #define KIJ_DISPLAY_SETTINGS                                                                                           \
-    { KIJ_CD5220, 2000, 1000, KIJ_SERIAL_SETTINGS }
+    { KIJ_CD5220, 2000, 1000, { false, 9600, 8, 1, KIJ_PARITY_NONE, KIJ_FLOW_NONE } }
 
 /** A scanner. Begin with KIJ_SCANNER_SETTINGS. */
 typedef struct kij_scanner_settings {
@@ -613,15 +623,25 @@ typedef struct kij_scanner_settings {
 
 /**
  * Has a receipt printer with ESC/POS carry out the orders of a device from now on. The call waits for the printer's
- * first status, at most as long as for an order. Hardware that isn't there is no error: the device is off until
- * kij_run_devices finds it. kij_close closes the port.
+ * first status, at most for the timeout. Hardware that isn't there is no error: the device is off until kij_run_devices
+ * finds it. kij_close closes the port.
  *
- * An order counts as done once the printer has acknowledged it (GS ( H). Otherwise the call that ordered it is refused
- * within the timeout: KIJ_E_EXTENDED with KIJ_EPTR_COVER_OPEN or KIJ_EPTR_REC_EMPTY, KIJ_E_OFFLINE, or KIJ_E_FAILURE if
- * the printer gives no reason. If an order failed and the next one is the same, as a retry is, only the lines and cuts
- * that the printer hasn't acknowledged are sent again. A printer counts as off once it was asked whether it is there,
- * and has answered nothing for the timeout. Over TCP the port is opened again then, unless an order that failed may
- * still be acknowledged: the system finds out then, at most two minutes after the printer is back.
+ * An order counts as done once the printer has acknowledged it (GS ( H). It may take long, as each line that is
+ * acknowledged begins the timeout again. Otherwise the call that ordered it is refused: KIJ_E_EXTENDED with
+ * KIJ_EPTR_COVER_OPEN or KIJ_EPTR_REC_EMPTY, KIJ_E_OFFLINE, or KIJ_E_FAILURE if the printer gives no reason.
+ *
+ * If an order failed and the next one is the same, as a retry is, only the lines and cuts that the printer hasn't
+ * acknowledged are sent again, also if the control was released or closed meanwhile. An application that gives a
+ * request up ends that: by clearOutput, or by the reply KIJ_ER_CLEAR to the ErrorEvent of a printer, typed or by lines.
+ * Each ends it for all printers of the till. The same order is a new one then, and is printed from its beginning.
+ *
+ * A printer counts as off once it was asked whether it is there, and has answered nothing for the timeout. Over TCP the
+ * port is opened again then, unless an order that failed may still be acknowledged: the system finds out then, at most
+ * two minutes after the printer is back.
+ *
+ * A serial line with flow control holds back what a printer without power doesn't take. After it has said nothing for 2
+ * seconds, or for the timeout if that is shorter, an order over such a line fails. What it hasn't acknowledged by then
+ * is sent again by a retry, once the printer answers, so that each line is whole on the paper; some may be there twice.
  *
  * @param device   the name of a printer of the profile
  * @param port     /dev/usb/lp0, /dev/ttyUSB0, tcp:HOST or tcp:HOST:PORT (9100 if there is none). HOST had better be an
@@ -640,7 +660,8 @@ kij_result kij_escpos_printer_open(kij_till *till, const char *device, const cha
  * Has a customer display show what the orders of a device from now on say: characters, but neither blinking nor
  * reverse ones. A display answers nothing. Over a serial line an order counts as done once its bytes have left this
  * machine; over TCP and /dev/usb/lp0 once the system has taken them. A display that was lost shows all its rows again
- * with the next order.
+ * with the next order. So does one after 10 seconds without an order, or by an order that changes no row: it may have
+ * been off meanwhile, which nobody can see.
  *
  * @param device   the name of a line display of the profile
  * @param port     as kij_escpos_printer_open takes it
@@ -657,7 +678,8 @@ kij_result kij_serial_display_open(kij_till *till, const char *device, const cha
  *
  * While a call waits for a printer, the system keeps fewer key events than a code of 13 digits has. If it drops some,
  * the scan has failed (kij_input_scan_fault). So has one of more than 4,096 bytes, and one with a key that is neither a
- * character of the layout nor of its keypad, nor Num Lock. The control key and ] are the separator GS.
+ * character of the layout nor of its keypad, nor Num Lock. The control key and ] are the separator GS. Over a serial
+ * line a code with a 0 byte has failed too: the system gives one in place of a byte whose parity is wrong.
  *
  * @param device   the name of a scanner of the profile
  * @param port     /dev/input/.. for a keyboard wedge; else as kij_escpos_printer_open takes it
@@ -680,7 +702,8 @@ typedef struct kij_scan {
 } kij_scan;
 
 /** A driver of your own, for other hardware. Each function gets the context that kij_driver_open got. All but
- * `carry_out` may be null, and a scanner has none. No function may call the till: KIJ_IN_CALL. */
+ * `carry_out` may be null, and a scanner has none. No function may call the till (KIJ_IN_CALL), throw an exception, or
+ * jump out (longjmp): each has to return. */
 typedef struct kij_driver {
     /** The category of the device: KIJ_CASH_DRAWER, KIJ_SCANNER, KIJ_LINE_DISPLAY or KIJ_POS_PRINTER. */
     kij_category category;
@@ -732,8 +755,9 @@ typedef struct kij_driver_view {
     bool is_online;
     /** Why the port couldn't be opened or was lost the last time (errno); 0 if neither ever happened. */
     int port_error;
-    /** How many orders a printer has printed after they had failed, and weren't asked for again. It had got them before
-     * it stopped, and there is no command that takes them back. */
+    /** How many orders a printer has printed after they had failed, and weren't asked for again: another order came
+     * next, or the application gave them up. It had got them before it stopped, and there is no command that takes them
+     * back. */
     uint64_t late_orders;
 } kij_driver_view;
 

@@ -12,8 +12,8 @@
 static kij_result plain(int code) { return kij_internal_result(code, 0, KIJ_NO_CATEGORY); }
 
 /* How long a lost port may take to open while other devices wait, how long a drawer may take to open, how long output
-   that has failed waits, and a time before all others, in milliseconds. */
-static const int64_t quickly = 250, settle = 1000, rest = 100, never = -1000000000;
+   that has failed waits, and after how long without an order nobody knows what a display shows, in milliseconds. */
+static const int64_t quickly = 250, settle = 1000, rest = 100, unseen = 10000;
 
 /* The longest code of a scanner and the highest type, how many ports are waited for at once, of how many orders of a
    printer the till keeps the paper, and from how many lines before the near end on a roll is long; as many as a request
@@ -104,14 +104,23 @@ static bool is_counted_down(const kij_drive *drive) {
     return lines >= LONG_ROLL && drive->link->lines - drive->belief.counted_from >= lines - left;
 }
 
+/* How many lines the till is to count with from now on, by what a printer's sensors see; 0 if it goes on counting. Near
+   the end they see paper after each order still. */
+static uint32_t lines_due(const kij_drive *drive) {
+    bool is_known = drive->belief.is_known, is_printed = drive->link->lines > drive->belief.counted_from;
+    if (drive->link->signs.paper == KIJ_PAPER_NEAR) return !is_known || is_printed ? drive->near : 0;
+    bool is_good = drive->link->signs.paper == KIJ_PAPER_GOOD;
+    return is_good && (!is_known || is_counted_down(drive)) ? drive->wire.lines : 0;
+}
+
 /* Adds what the till has to know of a printer's paper. Whether there is memory. */
 static bool add_paper(kij_drive *drive, kij_buffer *lines, size_t from) {
     char text[40];
     size_t front = (size_t)snprintf(text, sizeof text, "input%s paper ", drive->name.text);
-    bool is_due = !drive->belief.is_known || is_counted_down(drive);
+    uint32_t count = lines_due(drive);
     bool is_told = has_input(lines, from, text, front);
-    if (!is_told && is_due && drive->link->signs.paper == KIJ_PAPER_GOOD) {
-        snprintf(text, sizeof text, "paper %u", (unsigned)drive->wire.lines);
+    if (!is_told && count > 0) {
+        snprintf(text, sizeof text, "paper %u", (unsigned)count);
         if (!add_line(lines, drive, text)) return false;
         is_told = true;
     }
@@ -196,16 +205,19 @@ static void swap_rooms(kij_till *till) {
     spare->size = size;
 }
 
-/* What the answers to inputs say. Nothing happens at a device that is detached. */
+static bool begins_with(const char *text, const char *front) { return strncmp(text, front, strlen(front)) == 0; }
+
+/* What the answers to inputs say: want of memory first, since those are told again. Nothing happens at a device that is
+   detached. */
 static int inputs_code(const char *answers) {
-    static const char done[] = "ok\n", detached[] = "bad device\n";
-    for (;;) {
-        if (strncmp(answers, done, sizeof done - 1) == 0) answers += sizeof done - 1;
-        else if (strncmp(answers, detached, sizeof detached - 1) == 0) answers += sizeof detached - 1;
-        else break;
+    int code = KIJ_OK;
+    for (const char *line = answers; line != NULL && *line != 0;) {
+        if (begins_with(line, "memory\n")) return KIJ_NO_MEMORY;
+        if (!begins_with(line, "ok\n") && !begins_with(line, "bad device\n")) code = KIJ_BAD_INPUT;
+        line = strchr(line, '\n');
+        if (line != NULL) line++;
     }
-    if (*answers == 0) return KIJ_OK;
-    return strncmp(answers, "memory", 6) == 0 ? KIJ_NO_MEMORY : KIJ_BAD_INPUT;
+    return code;
 }
 
 static int hand_in_of(kij_till *till, kij_drive *drive, bool *is_any) {
@@ -221,7 +233,8 @@ static int hand_in_of(kij_till *till, kij_drive *drive, bool *is_any) {
     int code = kij_internal_carry_out(till, inputs->bytes, inputs->size);
     if (code == KIJ_OK) code = inputs_code(till->text);
     if (code == KIJ_OK) *is_any = true;
-    if (code == KIJ_NO_MEMORY) drive->belief = before;
+    /* Without an answer some may not have been taken. They may be told twice. */
+    if (code == KIJ_NO_MEMORY || code == KIJ_NO_ANSWER) drive->belief = before;
     return code;
 }
 
@@ -263,6 +276,17 @@ static bool listen_to(kij_drive *drive) {
     return true;
 }
 
+/* Writes the bytes of a display's order. A display that has its own power may have been off meanwhile, and nobody can
+   see that: all rows are in those of an order that changes nothing, and of one after a while without any. */
+static bool show_bytes(kij_till *till, kij_drive *drive) {
+    kij_buffer *bytes = &till->drives->order;
+    if (kij_internal_now() - drive->shown_at >= unseen) drive->is_new = true;
+    drive->shown_at = kij_internal_now();
+    if (kij_internal_order_bytes(till, &drive->wire, drive->is_new, 65538, bytes) != KIJOLVAR_OK) return false;
+    if (bytes->size > 0 || drive->is_new) return true;
+    return kij_internal_order_bytes(till, &drive->wire, true, 65538, bytes) == KIJOLVAR_OK;
+}
+
 /* Shows an order: whether its bytes are out. */
 static bool show(kij_till *till, kij_drive *drive) {
     kij_buffer *bytes = &till->drives->order;
@@ -270,9 +294,8 @@ static bool show(kij_till *till, kij_drive *drive) {
     int64_t end = kij_internal_now() + drive->timeout;
     size_t sent = 0, count = 0;
     bool can_read, can_write;
-    /* An order may have no bytes. It isn't done either if the display is gone. */
-    if (!listen_to(drive)) return false;
-    if (kij_internal_order_bytes(till, &drive->wire, drive->is_new, 65538, bytes) != KIJOLVAR_OK) return false;
+    /* An order isn't done either if the display is gone. */
+    if (!listen_to(drive) || !show_bytes(till, drive)) return false;
     while (sent < bytes->size) {
         int64_t left = end - kij_internal_now();
         if (left <= 0) break;
@@ -400,16 +423,15 @@ static uint32_t tell(kij_till *till, const kij_report *made, size_t *needed) {
 }
 
 /* Keeps a part of the answer, without the answers to the inputs of a report, which are first: whether there is memory.
-   An input that found none is told again. Whether it answers any line is written. */
+   An input that found none, or has no answer, is told again. Whether it answers any line is written. */
 static bool keep(kij_till *till, const kij_report *made, size_t needed, bool *is_any) {
     const kij_buffer *inputs = &till->drives->inputs;
     size_t from = 0;
     for (size_t at = 0; made->has_inputs && at < inputs->size; at++) {
         if (inputs->bytes[at] != '\n') continue;
         const char *answer = till->text + from, *end = (const char *)memchr(answer, '\n', needed - from);
-        if (end == NULL) continue;
-        if (strncmp(answer, "memory\n", 7) == 0) made->drive->belief = made->before;
-        from += (size_t)(end - answer) + 1;
+        if (end == NULL || begins_with(answer, "memory\n")) made->drive->belief = made->before;
+        if (end != NULL) from += (size_t)(end - answer) + 1;
     }
     if (needed > from) *is_any = true;
     return kij_internal_buffer_add(&till->drives->answer, till->text + from, needed - from);
@@ -497,7 +519,7 @@ int kij_internal_served(kij_till *till, uint32_t code, size_t *needed) {
     case KIJOLVAR_OK: return is_lost ? KIJ_NO_ANSWER : KIJ_OK;
     case KIJOLVAR_CUT: return KIJ_NO_ANSWER;
     case KIJOLVAR_NO_MEMORY: return KIJ_NO_MEMORY;
-    case KIJOLVAR_DISK_FAILED: return KIJ_DISK_FAILED;
+    case KIJOLVAR_DISK_FAILED: return kij_internal_disk_failed(till);
     default:
         /* Lines may be held. */
         till->is_holding = true;
@@ -638,7 +660,9 @@ static int take_scans(kij_till *till, kij_drive *drive, bool *is_any) {
     for (; code == KIJ_OK && at + step <= drive->got_size; at += step) {
         uint8_t byte = drive->got[at];
         bool is_end = has_keys ? take_key(drive, drive->got + at) : byte == '\r' || byte == '\n';
-        if (is_end) code = scan(till, drive, is_any);
+        /* The system gives a 0 byte in place of one that the line has disturbed. */
+        if (drive->port.kind == KIJ_PORT_SERIAL && byte == 0) drive->is_torn = true;
+        else if (is_end) code = scan(till, drive, is_any);
         else if (!has_keys) add_byte(drive, byte);
         /* Its end is taken again. */
         if (is_end && drive->is_untold) break;
@@ -880,7 +904,7 @@ static int make_drive(kij_till *till, const char *device, kij_category category,
     made->category = category;
     made->name = name;
     made->kicked_at = -1;
-    made->tried_at = made->failed_at = never;
+    made->tried_at = made->failed_at = KIJ_NEVER;
     made->port.file = -1;
     *drive = made;
     return KIJ_OK;
@@ -951,6 +975,12 @@ static void *with_name(size_t size, const char *name, const char **copy) {
     memcpy(made + size, name, length);
     *copy = made + size;
     return made;
+}
+
+void kij_internal_forget_orders(kij_till *till) {
+    if (till->drives == NULL) return;
+    for (kij_drive *drive = till->drives->first; drive != NULL; drive = drive->next)
+        if (drive->has_link) kij_internal_link_forget_order(drive->link);
 }
 
 void kij_internal_end_drives(kij_till *till) {

@@ -48,6 +48,13 @@ static inline void clear(kij_event *event, kij_control *control) {
     event->control = control;
 }
 
+/* Whether an event was delivered by which an application gives up what a printer hasn't printed, by the code of that
+   and the answer. What has no answer was done. */
+static bool gives_up(const kij_till *till, const kij_word *reply, int code) {
+    if (till->drives == NULL || reply == NULL || strcmp(reply->text, " clear") != 0) return false;
+    return code == KIJ_OK ? kij_internal_is_output_error(till->text) : code == KIJ_NO_ANSWER;
+}
+
 /* Delivers the control's next event, with the reply of a word, or the default one. */
 static inline kij_result deliver(kij_control *control, const kij_word *reply, kij_event *event) {
     if (control == NULL || event == NULL) return kij_internal_result(KIJ_BAD_ARGUMENT, 0, KIJ_NO_CATEGORY);
@@ -55,6 +62,7 @@ static inline kij_result deliver(kij_control *control, const kij_word *reply, ki
     kij_result result = kij_internal_result(kij_internal_enter(till), 0, control->category);
     if (result.code != KIJ_OK) return result;
     result.code = kij_internal_run(till, KIJ_VERB_DELIVER, &control->name, reply, NULL, 0);
+    if (gives_up(till, reply, result.code)) kij_internal_forget_orders(till);
     if (result.code == KIJ_OK) {
         char *text = till->text;
         if (memcmp(text, "none", 5) == 0) {

@@ -5,6 +5,9 @@
 #include "kij_internal.h"
 #include <sys/socket.h>
 
+/* A time so long before all others that no pause lasts from then on. */
+#define KIJ_NEVER (INT64_MIN / 2)
+
 /* A text or bytes that grow. */
 typedef struct kij_buffer {
     char *bytes;
@@ -107,6 +110,10 @@ typedef struct kij_link {
     kij_port port;
     int64_t timeout;
     int64_t pause;
+    /* When the order that is out began, or the connection; and until when the printer may acknowledge the next part of
+       that order. */
+    int64_t began_at;
+    int64_t ends_at;
     /* Whether it says nothing by itself: it is asked. Its acknowledgements have no number. */
     bool is_asked;
     /* The device and the settings by which its replies are read; and the drawer, or null. */
@@ -136,6 +143,7 @@ typedef struct kij_link {
     size_t got_size;
     kij_told told[3];
     size_t told_count;
+    int64_t told_at;
     kij_signs signs;
     uint64_t statuses;
     uint64_t late;
@@ -196,11 +204,12 @@ typedef struct kij_drive {
     /* A drawer: when it got its pulse, or -1, and how many statuses had come. */
     int64_t kicked_at;
     uint64_t statuses;
-    /* A display and a scanner. */
+    /* A display and a scanner. Of a display also when it got its last order, and whether it gets all its rows next. */
     kij_port port;
     int64_t timeout;
     int64_t pause;
     int64_t tried_at;
+    int64_t shown_at;
     bool is_new;
     /* A scanner: what of a code has come, of key events, whether a shift and a control key are down, whether a part of
        the code was lost, whether a whole code couldn't be told for want of memory, and whether a failed scan is to be
@@ -286,9 +295,15 @@ static inline bool kij_internal_port_is_open(const kij_port *port) { return port
 /* Opens a port that isn't open, in so many milliseconds: whether it is open. Looking a name up isn't limited. */
 bool kij_internal_port_open(kij_port *port, int64_t time);
 
-/* Closes a port. What isn't sent yet is dropped, but not in a process that was forked: there the port is still that of
-   the process that opened it. */
+/* Closes a port. What isn't sent yet is dropped, and a connection ends though a process that was forked has it too. In
+   such a process nothing else is done: there the port is still that of the process that opened it. */
 void kij_internal_port_close(kij_port *port);
+
+/* Whether a port keeps what a device doesn't take, as one without power: a serial line with flow control. */
+bool kij_internal_port_holds_back(const kij_port *port);
+
+/* Drops what a port that holds back hasn't sent yet. */
+void kij_internal_port_discard(const kij_port *port);
 
 /* Waits until bytes can be read, or written if that is asked, at most so many milliseconds. */
 void kij_internal_port_wait(const kij_port *port, bool is_writing, int64_t time, bool *can_read, bool *can_write);
@@ -307,9 +322,13 @@ bool kij_internal_port_drained(kij_port *port, int64_t end);
 /* Begins a line: opens the port, and waits for the printer's first status as long as for an order. */
 void kij_internal_link_start(kij_link *link);
 
-/* Sends the order that is out: whether the printer acknowledged it within the timeout. If an order failed and the next
-   one is the same, only what wasn't printed is sent again, unless it isn't `is_once`. */
+/* Sends the order that is out: whether the printer acknowledged all of it, never going on for the timeout without
+   acknowledging a line. If an order failed and the next one is the same, only what wasn't printed is sent again, unless
+   it isn't `is_once`. */
 bool kij_internal_link_carry_out(kij_link *link, const kijolvar_wire_settings *wire, bool is_once);
+
+/* Forgets the order that failed last: the next one that is the same is a new one. */
+void kij_internal_link_forget_order(kij_link *link);
 
 /* Reads what has come and sends what is left, without waiting. A port that was lost is opened again. */
 void kij_internal_link_poll(kij_link *link);

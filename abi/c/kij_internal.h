@@ -14,6 +14,8 @@ struct kij_till {
     int file;
     pid_t process;
     uint8_t *errand;
+    /* Why the file failed: errno, or 0 if it hasn't. */
+    int disk_error;
     char *line;
     size_t line_room;
     /* The answer ends in a 0 byte, which isn't counted. */
@@ -211,6 +213,16 @@ static inline int kij_internal_run(kij_till *till, kij_verb verb, const kij_word
 /* What the answer in the till says: what is behind `ok` is written to value. */
 kij_result kij_internal_answer(kij_till *till, kij_category category, char **value);
 
+/* Whether the answer in the till, to a line that delivers an event, is one that output failed. */
+static inline bool kij_internal_is_output_error(const char *text) {
+    static const char front[] = "event ErrorEvent ";
+    size_t size = strcspn(text, "\n");
+    return strncmp(text, front, sizeof front - 1) == 0 && memcmp(text + size - 2, " 1", 2) == 0;
+}
+
+/* The application has given up what its printers didn't print: the same order is a new one from now on. */
+void kij_internal_forget_orders(kij_till *till);
+
 /* Reads a number, and what stands behind it. */
 bool kij_internal_read_number(char **at, int64_t *number);
 
@@ -253,6 +265,9 @@ int kij_internal_read_file(int file, uint8_t *bytes, size_t *size);
 
 /* What the library's code means to who opens a file or a till. */
 int kij_internal_code_of(uint32_t code);
+
+/* Notes that there was no memory for what is to be done in the file, unless it failed before: KIJ_DISK_FAILED. */
+int kij_internal_disk_failed(kij_till *till);
 
 /* Does in the file what the till's disk did: KIJOLVAR_OK once all of it is there, or KIJOLVAR_DISK_FAILED and errno. */
 uint32_t kij_internal_settle(kij_till *till);

@@ -106,7 +106,7 @@ int kij_internal_settled(kij_till *till, uint32_t code, size_t *needed) {
     switch (code) {
     case KIJOLVAR_OK: return KIJ_OK;
     case KIJOLVAR_CUT: return KIJ_NO_ANSWER;
-    case KIJOLVAR_DISK_FAILED: return KIJ_DISK_FAILED;
+    case KIJOLVAR_DISK_FAILED: return kij_internal_disk_failed(till);
     default: return KIJ_BAD_ANSWER;
     }
 }
@@ -291,6 +291,13 @@ static bool is_read(char *text, size_t size, kij_value *value) {
     }
 }
 
+/* Whether a call gives up what a printer's control has ordered. */
+static bool gives_up(const kij_control *control, kij_verb verb, const kij_word *method) {
+    static const char clear[] = " clearOutput";
+    return control->category == KIJ_POS_PRINTER && verb == KIJ_VERB_CALL && method != NULL &&
+           strcmp(method->text, clear) == 0;
+}
+
 kij_result kij_internal_call(kij_control *control, kij_verb verb, const kij_word *method, const kij_argument *arguments,
                              size_t count, kij_value *value) {
     if (control == NULL) return kij_internal_result(KIJ_BAD_ARGUMENT, 0, KIJ_NO_CATEGORY);
@@ -307,6 +314,9 @@ kij_result kij_internal_call(kij_control *control, kij_verb verb, const kij_word
             if (result.code == KIJ_OK) result.code = KIJ_BAD_ANSWER;
         }
     }
+    /* What has no answer was done. */
+    bool is_done = result.code == KIJ_OK || result.code == KIJ_NO_ANSWER;
+    if (till->drives != NULL && is_done && gives_up(control, verb, method)) kij_internal_forget_orders(till);
     kij_internal_leave(till);
     return result;
 }

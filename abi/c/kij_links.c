@@ -28,11 +28,14 @@ enum {
     ENOUGH = 2048
 };
 
-/* How long a lost port may take to open while other devices wait, how often a printer is asked, and how long its late
-   answers may be apart, in milliseconds; and a time before all others. */
-static const int64_t quickly = 250, often = 100, apart = 500, never = -1000000000;
+/* How long a lost port may take to open while other devices wait, how often a printer is asked, how long its late
+   answers may be apart, how long a printer whose line holds bytes back may be silent, and how long after it has stopped
+   it may still acknowledge what was before that, in milliseconds. */
+static const int64_t quickly = 250, often = 100, apart = 500, silence = 2000, shortly = 1000;
 
 static inline int64_t least(int64_t one, int64_t other) { return one < other ? one : other; }
+
+static inline int64_t greatest(int64_t one, int64_t other) { return one > other ? one : other; }
 
 bool kij_internal_link_is_online(const kij_link *link) {
     return kij_internal_port_is_open(&link->port) && link->is_there;
@@ -100,6 +103,15 @@ static void ask(kij_link *link) {
     link->was_sent = is_idle(link);
 }
 
+/* Whether a question is out that isn't answered. */
+static bool has_question(const kij_link *link) { return link->is_asked ? link->unanswered > 0 : link->was_asked; }
+
+/* Asks whether the printer is there, though other bytes may wait. */
+static void ask_now(kij_link *link) {
+    if (link->is_asked) ask_for(link, ASKED_NOW);
+    else ask(link);
+}
+
 /* ---- Jobs and parcels ---- */
 
 /* The job of a number that is still known, or null. */
@@ -115,6 +127,13 @@ static size_t due_of(const kij_link *link, const kij_job *job) {
 }
 
 static bool is_due(const kij_link *link, const kij_job *job) { return due_of(link, job) > 0; }
+
+/* Whether something of any order is due. */
+static bool is_any_due(const kij_link *link) {
+    for (size_t place = 0; place < link->due_count; place++)
+        if (link->due[place].job != 0) return true;
+    return false;
+}
 
 static void remove_due(kij_link *link, size_t place) {
     link->due_count--;
@@ -183,10 +202,15 @@ static size_t piece_end(const kij_buffer *data, size_t at) {
     return at < data->size ? at : data->size;
 }
 
+/* Whether a printer was silent whose line holds bytes back: of an order that waits there it might get the end alone. */
+static bool is_doubtful(const kij_link *link) {
+    return link->was_silent && kij_internal_port_holds_back(&link->port);
+}
+
 /* Puts out what comes next, once nothing is left of what went out before: what nothing acknowledges, and then pieces of
    the order. */
 static void fill(kij_link *link) {
-    kij_job *job = link->posting;
+    kij_job *job = is_doubtful(link) ? NULL : link->posting;
     /* Answers to GS r have no number: one piece is out at a time, so that none counts for another. */
     size_t most = link->is_asked ? 1 : KIJ_DUE_OF_JOB;
     if (link->out_sent < link->out.size) return;
@@ -220,6 +244,36 @@ static void drop(kij_link *link) {
     }
 }
 
+/* What is due is lost. */
+static void lose_due(kij_link *link) {
+    for (size_t place = 0; place < link->due_count; place++) {
+        kij_job *job = job_of(link, link->due[place].job);
+        if (job != NULL) job->is_torn = true;
+    }
+    link->due_count = 0;
+}
+
+/* The printer may have lost its power while its line held back the end of a piece, which it would print and acknowledge
+   as if it were whole. Nothing of what was sent counts any more, and the printer is asked whether it is there. */
+static void lose_sent(kij_link *link) {
+    kij_internal_port_discard(&link->port);
+    drop(link);
+    link->out.size = link->out_sent = link->control_size = 0;
+    lose_due(link);
+    link->was_silent = true;
+    ask_now(link);
+}
+
+/* Looks whether a printer says anything of an order, or answers, if its line holds bytes back. One that has stopped
+   needn't: it may take nothing. */
+static void watch(kij_link *link) {
+    int64_t most = least(link->timeout, silence);
+    int64_t quiet = kij_internal_now() - greatest(link->heard_at, link->began_at);
+    if (!kij_internal_port_holds_back(&link->port) || !is_any_due(link) || is_stopped(link)) return;
+    if (quiet >= most / 2 && !has_question(link)) ask_now(link);
+    else if (quiet >= most) lose_sent(link);
+}
+
 /* Bytes of a parcel's order were lost. */
 static void tear(kij_link *link, const kij_parcel *parcel) {
     kij_job *job = job_of(link, parcel->job);
@@ -232,10 +286,15 @@ static void tear(kij_link *link, const kij_parcel *parcel) {
 /* What a parcel is of is printed. */
 static void print(kij_link *link, const kij_parcel *parcel) {
     kij_job *job = job_of(link, parcel->job);
-    if (job != NULL) {
-        if (parcel->to > job->done) job->done = parcel->to;
-        if (parcel->is_last) job->is_done = true;
-    } else if (parcel->is_last && parcel->is_once) link->late++;
+    if (job == NULL) {
+        if (parcel->is_last && parcel->is_once) link->late++;
+        return;
+    }
+    if (parcel->to > job->done) {
+        job->done = parcel->to;
+        link->ends_at = kij_internal_now() + link->timeout;
+    }
+    if (parcel->is_last) job->is_done = true;
 }
 
 /* The parcel at this place is printed. Those before it are printed or lost, and nothing says which: any port may stay
@@ -251,11 +310,19 @@ static void acknowledge(kij_link *link, size_t last) {
     }
 }
 
+/* Whether a printer that acknowledges something has lost its power since it stopped. Otherwise it would have said first
+   that it goes on. */
+static bool was_reset(const kij_link *link) {
+    return kij_internal_port_holds_back(&link->port) && is_stopped(link) &&
+           kij_internal_now() - link->told_at > shortly;
+}
+
 /* A job is acknowledged, if one of the number is due. */
 static void acknowledge_number(kij_link *link, uint32_t number) {
     for (size_t place = 0; place < link->due_count; place++) {
         if (link->due[place].number == number) {
-            acknowledge(link, place);
+            if (was_reset(link)) lose_sent(link);
+            else acknowledge(link, place);
             return;
         }
     }
@@ -353,6 +420,7 @@ static void compose(kij_link *link) {
         memcpy(&link->signs, &link->hearing, sizeof link->signs);
         memcpy(link->told, link->heard, sizeof link->told);
         link->told_count = 3;
+        link->told_at = kij_internal_now();
         link->statuses++;
     }
 }
@@ -387,6 +455,7 @@ static void take_reply(kij_link *link, const char *text, const kij_told *told) {
         hear(&link->signs, line);
         link->told[0] = *told;
         link->told_count = 1;
+        link->told_at = kij_internal_now();
         link->is_refreshing = false;
         link->statuses++;
     } else if (told->asked != ASKED_NOW || (says(line, "offline", "yes") && !has_said_offline(link))) {
@@ -537,11 +606,16 @@ static bool is_known(const kij_link *link, const kij_job *job) {
     return link->told_count > 0;
 }
 
-/* Sends and reads until something is so, or the time is over: false if the port was lost. */
-static bool pump(kij_link *link, is_reached reached, const kij_job *job, int64_t end) {
+static bool is_answered(const kij_link *link, const kij_job *job) {
+    (void)job;
+    return !link->was_silent || is_stopped(link);
+}
+
+/* Sends and reads until something is so, or the order's time is over: false if the port was lost. */
+static bool pump(kij_link *link, is_reached reached, const kij_job *job) {
     while (!reached(link, job)) {
         bool can_read, can_write, is_any = false;
-        int64_t left = end - kij_internal_now();
+        int64_t left = link->ends_at - kij_internal_now();
         if (left <= 0) return true;
         ask_on(link);
         fill(link);
@@ -549,21 +623,14 @@ static bool pump(kij_link *link, is_reached reached, const kij_job *job, int64_t
                                &can_write);
         if (can_read && !read_some(link, &is_any)) return false;
         if (can_write && !write_some(link)) return false;
+        /* What has come was read before. */
+        watch(link);
         if (can_read && !is_any && !can_write) kij_internal_sleep(least(left, often));
     }
     return true;
 }
 
 /* ---- The port ---- */
-
-/* What is due is lost. */
-static void lose_due(kij_link *link) {
-    for (size_t place = 0; place < link->due_count; place++) {
-        kij_job *job = job_of(link, link->due[place].job);
-        if (job != NULL) job->is_torn = true;
-    }
-    link->due_count = 0;
-}
 
 static void forget(kij_link *link) {
     drop(link);
@@ -577,7 +644,7 @@ static void forget(kij_link *link) {
     memset(&link->hearing, 0, sizeof link->hearing);
     link->unanswered = 0;
     link->has_late_answers = false;
-    link->questioned_at = never;
+    link->questioned_at = KIJ_NEVER;
 }
 
 /* The port was lost, with what wasn't sent. What was sent may still be acknowledged over the next one. */
@@ -593,26 +660,30 @@ static void connect_port(kij_link *link, int64_t time) {
     forget(link);
     put_start(link);
     link->is_started = true;
+    link->began_at = kij_internal_now();
     ask(link);
 }
 
 void kij_internal_link_start(kij_link *link) {
-    int64_t end = kij_internal_now() + link->timeout;
+    link->ends_at = kij_internal_now() + link->timeout;
     link->end_size = link->is_asked ? QUESTION_SIZE : JOB_SIZE;
-    link->tried_at = link->refreshed_at = link->questioned_at = link->heard_at = never;
+    link->tried_at = link->refreshed_at = link->questioned_at = link->heard_at = link->began_at = KIJ_NEVER;
     /* A printer may still acknowledge jobs of a host that has ended. Those shouldn't have the numbers of these. */
     link->number = ((uint32_t)kij_internal_now() ^ (uint32_t)getpid() * 2654435761u >> 8) % NUMBERS;
     connect_port(link, link->timeout);
-    if (kij_internal_port_is_open(&link->port) && !pump(link, is_known, NULL, end)) lose(link);
+    if (kij_internal_port_is_open(&link->port) && !pump(link, is_known, NULL)) lose(link);
 }
 
-/* Asks a printer that has said nothing for a time, and one that says that it can't print, for more. False if the port
-   is to be opened again: a network printer that lost its power has closed nothing, and the system would send it what
-   comes next for minutes. What is due may still be acknowledged. */
+/* Asks a printer that has said nothing for a time, and one that says that it can't print, for more. One that has
+   stopped may get no question over a line that holds it back, and isn't off for that. False if the port is to be opened
+   again: a network printer that lost its power has closed nothing, and the system would send it what comes next for
+   minutes. What is due may still be acknowledged. */
 static bool look_after(kij_link *link) {
     int64_t now = kij_internal_now();
+    bool may_wait = kij_internal_port_holds_back(&link->port) && is_stopped(link);
     bool is_late = link->was_asked && now - link->asked_at > link->timeout;
-    if (is_late) {
+    watch(link);
+    if (is_late && !may_wait) {
         link->is_there = link->is_started = false;
         link->told_count = 0;
         memset(&link->signs, 0, sizeof link->signs);
@@ -621,7 +692,9 @@ static bool look_after(kij_link *link) {
             return false;
         }
     }
-    bool is_heard = link->is_there && now - link->heard_at <= link->timeout;
+    /* After an order that failed it is asked at once. A question that is out stays, with its time: if each such order
+       asked again, a printer that is off would never count as off. */
+    bool is_heard = link->is_there && !link->was_silent && now - link->heard_at <= link->timeout;
     if (!is_heard && (!link->was_asked || is_late) && is_idle(link)) ask(link);
     if (is_stopped(link) && !link->is_refreshing && now - link->refreshed_at > link->pause && is_idle(link)) {
         link->is_refreshing = true;
@@ -645,11 +718,11 @@ void kij_internal_link_poll(kij_link *link) {
 
 /* Waits for acknowledgements that are late, where they have no number. They are lost if none comes for the whole time,
    although the printer says that it can print. False if the port was lost. */
-static bool give_up(kij_link *link, int64_t end) {
+static bool give_up(kij_link *link) {
     size_t count = link->due_count;
     unsigned rounds = link->rounds;
     if (!link->is_asked || count == 0) return true;
-    if (!pump(link, is_none_due, NULL, end)) return false;
+    if (!pump(link, is_none_due, NULL)) return false;
     if (link->due_count == count && link->rounds > rounds + 1 && !is_stopped(link)) lose_due(link);
     return true;
 }
@@ -674,16 +747,22 @@ static void put_marker(kij_link *link) {
     send_parcel(link, NULL, 0, NULL);
 }
 
+void kij_internal_link_forget_order(kij_link *link) {
+    const kij_job *job = &link->paper;
+    /* It was printed after it had failed, and isn't asked for again. */
+    if (link->has_job && job->is_done && job->data.size > 0) link->late++;
+    link->has_job = false;
+}
+
 /* The job of the order that is out: the one that failed if it is the same, and how far that one has come. Null if the
    port was lost. */
-static kij_job *take_up(kij_link *link, bool is_once, int64_t end) {
+static kij_job *take_up(kij_link *link, bool is_once) {
     kij_job *job = is_once ? &link->paper : &link->pulse;
-    if (!give_up(link, end)) return NULL;
+    if (!give_up(link)) return NULL;
     bool is_same = is_once && link->has_job && job->data.size == link->fresh.size &&
                    (job->data.size == 0 || memcmp(job->data.bytes, link->fresh.bytes, job->data.size) == 0);
     if (!is_same) {
-        /* It was printed after it had failed, and isn't asked for again. */
-        if (is_once && link->has_job && job->is_done && job->data.size > 0) link->late++;
+        if (is_once) kij_internal_link_forget_order(link);
         begin(link, job, is_once);
         link->has_job |= is_once;
         return job;
@@ -691,7 +770,7 @@ static kij_job *take_up(kij_link *link, bool is_once, int64_t end) {
     if (is_due(link, job)) {
         /* What was sent before is printed or lost once this is acknowledged. */
         put_marker(link);
-        if (!pump(link, is_settled, job, end)) return NULL;
+        if (!pump(link, is_settled, job)) return NULL;
     }
     if (!is_due(link, job)) {
         /* Some of it was lost, and the printer may have begun a line. */
@@ -703,13 +782,22 @@ static kij_job *take_up(kij_link *link, bool is_once, int64_t end) {
     return job;
 }
 
+/* Waits for an answer of a printer in doubt, unless it has stopped: false if the port was lost. */
+static bool hear_first(kij_link *link) {
+    if (!is_doubtful(link)) return true;
+    bool is_late = !link->is_asked && kij_internal_now() - link->asked_at >= link->timeout;
+    if (!has_question(link) || is_late) ask_now(link);
+    return pump(link, is_answered, NULL);
+}
+
 /* Sends the order, as far as it wasn't, unless its time is over: false if the port was lost. */
-static bool post(kij_link *link, kij_job *job, int64_t end) {
-    if (job->is_done || is_stopped(link) || is_due(link, job) || kij_internal_now() >= end) return true;
+static bool post(kij_link *link, kij_job *job) {
+    if (!job->is_done && !hear_first(link)) return false;
+    if (job->is_done || is_stopped(link) || is_due(link, job) || kij_internal_now() >= link->ends_at) return true;
     link->posting = job;
     fill(link);
     bool is_kept = link->out_sent == link->out.size || write_some(link);
-    is_kept = is_kept && pump(link, is_printed, job, end);
+    is_kept = is_kept && pump(link, is_printed, job);
     link->posting = NULL;
     return is_kept;
 }
@@ -722,15 +810,16 @@ static size_t lines_of(const kij_buffer *data) {
 }
 
 bool kij_internal_link_carry_out(kij_link *link, const kijolvar_wire_settings *wire, bool is_once) {
-    int64_t end = kij_internal_now() + link->timeout;
+    link->began_at = kij_internal_now();
+    link->ends_at = link->began_at + link->timeout;
     if (!kij_internal_link_is_online(link)) return false;
     uint32_t code = kij_internal_order_bytes(link->till, wire, false, link->is_asked ? (uint32_t)PAPER_IN_ORDER : 0,
                                              &link->fresh);
     if (code != KIJOLVAR_OK || link->fresh.size < link->end_size) return false;
     link->fresh.size -= link->end_size;
     memcpy(link->end, link->fresh.bytes + link->fresh.size, link->end_size);
-    kij_job *job = receive(link) ? take_up(link, is_once, end) : NULL;
-    if (job == NULL || !post(link, job, end)) {
+    kij_job *job = receive(link) ? take_up(link, is_once) : NULL;
+    if (job == NULL || !post(link, job)) {
         lose(link);
         return false;
     }
@@ -741,12 +830,7 @@ bool kij_internal_link_carry_out(kij_link *link, const kijolvar_wire_settings *w
         return true;
     }
     drop(link);
-    if (!is_stopped(link)) {
-        link->was_silent = true;
-        /* The next look asks, and sends that. A question that is out stays, with its time: if each order that fails
-           asked again, a printer that is off would never count as off. */
-        link->heard_at = never;
-    }
+    if (!is_stopped(link)) link->was_silent = true;
     return false;
 }
 

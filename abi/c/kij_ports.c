@@ -99,18 +99,23 @@ void kij_internal_port(kij_port *port, const char *name, const kij_serial_settin
     else port->kind = serial->is_serial || is_line_name(name) ? KIJ_PORT_SERIAL : KIJ_PORT_FILE;
 }
 
-/* Sets up a terminal line, so that bytes pass as they are: 0 or errno. */
+/* Sets up a terminal line, so that bytes pass as they are: 0 or errno. A break, as when a device is plugged in, is
+   ignored, and a byte whose parity is wrong reads as 0. */
 static int set_up(int file, const kij_serial_settings *serial) {
     struct termios found;
     if (tcgetattr(file, &found) != 0) return errno;
-    found.c_iflag = found.c_oflag = found.c_lflag = 0;
+    found.c_iflag = IGNBRK;
+    found.c_oflag = found.c_lflag = 0;
     found.c_cflag = (found.c_cflag & ~(tcflag_t)(CSIZE | PARENB)) | CS8 | CREAD | CLOCAL;
     found.c_cc[VMIN] = 1;
     found.c_cc[VTIME] = 0;
     if (serial != NULL) {
         found.c_cflag &= ~(tcflag_t)(CSIZE | PARENB | PARODD | CSTOPB | CRTSCTS);
         found.c_cflag |= serial->bits == 8 ? CS8 : CS7;
-        if (serial->parity != KIJ_PARITY_NONE) found.c_cflag |= PARENB;
+        if (serial->parity != KIJ_PARITY_NONE) {
+            found.c_cflag |= PARENB;
+            found.c_iflag |= INPCK;
+        }
         if (serial->parity == KIJ_PARITY_ODD) found.c_cflag |= PARODD;
         if (serial->stops == 2) found.c_cflag |= CSTOPB;
         if (serial->flow == KIJ_FLOW_RTS_CTS) found.c_cflag |= CRTSCTS;
@@ -313,12 +318,27 @@ static void drop_unsent(int file) {
     (void)tcsetattr(file, TCSANOW, &found);
 }
 
+/* Ends what a process that was forked meanwhile would keep up: a connection, or that other programs get no keys. */
+static void let_go(const kij_port *port) {
+    if (port->kind == KIJ_PORT_TCP) (void)shutdown(port->file, SHUT_RDWR);
+    else if (port->kind == KIJ_PORT_KEYS) (void)ioctl(port->file, EVIOCGRAB, 0);
+    else drop_unsent(port->file);
+}
+
 void kij_internal_port_close(kij_port *port) {
     if (port->file >= 0) {
-        if (port->kind != KIJ_PORT_TCP && port->process == getpid()) drop_unsent(port->file);
+        if (port->process == getpid()) let_go(port);
         close(port->file);
     }
     port->file = -1;
+}
+
+bool kij_internal_port_holds_back(const kij_port *port) {
+    return port->kind == KIJ_PORT_SERIAL && port->serial.flow != KIJ_FLOW_NONE;
+}
+
+void kij_internal_port_discard(const kij_port *port) {
+    if (kij_internal_port_holds_back(port)) (void)tcflush(port->file, TCOFLUSH);
 }
 
 void kij_internal_port_wait(const kij_port *port, bool is_writing, int64_t time, bool *can_read, bool *can_write) {

@@ -57,6 +57,8 @@ kij_result kij_open(const char *profile, const char *totals, int flags, kij_till
     return why < 0 ? plain(-why) : kij_internal_result(KIJ_SYSTEM, why, KIJ_NO_CATEGORY);
 }
 
+int kij_disk_error(const kij_till *till) { return till == NULL ? 0 : till->disk_error; }
+
 void kij_close(kij_till *till) {
     if (till == NULL) return;
     /* A driver of the caller's may not call the till while it ends. */
@@ -67,25 +69,55 @@ void kij_close(kij_till *till) {
     free_till(till);
 }
 
-/* How many bytes lines have up to the first one that attaches something to a device, and with it: its name is written.
-   If there is none, all of them. */
-static size_t attach_end(const char *lines, size_t size, const char **name, size_t *name_size) {
-    static const char verb[] = "attach ";
+/* What a line is to the drivers, if it is carried out: it attaches something to a device, it gives up what a printer
+   hasn't printed, or it does that if it delivers the event of an output that failed. */
+typedef enum effect { NO_EFFECT, ATTACHES, GIVES_UP, MAY_GIVE_UP } effect;
+
+/* A word in a line. */
+typedef struct line_word {
+    const char *at;
+    size_t size;
+} line_word;
+
+/* Reads the next word of a line. */
+static line_word next_word(const char **at, const char *end) {
+    line_word word;
+    while (*at < end && **at == ' ') (*at)++;
+    word.at = *at;
+    while (*at < end && **at != ' ') (*at)++;
+    word.size = (size_t)(*at - word.at);
+    return word;
+}
+
+static bool is_word(line_word word, const char *text) {
+    return word.size == strlen(text) && memcmp(word.at, text, word.size) == 0;
+}
+
+/* What a line is to the drivers, and the name in it. */
+static effect effect_of(const char *line, const char *end, line_word *name) {
+    line_word verb = next_word(&line, end);
+    *name = next_word(&line, end);
+    if (name->size == 0) return NO_EFFECT;
+    if (is_word(verb, "attach")) return ATTACHES;
+    if (is_word(verb, "call") && is_word(next_word(&line, end), "clearOutput")) return GIVES_UP;
+    return is_word(verb, "deliver") && is_word(next_word(&line, end), "clear") ? MAY_GIVE_UP : NO_EFFECT;
+}
+
+/* How many bytes lines have up to the first one that is something to the drivers, and with it; all of them if there is
+   none. */
+static size_t effect_end(const char *lines, size_t size, effect *found, line_word *name) {
     const char *at = lines, *end = lines + size;
-    *name_size = 0;
+    *found = NO_EFFECT;
     while (at < end) {
         const char *feed = (const char *)memchr(at, '\n', (size_t)(end - at));
-        const char *last = feed == NULL ? end : feed, *next = feed == NULL ? end : feed + 1;
-        while (at < last && *at == ' ') at++;
-        if ((size_t)(last - at) >= sizeof verb && memcmp(at, verb, sizeof verb - 1) == 0) {
-            for (at += sizeof verb - 1; at < last && *at == ' ';) at++;
-            for (*name = at; at < last && *at != ' ';) at++;
-            *name_size = (size_t)(at - *name);
-            if (*name_size > 0) return (size_t)(next - lines);
-        }
-        at = next;
+        const char *last = feed == NULL ? end : feed;
+        /* The library drops a carriage return before a line feed. */
+        if (feed != NULL && last > at && last[-1] == '\r') last--;
+        *found = effect_of(at, last, name);
+        at = feed == NULL ? end : feed + 1;
+        if (*found != NO_EFFECT) break;
     }
-    return size;
+    return (size_t)(at - lines);
 }
 
 /* Puts the front of an answer before the till's, if there is one. By the code of what is behind it returns that of
@@ -107,31 +139,40 @@ static int put_before(kij_till *till, kij_buffer *front, int code) {
     return code == KIJ_NO_MEMORY ? (int)KIJ_NO_ANSWER : code;
 }
 
-/* Whether something was attached by the last line that was carried out, by its code and its answer. */
-static bool is_attached(const kij_till *till, int code) {
-    static const char done[] = "ok\n";
-    size_t size = sizeof done - 1, at = till->text_size - size;
-    if (code != KIJ_OK) return code == KIJ_NO_ANSWER;
-    if (till->text_size < size || memcmp(till->text + at, done, size) != 0) return false;
-    return at == 0 || till->text[at - 1] == '\n';
+/* Whether the last line was carried out that is something to the drivers, by the code of the lines and their answer.
+   What has no answer was. */
+static bool has_effect(const kij_till *till, int code, effect what) {
+    size_t at = till->text_size;
+    if (code != KIJ_OK || at == 0) return code == KIJ_NO_ANSWER;
+    do at--;
+    while (at > 0 && till->text[at - 1] != '\n');
+    const char *answer = till->text + at;
+    return what == MAY_GIVE_UP ? kij_internal_is_output_error(answer) : strcmp(answer, "ok\n") == 0;
+}
+
+/* Does what a line that was carried out is to the drivers. */
+static void apply_effect(kij_till *till, effect what, line_word name) {
+    if (what == ATTACHES) kij_internal_drive_again(till, name.at, name.size);
+    else kij_internal_forget_orders(till);
 }
 
 /* Carries out lines: a code of enum kij_code. A driven device that something was attached to is driven again before the
    next line. */
 static int carry_out(kij_till *till, const char *lines, size_t size) {
     kij_buffer front = {NULL, 0, 0};
-    const char *name = NULL;
-    size_t name_size = 0, part = attach_end(lines, size, &name, &name_size);
-    int code = kij_internal_carry_out(till, lines, part);
-    while (name_size > 0) {
-        if (is_attached(till, code)) kij_internal_drive_again(till, name, name_size);
-        lines += part;
-        size -= part;
+    line_word name = {NULL, 0};
+    effect what = NO_EFFECT;
+    size_t end = effect_end(lines, size, &what, &name);
+    int code = kij_internal_carry_out(till, lines, end);
+    while (what != NO_EFFECT) {
+        if (has_effect(till, code, what)) apply_effect(till, what, name);
+        lines += end;
+        size -= end;
         if (size == 0 || code != KIJ_OK) break;
         if (!kij_internal_buffer_add(&front, till->text, till->text_size)) code = KIJ_NO_ANSWER;
         if (code != KIJ_OK) break;
-        part = attach_end(lines, size, &name, &name_size);
-        code = kij_internal_carry_out(till, lines, part);
+        end = effect_end(lines, size, &what, &name);
+        code = kij_internal_carry_out(till, lines, end);
     }
     return put_before(till, &front, code);
 }

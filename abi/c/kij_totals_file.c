@@ -41,6 +41,11 @@ int kij_internal_read_file(int file, uint8_t *bytes, size_t *size) {
     return 0;
 }
 
+int kij_internal_disk_failed(kij_till *till) {
+    if (till->disk_error == 0) till->disk_error = ENOMEM;
+    return KIJ_DISK_FAILED;
+}
+
 uint32_t kij_internal_settle(kij_till *till) {
     for (;;) {
         uint64_t at = 0;
@@ -55,6 +60,7 @@ uint32_t kij_internal_settle(kij_till *till) {
         else if (code == KIJOLVAR_WRITE && is_written(till->file, till->errand, count, at)) continue;
         else if (code == KIJOLVAR_SYNC && kij_internal_is_synced(till->file)) continue;
         int why = errno;
+        if (till->disk_error == 0) till->disk_error = why;
         kijolvar_errand_failed(till->inner, &till->inner.at);
         errno = why;
         return KIJOLVAR_DISK_FAILED;
@@ -152,7 +158,8 @@ static int format(int file, const char *profile) {
                                          KIJOLVAR_DISK_LENGTH, &till.inner.at);
     int why = code == KIJOLVAR_OK ? 0 : -kij_internal_code_of(code);
     if (code == KIJOLVAR_OK) {
-        if (ftruncate(file, KIJOLVAR_DISK_LENGTH) != 0) why = errno;
+        /* All of it has its place on the disk from now on. */
+        if (!is_written(file, till.errand, KIJOLVAR_DISK_LENGTH, 0)) why = errno;
         else if (kij_internal_settle(&till) != KIJOLVAR_OK) why = errno;
         kijolvar_close(till.inner);
     }

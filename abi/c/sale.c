@@ -5,13 +5,21 @@
 #include <stdio.h>
 #include <string.h>
 
-/* Carries out a line, and prints its answer. */
+/* Carries out a line, and prints its answer: a code, and what is behind `ok`. */
 static void tell(kij_till *till, const char *line) {
-    const char *answer = "";
-    kij_carry_out(till, line, KIJ_ZERO_ENDED, &answer);
-    bool is_done = strncmp(answer, "ok", 2) == 0;
-    answer += is_done ? 2 : 4;
-    printf("%s: %s%.*s\n", line, is_done ? "0" : "", (int)strcspn(answer, "\n"), answer);
+    const char *answer = "", *code = "";
+    kij_result result = kij_carry_out(till, line, KIJ_ZERO_ENDED, &answer);
+    if (result.code != KIJ_OK) {
+        printf("%s: %s\n", line, kij_code_name(result.code));
+        return;
+    }
+    if (strncmp(answer, "ok", 2) == 0) {
+        code = "0";
+        answer += 2;
+    } else if (strncmp(answer, "err ", 4) == 0) {
+        answer += 4;
+    }
+    printf("%s: %s%.*s\n", line, code, (int)strcspn(answer, "\n"), answer);
 }
 
 /* A control by its name, opened, claimed and enabled: its code. */

@@ -3,6 +3,7 @@
 
 Usage: abi/python/generate.py, or abi/python/generate.py --check, which compares the files with what would be written.
 """
+import builtins
 import json
 import pathlib
 import sys
@@ -15,7 +16,7 @@ HEAD = ('"""{}\n\nWritten by abi/python/generate.py: don\'t change it by hand.\n
         "from __future__ import annotations\n")
 
 TYPES = {"number": "SupportsIndex", "bytes": "Text", "truth": "bool", "device": "str"}
-FORMS = {"number": "{{integer({})}}", "bytes": "{{hexed({})}}", "truth": "{{truth({})}}"}
+FORMS = {"bytes": "{{hexed({})}}", "truth": "{{truth({})}}"}
 GIVEN = {"number": "int", "bytes": "bytes", "truth": "bool"}
 # Arguments that may be left out, and what they are then.
 DEFAULTS = {
@@ -30,6 +31,8 @@ FAULTS = ["DamagedError", "DiskError", "DriverError", "Error", "ExchangeError", 
           "TillClosedError", "TooManyControlsError", "TooSmallError", "UnformattedError", "UposError"]
 # Classes of errors that are a kind of an error of Python's too.
 BASES = {"E_NOEXIST": ", LookupError"}
+# The function that makes a number of an argument, by the argument's name. Others are integers.
+NUMBERS = {"handle": "handle_of"}
 
 
 def wrapped(text, indent, more=""):
@@ -203,9 +206,13 @@ def event_class(event):
 def raised(errors, names, heading="Raises"):
     lines = [f"        {heading}:"]
     for error in errors:
-        code = error["code"]
-        lines.append(wrapped(f"{names.errors[code]}: {error['when']}", " " * 12, " " * 4))
+        lines.append(wrapped(f"{full(names.errors[error['code']])}: {error['when']}", " " * 12, " " * 4))
     return lines
+
+
+def full(name):
+    """The name of a class. An error of Python's that has the same name isn't meant."""
+    return f"kijolvar.{name}" if hasattr(builtins, name) else name
 
 
 def argument_doc(argument, names):
@@ -239,9 +246,14 @@ def signature(method):
     listed = ["self"]
     for argument in method["arguments"]:
         default = DEFAULTS.get((method["word"], argument["name"]))
-        kind = TYPES[argument["type"]]
+        kind = "Handle" if argument["name"] in NUMBERS else TYPES[argument["type"]]
         listed.append(f"{argument['name']}: {kind}" + (f" = {default}" if default else ""))
     return ", ".join(listed)
+
+
+def number_of(name):
+    """The expression for an argument that is a number."""
+    return f"{NUMBERS.get(name, 'integer')}({name})"
 
 
 def line_of(method):
@@ -250,9 +262,10 @@ def line_of(method):
         return f"self._call + b\"{method['word']}\""
     if all(argument["type"] == "number" for argument in method["arguments"]):
         forms = " ".join("%d" for _ in method["arguments"])
-        words = ", ".join(f"integer({argument['name']})" for argument in method["arguments"])
+        words = ", ".join(number_of(argument["name"]) for argument in method["arguments"])
         return f"b\"%b{method['word']} {forms}\" % (self._call, {words})"
-    words = " ".join(FORMS[argument["type"]].format(argument["name"]) for argument in method["arguments"])
+    words = " ".join(f"{{{number_of(argument['name'])}}}" if argument["type"] == "number"
+                     else FORMS[argument["type"]].format(argument["name"]) for argument in method["arguments"])
     return f"f\"{{self._words}}{method['word']} {words}\".encode()"
 
 
@@ -369,7 +382,7 @@ def controls(found):
              + "from typing import SupportsIndex\n\n"
              + imported("._constants", [*defaults, *used]) + "\n"
              + imported("._control", ["OK", "OK_BEGIN", "OK_FALSE", "OK_NO_BYTES", "OK_TRUE", "Claim", "Control",
-                                      "Text", "hexed", "truth"]),
+                                      "Handle", "Text", "handle_of", "hexed", "truth"]),
              "# What an answer stands for, by its text.\n" + "\n".join(
                  f'_{group} = {{b"ok %d\\n" % member: member for member in {group}}}' for group in used)]
     common = "What every category has: open, claim, enable, release and close."

@@ -11,10 +11,11 @@ import tty
 
 class PtyCable:
     """A pseudo terminal. `path` is a symbolic link to it, which is there only while the device is on, as that of a USB
-    printer. With `hangs_up` false it is a serial line: it stays when the device goes off, and nothing answers."""
+    printer. With `hangs_up` false it is a serial line: it stays when the device goes off, and nothing answers. With
+    `holds` it is one with RTS/CTS: what is sent waits while the device is off or offline."""
 
-    def __init__(self, path, hangs_up=True):
-        self.path, self.hangs_up = os.fspath(path), hangs_up
+    def __init__(self, path, hangs_up=True, holds=False):
+        self.path, self.hangs_up, self.holds = os.fspath(path), hangs_up and not holds, holds
         self._master = self._slave = None
 
     def plug_in(self):
@@ -77,6 +78,8 @@ class PtyCable:
 class TcpCable:
     """A TCP port of this machine, as a network printer's 9100. One host is connected at a time. With `hangs_up` false it
     is that of a print server: it stays when the device goes off, and nothing answers."""
+
+    holds = False
 
     def __init__(self, port=0, hangs_up=True):
         self.hangs_up = hangs_up

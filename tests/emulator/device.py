@@ -157,6 +157,10 @@ class Device:
         """Whether it works off what it got."""
         return True
 
+    def may_hear(self):
+        """Whether it takes bytes from its cable. One on a cable that holds them takes none without power."""
+        return self.is_on or not self.cable.holds
+
     def takes(self, byte):
         """Works off a byte."""
         raise NotImplementedError
@@ -209,7 +213,7 @@ class Device:
                 if self._sends:
                     pause = 0.001
                 files = [self._wakes]
-                if len(self._got) < self.ROOM:
+                if len(self._got) < self.ROOM and self.may_hear():
                     files += self.cable.files()
             try:
                 ready = select.select(files, [], [], pause)[0]
@@ -220,6 +224,7 @@ class Device:
                 with contextlib.suppress(BlockingIOError):
                     os.read(self._wakes, 4096)
             with self.lock:
-                found = self.cable.read(self.ROOM - len(self._got)) if len(self._got) < self.ROOM else b""
+                has_room = len(self._got) < self.ROOM and self.may_hear()
+                found = self.cable.read(self.ROOM - len(self._got)) if has_room else b""
                 if self.is_on and found:
                     self._got += self.arrives(found)

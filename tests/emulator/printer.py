@@ -120,6 +120,9 @@ class Printer(Device):
     def may_work(self):
         return not self.is_offline()
 
+    def may_hear(self):
+        return super().may_hear() and not (self.cable.holds and self.is_offline())
+
     def goes_on(self):
         self._changed()
 

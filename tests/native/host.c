@@ -1,9 +1,10 @@
 /* A host in C for tests/native.py: a till whose devices have drivers. It reads commands, a line each, and answers each
    by a line:
 
-   printer DEVICE PORT [drawer NAME] [timeout N] [pause N] [lines N] [width N] [asked] [serial SPEED]
-   display DEVICE PORT [escpos] [timeout N] [pause N]
-   scanner DEVICE PORT [keys] [pause N]
+   printer DEVICE PORT [drawer NAME] [timeout N] [pause N] [lines N] [width N] [asked] [serial SPEED [flow FLOW]]
+   display DEVICE PORT [escpos] [timeout N] [pause N] [serial SPEED [flow FLOW]]
+   scanner DEVICE PORT [keys] [pause N] [serial SPEED [flow FLOW]]
+                     the flow control of a serial line: none, which is the default here, rts-cts or xon-xoff
    own DEVICE N [printer|display|scanner]
                      kij_driver_open: a driver of this program's, whose drawer, or other device, takes so many orders
    did               the last order of that, in words
@@ -14,7 +15,12 @@
    run TIMEOUT       kij_run_devices: `true` or `false`
    state DEVICE      kij_show_driver: whether it is online, and how many orders were printed late
    lines LINE;LINE   kij_carry_out: the answers, with `;` in place of line feeds
-   print HEX         a typed call
+   print HEX         a typed call, by a control that the first one makes
+   later HEX         the same with AsyncMode: the request waits
+   clear             clearOutput of that control
+   release           it is released
+   close             it is given back, and the next request makes another one
+   reply             delivers the events of that control with the reply ER_CLEAR: how many of them were ErrorEvents
    host DEVICE       kij_host
    order             kij_next_order: its device, or `none`
    tear DEVICE       kij_tear_off
@@ -53,6 +59,20 @@ static int number(void) {
     return text == NULL ? -1 : (int)strtol(text, NULL, 10);
 }
 
+/* Reads the settings of a serial line, if the key is one of those. */
+static void read_serial(const char *key, kij_serial_settings *serial) {
+    static const char *const flows[] = {"none", "rts-cts", "xon-xoff"};
+    if (strcmp(key, "serial") == 0) {
+        serial->is_serial = true;
+        serial->speed = number();
+        serial->flow = KIJ_FLOW_NONE;
+    } else if (strcmp(key, "flow") == 0) {
+        const char *name = word();
+        for (int flow = KIJ_FLOW_NONE; flow <= KIJ_FLOW_XON_XOFF; flow++)
+            if (strcmp(name, flows[flow]) == 0) serial->flow = (kij_flow)flow;
+    }
+}
+
 static kij_result open_printer(void) {
     kij_escpos_settings settings = KIJ_ESCPOS_SETTINGS;
     const char *device = word(), *port = word(), *key;
@@ -63,11 +83,7 @@ static kij_result open_printer(void) {
         else if (strcmp(key, "lines") == 0) settings.lines = number();
         else if (strcmp(key, "width") == 0) settings.width = number();
         else if (strcmp(key, "asked") == 0) settings.is_asked = true;
-        else if (strcmp(key, "serial") == 0) {
-            settings.serial.is_serial = true;
-            settings.serial.speed = number();
-            settings.serial.flow = KIJ_FLOW_NONE;
-        }
+        else read_serial(key, &settings.serial);
     }
     return kij_escpos_printer_open(till, device, port, &settings);
 }
@@ -79,6 +95,7 @@ static kij_result open_display(void) {
         if (strcmp(key, "escpos") == 0) settings.protocol = KIJ_ESCPOS;
         else if (strcmp(key, "timeout") == 0) settings.timeout = number();
         else if (strcmp(key, "pause") == 0) settings.pause = number();
+        else read_serial(key, &settings.serial);
     }
     return kij_serial_display_open(till, device, port, &settings);
 }
@@ -89,6 +106,7 @@ static kij_result open_scanner(void) {
     while ((key = word()) != NULL) {
         if (strcmp(key, "keys") == 0) settings.has_keys = true;
         else if (strcmp(key, "pause") == 0) settings.pause = number();
+        else read_serial(key, &settings.serial);
     }
     return kij_wedge_scanner_open(till, device, port, &settings);
 }
@@ -256,14 +274,35 @@ static void carry_out(char *lines) {
 }
 
 /* Prints bytes by a typed call, over a control that the first one makes. */
-static void print(void) {
+static void print(bool is_later) {
     static uint8_t bytes[100000];
     char *digits = strtok(NULL, "\n");
     size_t size = digits == NULL ? 0 : bytes_of(digits, (char *)bytes);
     kij_result result = {KIJ_OK, 0, KIJ_NO_CATEGORY};
     if (printer == NULL) result = kij_start(till, KIJ_POS_PRINTER, "r1", KIJ_CLAIMED, &printer);
+    if (result.code == KIJ_OK && is_later) result = kij_set_bool(printer, KIJ_PROP_ASYNC_MODE, true);
     if (result.code == KIJ_OK) result = kij_printer_print(printer, KIJ_PTR_S_RECEIPT, bytes, size);
     answer(result, "ok");
+}
+
+static const char *give_back(void) {
+    kij_discard(printer);
+    printer = NULL;
+    return "ok";
+}
+
+/* Delivers the events of the control, and replies to each that output failed that it is given up. */
+static void reply(void) {
+    char text[20];
+    kij_event event;
+    int count = 0;
+    kij_result result;
+    do {
+        result = kij_next_event_replied(printer, KIJ_ER_CLEAR, &event);
+        if (result.code == KIJ_OK && event.kind == KIJ_ERROR_EVENT) count++;
+    } while (result.code == KIJ_OK && event.kind != KIJ_NO_EVENT);
+    snprintf(text, sizeof text, "%d", count);
+    answer(result, text);
 }
 
 static void order(void) {
@@ -310,7 +349,12 @@ static void obey(char *line) {
     else if (strcmp(verb, "calls") == 0) puts((own.calls = true) ? "ok" : "");
     else if (strcmp(verb, "run") == 0) run();
     else if (strcmp(verb, "state") == 0) state();
-    else if (strcmp(verb, "print") == 0) print();
+    else if (strcmp(verb, "print") == 0) print(false);
+    else if (strcmp(verb, "later") == 0) print(true);
+    else if (strcmp(verb, "clear") == 0) answer(kij_printer_clear_output(printer), "ok");
+    else if (strcmp(verb, "release") == 0) answer(kij_control_release(printer), "ok");
+    else if (strcmp(verb, "close") == 0) puts(give_back());
+    else if (strcmp(verb, "reply") == 0) reply();
     else if (strcmp(verb, "host") == 0) answer(kij_host(till, word()), "ok");
     else if (strcmp(verb, "tear") == 0) answer(kij_tear_off(till, word()), "ok");
     else if (strcmp(verb, "attach") == 0) answer(attach(), "ok");

@@ -38,8 +38,10 @@ static char held[8][100], answer[30000];
 static size_t held_count, answer_size;
 static bool is_cut, wants_memory, is_done, is_off, is_driven;
 static int no_lines, no_line, no_report, no_scan, no_power, no_close;
-/* After how many bytes an answer is cut, if that isn't 0; how many bytes an order has; and what was done. */
+/* After how many bytes an answer is cut, if that isn't 0; how many bytes an order has, and whether the last one was for
+   a display that nobody knows; and what was done. */
 static size_t cut_at, order_size = 5;
+static bool was_new;
 static int noted, scans, drives;
 /* An order of another device, which is the host's, or null. */
 static const char *others_order;
@@ -61,6 +63,7 @@ static const char *print_line(const char *line) {
             return "memory";
         }
     }
+    if (strncmp(line, "input p1 paper ", 15) == 0) return "bad input";
     if (strcmp(line, "input p1 power off") == 0) {
         if (no_power > 0) {
             no_power--;
@@ -180,22 +183,25 @@ uint32_t kijolvar_order_done(kijolvar_till till, void **out, uint32_t outcome, c
     }
     answer_size = 0;
     if (!wants_memory) {
-        for (size_t at = 0, end; at < inputs_len; at = end + 1) {
+        is_cut = false;
+        for (size_t at = 0, end; at < inputs_len && !is_cut; at = end + 1) {
             char line[100] = "";
             for (end = at; inputs[end] != '\n';) end++;
             memcpy(line, inputs + at, end - at);
-            (void)add_answer(print_line(line));
+            is_cut = !add_answer(print_line(line));
         }
-        progress = REPORTED;
+        progress = is_cut ? NONE : REPORTED;
         is_done = outcome == 0;
+        if (is_cut) held_count = 0;
     }
-    go_on();
+    if (!is_cut) go_on();
     return hand_over(text, text_len, needed);
 }
 
 uint32_t kijolvar_order_bytes(kijolvar_till till, void **out, const kijolvar_wire_settings *settings, uint32_t is_new,
                               uint32_t end, uint8_t *bytes, size_t bytes_len, size_t *needed) {
-    (void)settings, (void)is_new, (void)end;
+    (void)settings, (void)end;
+    was_new = is_new != 0;
     *out = till.at;
     *needed = order_size;
     if (bytes_len < order_size) return KIJOLVAR_SHORT;
@@ -494,6 +500,90 @@ static void try_no_bytes(void) {
     closes(&self);
 }
 
+/* A display gets all its rows at first, after a while without an order, and by an order that changes nothing. */
+static void try_unseen(void) {
+    shop self;
+    opens(&self, false);
+    answered(&self, "the first order", "order\n", "ok\n");
+    told("it has all rows", true, was_new);
+    answered(&self, "a second one", "order\n", "ok\n");
+    told("it has what changes", false, was_new);
+    self.till->drives->first->shown_at -= 9000;
+    answered(&self, "one after 9 seconds", "order\n", "ok\n");
+    told("it has what changes too", false, was_new);
+    self.till->drives->first->shown_at -= 10000;
+    answered(&self, "one after 10 seconds", "order\n", "ok\n");
+    told("it has all rows again", true, was_new);
+    answered(&self, "one right after it", "order\n", "ok\n");
+    told("it has what changes again", false, was_new);
+    order_size = 0;
+    answered(&self, "one that changes nothing", "order\n", "ok\n");
+    told("it has all rows, too", true, was_new);
+    order_size = 5;
+    closes(&self);
+}
+
+/* What a driver of this program's says next, or null. */
+static const char *says;
+
+static bool refuse(void *context, const kij_order *order) {
+    (void)context, (void)order;
+    return false;
+}
+
+static const char *say(void *context) {
+    const char *said = says;
+    (void)context;
+    says = NULL;
+    return said;
+}
+
+/* Opens a till with a display that such a driver has, which does no order. */
+static void opens_own(shop *self) {
+    kij_driver driver;
+    memset(&driver, 0, sizeof driver);
+    driver.category = KIJ_LINE_DISPLAY;
+    driver.carry_out = refuse;
+    driver.happened = say;
+    progress = NONE;
+    held_count = 0;
+    is_off = false;
+    self->answer = "";
+    self->other = -1;
+    told("a till", KIJ_OK, kij_open(NULL, NULL, KIJ_EXISTING, &self->till).code);
+    told("a driver", KIJ_OK, kij_driver_open(self->till, "p1", &driver, NULL).code);
+}
+
+/* What a driver says is told again, if nobody knows whether the till has taken it. */
+static void try_said(void) {
+    shop self;
+    opens_own(&self);
+    says = "note\npower off\n";
+    cut_at = 2;
+    told("no memory for the answers", KIJ_NO_ANSWER, kij_run_devices(self.till, 0, NULL).code);
+    told("the end isn't taken", false, is_off);
+    told("the devices run", KIJ_OK, kij_run_devices(self.till, 0, NULL).code);
+    told("it is taken", true, is_off);
+    closes(&self);
+    opens_own(&self);
+    says = "note\npower off\n";
+    cut_at = 2;
+    told("no memory for the answers of a report", KIJ_NO_ANSWER, lines(&self, "order\n"));
+    told("the end of that isn't taken", false, is_off);
+    told("the devices run again", KIJ_OK, kij_run_devices(self.till, 0, NULL).code);
+    told("the end of that is taken", true, is_off);
+    closes(&self);
+    opens_own(&self);
+    says = "paper 5\npower off\n";
+    no_power = 1;
+    told("no memory behind what can't be", KIJ_NO_MEMORY, kij_run_devices(self.till, 0, NULL).code);
+    told("it isn't taken", false, is_off);
+    told("what can't be", KIJ_BAD_INPUT, kij_run_devices(self.till, 0, NULL).code);
+    told("what is behind it is taken", true, is_off);
+    told("nothing else", KIJ_OK, kij_run_devices(self.till, 0, NULL).code);
+    closes(&self);
+}
+
 static void sends(const shop *self, const char *codes) {
     told("codes are sent", (long)strlen(codes), (long)write(self->other, codes, strlen(codes)));
     kij_internal_sleep(20);
@@ -590,6 +680,8 @@ int main(void) {
     try_power();
     try_unheard_power();
     try_no_bytes();
+    try_unseen();
+    try_said();
     try_scans();
     try_scan_beside();
     try_attached();

@@ -1,7 +1,7 @@
 /* Tries the layer of C where the system does something that no emulated device can bring about: a serial line that is
    pulled out before its bytes are out, processes that are forked, names that are looked up, signals, and files that are
    read and written in parts.
-   What is linked with it has -Wl,--wrap=getaddrinfo,--wrap=fsync,--wrap=pread,--wrap=pwrite.
+   What is linked with it has -Wl,--wrap=getaddrinfo,--wrap=fsync,--wrap=pread,--wrap=pwrite,--wrap=ioctl.
 
    Usage: system FOLDER. It makes files in the folder, and prints what fails. Its status is 0 if nothing does. */
 #define _GNU_SOURCE
@@ -9,13 +9,17 @@
 #include <arpa/inet.h>
 #include <errno.h>
 #include <fcntl.h>
+#include <linux/input.h>
 #include <netdb.h>
 #include <netinet/in.h>
 #include <netinet/tcp.h>
+#include <poll.h>
 #include <signal.h>
+#include <stdarg.h>
 #include <stdio.h>
 #include <stdlib.h>
 #include <string.h>
+#include <sys/socket.h>
 #include <sys/stat.h>
 #include <sys/time.h>
 #include <sys/wait.h>
@@ -23,15 +27,19 @@
 #include <time.h>
 #include <unistd.h>
 
-static int failed, lookups, lookup_fault, calls, read_fault, write_fault, syncs;
+static int failed, lookups, lookup_fault, calls, read_fault, write_fault, sync_fault, syncs;
 static bool is_partial;
 static char looked_up[100];
+/* Whether keys are kept from other programs, or -1. */
+static int is_grabbed = -1;
 
 int __real_getaddrinfo(const char *host, const char *service, const struct addrinfo *wanted, struct addrinfo **found);
 int __real_fsync(int file);
 ssize_t __real_pread(int file, void *bytes, size_t size, off_t at);
 ssize_t __real_pwrite(int file, const void *bytes, size_t size, off_t at);
+int __real_ioctl(int file, unsigned long request, ...);
 int __wrap_getaddrinfo(const char *host, const char *service, const struct addrinfo *wanted, struct addrinfo **found);
+int __wrap_ioctl(int file, unsigned long request, ...);
 int __wrap_fsync(int file);
 ssize_t __wrap_pread(int file, void *bytes, size_t size, off_t at);
 ssize_t __wrap_pwrite(int file, const void *bytes, size_t size, off_t at);
@@ -45,8 +53,19 @@ int __wrap_getaddrinfo(const char *host, const char *service, const struct addri
 /* Each file is synced the second time, if there is a signal the first time. */
 int __wrap_fsync(int file) {
     syncs++;
-    errno = EINTR;
-    return is_partial && syncs % 2 == 1 ? -1 : __real_fsync(file);
+    errno = sync_fault != 0 ? sync_fault : EINTR;
+    return sync_fault != 0 || (is_partial && syncs % 2 == 1) ? -1 : __real_fsync(file);
+}
+
+/* Any device has keys. */
+int __wrap_ioctl(int file, unsigned long request, ...) {
+    va_list arguments;
+    va_start(arguments, request);
+    void *argument = NULL;
+    if (request == EVIOCGRAB) is_grabbed = va_arg(arguments, int);
+    else argument = va_arg(arguments, void *);
+    va_end(arguments);
+    return request == EVIOCGRAB ? 0 : __real_ioctl(file, request, argument);
 }
 
 /* How many of so many bytes are read or written: none, and errno, if there is a fault or a signal. */
@@ -83,6 +102,28 @@ static int open_line(kij_port *port) {
     kij_internal_port(port, name, &serial, false);
     told("a line is opened", true, kij_internal_port_open(port, 100));
     return other;
+}
+
+/* A break is no byte, and one whose parity is wrong is a 0 byte, if a line has parity. */
+static void try_line_settings(void) {
+    static char name[64];
+    struct termios found;
+    kij_serial_settings serial = KIJ_SERIAL_SETTINGS;
+    int other = posix_openpt(O_RDWR | O_NOCTTY);
+    serial.is_serial = true;
+    if (other < 0 || grantpt(other) != 0 || unlockpt(other) != 0 || ptsname_r(other, name, sizeof name) != 0) abort();
+    for (int parity = KIJ_PARITY_NONE; parity <= KIJ_PARITY_ODD; parity++) {
+        kij_port port;
+        serial.parity = (kij_parity)parity;
+        kij_internal_port(&port, name, &serial, false);
+        told("a line with this parity", true, kij_internal_port_open(&port, 100));
+        told("its settings", 0, tcgetattr(port.file, &found));
+        tcflag_t mask = IGNBRK | BRKINT | IGNPAR | PARMRK | INPCK | ISTRIP;
+        tcflag_t wanted = parity == KIJ_PARITY_NONE ? IGNBRK : IGNBRK | INPCK;
+        told("what it does with breaks and parity", (long)wanted, (long)(found.c_iflag & mask));
+        kij_internal_port_close(&port);
+    }
+    close(other);
 }
 
 /* A line whose adapter is pulled out hasn't sent its bytes. */
@@ -167,6 +208,60 @@ static void make_tcp(kij_port *port, char *name, size_t room, int number) {
     static const kij_serial_settings serial = KIJ_SERIAL_SETTINGS;
     snprintf(name, room, "tcp:localhost:%d", number);
     kij_internal_port(port, name, &serial, false);
+}
+
+/* The keys of a scanner are other programs' again once the process that opened it closes it, though a process that was
+   forked has it still; and such a process leaves them as they are. */
+static void try_forked_keys(void) {
+    static const kij_serial_settings serial = KIJ_SERIAL_SETTINGS;
+    kij_port port;
+    int status = 0;
+    kij_internal_port(&port, "/dev/null", &serial, true);
+    told("keys are opened", true, kij_internal_port_open(&port, 100));
+    told("no other program gets them", 1, is_grabbed);
+    fflush(stdout);
+    pid_t closes = fork();
+    if (closes == 0) {
+        kij_internal_port_close(&port);
+        _exit(is_grabbed);
+    }
+    told("a forked process closes them", closes, waitpid(closes, &status, 0));
+    told("still no other program gets them", 1, WIFEXITED(status) ? WEXITSTATUS(status) : -1);
+    kij_internal_port_close(&port);
+    told("others get them", 0, is_grabbed);
+}
+
+/* The till that opened a connection ends it, though a process that was forked has it too. Such a process doesn't. */
+static void try_forked_connection(void) {
+    kij_till *till = NULL;
+    char name[64], byte;
+    int number = 0, listener = listen_here(8, &number), ways[2], status = 0;
+    snprintf(name, sizeof name, "tcp:127.0.0.1:%d", number);
+    told("a till", KIJ_OK, kij_open(NULL, NULL, KIJ_EXISTING, &till).code);
+    told("a display on a network", KIJ_OK, kij_serial_display_open(till, "p1", name, NULL).code);
+    struct pollfd peer = {accept(listener, NULL, NULL), POLLIN, 0};
+    fflush(stdout);
+    if (pipe(ways) != 0) abort();
+    pid_t closes = fork();
+    if (closes == 0) {
+        kij_close(till);
+        _exit(0);
+    }
+    told("a forked process closes it", closes, waitpid(closes, &status, 0));
+    told("the connection stays", 0, poll(&peer, 1, 200));
+    pid_t waits = fork();
+    if (waits == 0) {
+        close(ways[1]);
+        _exit(read(ways[0], &byte, 1) != 0);
+    }
+    kij_close(till);
+    told("another one has it still, and the other end is told", 1, poll(&peer, 1, 1000));
+    told("it ends", 0, (long)recv(peer.fd, &byte, 1, MSG_DONTWAIT));
+    close(ways[1]);
+    told("the forked process ends", waits, waitpid(waits, &status, 0));
+    close(ways[0]);
+    close(peer.fd);
+    close(listener);
 }
 
 /* A name is looked up once, and then at most once a minute while it can't be reached. */
@@ -372,6 +467,14 @@ static void try_forked_totals(const char *path) {
     if (child == 0) _exit(kij_totals_write(totals, first, 0, "x", 1).code);
     told("a forked process", child, waitpid(child, &status, 0));
     told("writes nothing", KIJ_DISK_FAILED, WIFEXITED(status) ? WEXITSTATUS(status) : -1);
+    child = fork();
+    if (child == 0) {
+        (void)kij_totals_write(totals, first, 0, "x", 1);
+        _exit(kij_disk_error(till));
+    }
+    told("another forked process", child, waitpid(child, &status, 0));
+    told("says why", EPERM, WIFEXITED(status) ? WEXITSTATUS(status) : -1);
+    told("the file hasn't failed", 0, kij_disk_error(till));
     told("a change after it", KIJ_OK, kij_totals_create(totals, "B", 1, 1, false, &second).code);
     kij_close(till);
     told("another till", KIJ_OK, kij_open(NULL, path, KIJ_EXISTING, &till).code);
@@ -406,6 +509,42 @@ static void try_totals(const char *path) {
     read_fault = 0;
 }
 
+/* Why a file of totals failed stays the same. */
+static void try_disk_error(const char *path, int *fault, int why) {
+    kij_till *till = NULL;
+    kij_control *totals = NULL;
+    int64_t handle = 0;
+    told("totals that will fail", KIJ_OK, kij_open(NULL, path, KIJ_CREATE_NEW, &till).code);
+    told("enabled", KIJ_OK, kij_start(till, KIJ_HARD_TOTALS, "t1", KIJ_UNCLAIMED, &totals).code);
+    told("nothing has failed", 0, kij_disk_error(till));
+    *fault = why;
+    told("a change", KIJ_DISK_FAILED, kij_totals_create(totals, "A", 1, 1, false, &handle).code);
+    *fault = 0;
+    told("why it failed", why, kij_disk_error(till));
+    told("another one", KIJ_DISK_FAILED, kij_totals_create(totals, "B", 1, 1, false, &handle).code);
+    told("it is still why", why, kij_disk_error(till));
+    kij_close(till);
+    told("no till", 0, kij_disk_error(NULL));
+}
+
+/* How many bytes of a file have a place on the disk. */
+static long room_of(const char *path) {
+    struct stat found;
+    return stat(path, &found) == 0 ? (long)found.st_blocks * 512 : -1;
+}
+
+/* All of a new file has its place on the disk, so that it can't fail for want of room later. Some file systems say
+   nothing of that. */
+static void try_room(const char *path, const char *other) {
+    static const char zeros[KIJOLVAR_DISK_LENGTH];
+    int file = open(other, O_RDWR | O_CREAT | O_CLOEXEC, 0600);
+    if (file < 0 || write(file, zeros, sizeof zeros) != (ssize_t)sizeof zeros || __real_fsync(file) != 0) abort();
+    close(file);
+    open_totals("a new file", path, KIJ_CREATE_NEW, KIJ_OK, 0);
+    if (room_of(other) >= KIJOLVAR_DISK_LENGTH) told("its room", true, room_of(path) >= KIJOLVAR_DISK_LENGTH);
+    else printf("this file system doesn't say which room a file has\n");
+}
+
 /* A pipe that nobody writes is no file of totals, and isn't waited for. */
 static void try_pipe(const char *path) {
     size_t needed = 0;
@@ -420,18 +559,21 @@ static void try_pipe(const char *path) {
 }
 
 int main(int count, char **words) {
-    char path[4096], forked[4096], fifo[4096];
+    char path[4096], forked[4096], fifo[4096], other[4096];
     if (count != 2) {
         fprintf(stderr, "Usage: system FOLDER\n");
         return 2;
     }
     snprintf(path, sizeof path, "%s/system-totals", words[1]);
+    try_line_settings();
     try_lost_line();
     try_closing();
     snprintf(forked, sizeof forked, "%s/forked-totals", words[1]);
     try_forked(forked);
     snprintf(forked, sizeof forked, "%s/totals-of-two", words[1]);
     try_forked_totals(forked);
+    try_forked_connection();
+    try_forked_keys();
     try_hosts();
     try_names();
     try_endless();
@@ -440,6 +582,13 @@ int main(int count, char **words) {
     try_patience();
     try_empty();
     try_totals(path);
+    snprintf(forked, sizeof forked, "%s/totals-without-room", words[1]);
+    try_disk_error(forked, &write_fault, ENOSPC);
+    snprintf(forked, sizeof forked, "%s/totals-not-synced", words[1]);
+    try_disk_error(forked, &sync_fault, EIO);
+    snprintf(forked, sizeof forked, "%s/totals-with-room", words[1]);
+    snprintf(other, sizeof other, "%s/zeros", words[1]);
+    try_room(forked, other);
     snprintf(fifo, sizeof fifo, "%s/system-pipe", words[1]);
     try_pipe(fifo);
     return failed != 0;

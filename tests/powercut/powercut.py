@@ -24,6 +24,7 @@ RECORD, RECORD_GATE, CLOSED_GATE, IMAGE, OPEN_GATE = ("a record", "a record's op
                                                       "a slot's open gate")
 FIRST_IMAGE, FOLDER, OPENING = "the first image", "the folder", "an opening after a kill"
 # Without one of these none does. Before the first gate opens, nothing counts yet, and a later sync settles their writes too.
+# A program sets the length, or writes so many zero bytes.
 LENGTH, ALL_GATES = "the length", "all closed gates"
 # Before this one nothing is loose.
 NOTHING = "nothing"
@@ -159,7 +160,7 @@ def sync_of(entry, moment):
         return FOLDER if moment.may_miss else NOTHING
     if not loose:
         return NOTHING
-    if any(other.kind == "T" for other in loose):
+    if any(other.kind == "T" or len(other.text) == reader.LENGTH for other in loose):
         return LENGTH
     if all(len(other.text) == 1 for other in loose):
         if len(loose) > 1:

@@ -5,7 +5,7 @@ import contextlib
 from collections.abc import Callable, Iterator
 from operator import index
 from types import TracebackType
-from typing import TYPE_CHECKING, ClassVar, Optional, Self, SupportsIndex, TypeVar, Union
+from typing import TYPE_CHECKING, Any, ClassVar, Optional, Self, SupportsIndex, TypeVar, Union
 
 from . import _events
 from ._constants import E_EXTENDED, KIJOLVAR_NO_MEMORY, ErrorReply
@@ -16,8 +16,10 @@ from .errors import BY_CODE, BY_EXTENDED
 
 if TYPE_CHECKING:
     from .till import Till
+    from .totals import TotalsFile
 
 Text = Union[str, bytes, bytearray, memoryview]
+Handle = Union[SupportsIndex, "TotalsFile"]
 Listener = Callable[[Event], Optional[ErrorReply]]
 L = TypeVar("L", bound=Optional[Listener])
 
@@ -49,6 +51,15 @@ def truth(value: bool) -> str:
     return "true" if is_true(value) else "false"
 
 
+def handle_of(file: Handle) -> int:
+    """An argument that is a file of totals, or its handle, as a line has it."""
+    # Most often it is a number.
+    if type(file) is int:
+        return file
+    given: Any = file
+    return index(getattr(given, "handle", given))
+
+
 def undoing(value: BaseException | None) -> contextlib.AbstractContextManager[None]:
     """For what the end of a `with` block undoes: its own exceptions don't take the place of one that ends the block."""
     return contextlib.nullcontext() if value is None else contextlib.suppress(Exception)
@@ -68,7 +79,8 @@ class Control:
     """A handle on a device. Each control counts as an application of its own.
 
     You get an open one from the till, as `till.drawer("d1")`. It is closed at the end of a `with` block, and soon after
-    nothing refers to it any more. You can open a closed control again, also on another device of its category.
+    nothing refers to it any more, unless it has a listener. You can open a closed control again, also on another device
+    of its category.
     """
 
     __slots__ = ("_till", "_name", "_carry_out", "_call", "_words", "_get", "_set", "_device", "_listener",
@@ -156,10 +168,12 @@ class Control:
         except BaseException:
             self._device = before
             raise
+        self._till._keep(self, self._listener is not None)
 
     def _close(self) -> None:
         self._do(b"close %b" % self._name, "close")
         self._device = None
+        self._till._keep(self, False)
 
     def _claim(self, timeout: SupportsIndex) -> Claim:
         self._do(b"claim %b %d" % (self._name, index(timeout)), "claim")
@@ -202,8 +216,11 @@ class Control:
 
         `till.deliver()` passes each event to it. What it returns is the reply to an ErrorEvent; None is the default
         reply. You can use it as a decorator.
+
+        An open control with a listener stays open, also when nothing else refers to it.
         """
         self._listener = listener
+        self._till._keep(self, listener is not None and self._device is not None)
         return listener
 
     def deliver(self) -> int:
@@ -223,7 +240,7 @@ class Control:
         """Claims the device and enables it for a `with` block. At its end the device is disabled and released.
 
         Raises:
-            TimeoutError: Another control has claimed the device.
+            kijolvar.TimeoutError: Another control has claimed the device.
         """
         with self._claim(timeout):
             self._do(self._set + b"DeviceEnabled true", "device_enabled")

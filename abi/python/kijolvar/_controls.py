@@ -9,7 +9,8 @@ from operator import index as integer
 from typing import SupportsIndex
 
 from ._constants import DISP_DT_NORMAL, PTR_CP_FULLCUT, PowerNotify, PowerReporting, PowerState, State
-from ._control import OK, OK_BEGIN, OK_FALSE, OK_NO_BYTES, OK_TRUE, Claim, Control, Text, hexed, truth
+from ._control import (OK, OK_BEGIN, OK_FALSE, OK_NO_BYTES, OK_TRUE, Claim, Control, Handle, Text, handle_of, hexed,
+                       truth)
 
 
 # What an answer stands for, by its text.
@@ -226,7 +227,7 @@ class StandardControl(Control):
         Raises:
             ClosedError: The control is closed.
             IllegalError: The timeout is below -1.
-            TimeoutError: Another control has claimed the device, or a file of the totals.
+            kijolvar.TimeoutError: Another control has claimed the device, or a file of the totals.
 
         UnifiedPOS 1.16, chapter Common Properties, Methods and Events.
         """
@@ -1178,7 +1179,7 @@ class HardTotals(StandardControl):
             raise self._refusal(answer, "find_by_index")
         return unhexlify(answer[3:-1]) if answer != OK_NO_BYTES else b""
 
-    def read(self, handle: SupportsIndex, offset: SupportsIndex, count: SupportsIndex) -> bytes:
+    def read(self, handle: Handle, offset: SupportsIndex, count: SupportsIndex) -> bytes:
         """Reads bytes of a file as they are on the disk; what a transaction has buffered isn't among them.
 
         Args:
@@ -1199,12 +1200,12 @@ class HardTotals(StandardControl):
 
         UnifiedPOS 1.16, chapter Hard Totals.
         """
-        answer = self._carry_out(b"%bread %d %d %d" % (self._call, integer(handle), integer(offset), integer(count)))
+        answer = self._carry_out(b"%bread %d %d %d" % (self._call, handle_of(handle), integer(offset), integer(count)))
         if answer[0] != OK_BEGIN:
             raise self._refusal(answer, "read")
         return unhexlify(answer[3:-1]) if answer != OK_NO_BYTES else b""
 
-    def write(self, handle: SupportsIndex, offset: SupportsIndex, data: Text) -> None:
+    def write(self, handle: Handle, offset: SupportsIndex, data: Text) -> None:
         """Writes bytes to a file; in a transaction they are buffered until it is committed.
 
         Args:
@@ -1223,11 +1224,11 @@ class HardTotals(StandardControl):
 
         UnifiedPOS 1.16, chapter Hard Totals.
         """
-        answer = self._carry_out(f"{self._words}write {integer(handle)} {integer(offset)} {hexed(data)}".encode())
+        answer = self._carry_out(f"{self._words}write {handle_of(handle)} {integer(offset)} {hexed(data)}".encode())
         if answer != OK:
             raise self._refusal(answer, "write")
 
-    def set_all(self, handle: SupportsIndex, value: SupportsIndex) -> None:
+    def set_all(self, handle: Handle, value: SupportsIndex) -> None:
         """Sets all bytes of a file to one value; in a transaction this is buffered until it is committed.
 
         Args:
@@ -1245,11 +1246,11 @@ class HardTotals(StandardControl):
 
         UnifiedPOS 1.16, chapter Hard Totals.
         """
-        answer = self._carry_out(b"%bsetAll %d %d" % (self._call, integer(handle), integer(value)))
+        answer = self._carry_out(b"%bsetAll %d %d" % (self._call, handle_of(handle), integer(value)))
         if answer != OK:
             raise self._refusal(answer, "set_all")
 
-    def rename(self, handle: SupportsIndex, name: Text) -> None:
+    def rename(self, handle: Handle, name: Text) -> None:
         """Gives a file another name.
 
         Args:
@@ -1267,11 +1268,11 @@ class HardTotals(StandardControl):
 
         UnifiedPOS 1.16, chapter Hard Totals.
         """
-        answer = self._carry_out(f"{self._words}rename {integer(handle)} {hexed(name)}".encode())
+        answer = self._carry_out(f"{self._words}rename {handle_of(handle)} {hexed(name)}".encode())
         if answer != OK:
             raise self._refusal(answer, "rename")
 
-    def claim_file(self, handle: SupportsIndex, timeout: SupportsIndex = 0) -> None:
+    def claim_file(self, handle: Handle, timeout: SupportsIndex = 0) -> None:
         """Claims a file, which keeps other controls from reading and changing it.
 
         The call never waits: if another control has the file, it fails at once.
@@ -1285,15 +1286,15 @@ class HardTotals(StandardControl):
             DisabledError: The control is disabled.
             FailureError: The totals are off.
             IllegalError: No file has the handle, or the timeout is below -1.
-            TimeoutError: Another control has claimed the file or the device.
+            kijolvar.TimeoutError: Another control has claimed the file or the device.
 
         UnifiedPOS 1.16, chapter Hard Totals.
         """
-        answer = self._carry_out(b"%bclaimFile %d %d" % (self._call, integer(handle), integer(timeout)))
+        answer = self._carry_out(b"%bclaimFile %d %d" % (self._call, handle_of(handle), integer(timeout)))
         if answer != OK:
             raise self._refusal(answer, "claim_file")
 
-    def release_file(self, handle: SupportsIndex) -> None:
+    def release_file(self, handle: Handle) -> None:
         """Releases a file that the control has claimed.
 
         Args:
@@ -1307,7 +1308,7 @@ class HardTotals(StandardControl):
 
         UnifiedPOS 1.16, chapter Hard Totals.
         """
-        answer = self._carry_out(b"%breleaseFile %d" % (self._call, integer(handle)))
+        answer = self._carry_out(b"%breleaseFile %d" % (self._call, handle_of(handle)))
         if answer != OK:
             raise self._refusal(answer, "release_file")
 

@@ -2,13 +2,15 @@
 from __future__ import annotations
 
 import contextlib
+import functools
 import select
 import time
 from collections import deque
+from collections.abc import Callable
 from typing import TYPE_CHECKING
 
-from ._constants import KIJOLVAR_NO_MEMORY
-from ._control import device_word
+from ._constants import EL_OUTPUT, KIJOLVAR_NO_MEMORY
+from ._control import device_word, undoing
 from ._devices import Device, Order, WorkFailed, read_order
 from ._faults import DriverError, InCallError, InputError, LineError, NoDeviceError, NoMemoryError, library_fault
 from ._questions import ProfileDevice
@@ -19,6 +21,8 @@ if TYPE_CHECKING:
     from .till import Till
 
 
+# The words of lines that give up what a printer's control has ordered, without the control's name.
+_GIVES_UP: set[tuple[bytes, ...]] = {(b"call", b"clearOutput"), (b"deliver", b"clear")}
 # How many orders of a printer the till keeps the paper of.
 _KEPT_ORDERS = 500
 # How long the loop waits at most until it looks again, and at least until refused output is tried again, in seconds.
@@ -89,6 +93,7 @@ class Drives:
         self._fault: Exception | None = None
         session.serve = self.serve
         session.served = self.served
+        session.given_up = self.gave_up
 
     def check(self, device: ProfileDevice, driver: Driver) -> None:
         """Checks that a device can have a driver."""
@@ -107,16 +112,19 @@ class Drives:
                 self._session.drive(drive.word)
             self._drives[device.name] = self._by_word[drive.word] = drive
             self._hand_in(drive)
-        except BaseException:
-            self.remove(drive.name)
-            driver.close()
+        except BaseException as fault:
+            with undoing(fault):
+                if self._drives.get(device.name) is drive:
+                    self.remove(device.name)
+                else:
+                    driver.close()
             raise
 
     def remove(self, name: str) -> None:
         """Takes the driver of a device away, if it has one, and closes that. Orders of the device fail then."""
         drive = self._drives.pop(name, None)
         if drive is not None:
-            del self._by_word[drive.word]
+            self._by_word.pop(drive.word, None)
             drive.driver.close()
 
     def attached(self, name: str) -> None:
@@ -140,15 +148,19 @@ class Drives:
             return False, b""
         driver, self._session.taken = drive.driver, drive.taken
         order = read_order(line.decode()) if driver.reads_orders else drive.order
-        if driver.is_online and driver.carry_out(order):
-            # Only a printer has paper that is taken away.
-            drive.orders += drive.category == "POSPrinter"
-            return True, b""
-        return False, drive.inputs()
+        try:
+            if driver.is_online and driver.carry_out(order):
+                # Only a printer has paper that is taken away.
+                drive.orders += drive.category == "POSPrinter"
+                return True, b""
+            return False, drive.inputs()
+        finally:
+            if self._session.is_closed:
+                self._close_again(drive)
 
     def served(self) -> None:
         """Is called once orders were carried out. It is most often all that there is to do."""
-        for drive in self._by_word.values():
+        for drive in list(self._by_word.values()):
             if not (drive.is_on and drive.driver.is_quiet and drive.orders < _KEPT_ORDERS):
                 try:
                     self.hand_in()
@@ -157,22 +169,35 @@ class Drives:
                     self._fault = fault
                 return
 
+    def gave_up(self, line: bytes, answer: bytes) -> None:
+        """A line was carried out. If it gives up what a printer's control has ordered, the printer's driver is told."""
+        words = line.partition(b"\n")[0].split()
+        if (*words[:1], *words[2:]) not in _GIVES_UP or not answer.startswith((b"ok\n", b"event ErrorEvent ")):
+            return
+        control = self._till._controls.get(words[1].decode())
+        if control is not None:
+            if control.category == "POSPrinter":
+                self.give_up(control.device)
+        elif words[0] == b"call" or answer.endswith(b" %d\n" % EL_OUTPUT):
+            # Lines made the control. Only a printer's has output.
+            self.give_up()
+
+    def give_up(self, device: str | None = None) -> None:
+        """The application has given up what a printer, or any one, didn't print."""
+        for drive in list(self._drives.values()):
+            if drive.category == "POSPrinter" and device in (None, drive.name):
+                try:
+                    drive.driver.given_up()
+                except Exception as fault:
+                    # The call is done, and says so. The next `run` says what went wrong.
+                    self._fault = fault
+
     # Inputs.
 
     def hand_in(self) -> bool:
         """Tells the till what has happened at the devices, and returns whether anything has. If something is refused, it
         tells the others first."""
-        if is_called(self, "hand_in"):
-            return False
-        is_any, refused = False, None
-        for drive in list(self._drives.values()):
-            try:
-                is_any |= self._hand_in(drive)
-            except (InputError, LineError) as fault:
-                refused = refused or fault
-        if refused is not None:
-            raise refused
-        return is_any
+        return not is_called(self, "hand_in") and self._each(self._hand_in)
 
     def _hand_in(self, drive: Drive) -> bool:
         if drive.orders >= _KEPT_ORDERS:
@@ -200,7 +225,8 @@ class Drives:
 
     def _tells_scans(self, drive: Drive) -> bool:
         """Tells the codes that were read, each once, and returns whether there were any."""
-        is_any = drive.has_scans()
+        if not drive.has_scans():
+            return False
         while drive.scans:
             scan = drive.scans.popleft()
             try:
@@ -210,7 +236,9 @@ class Drives:
                 if fault.library_code == KIJOLVAR_NO_MEMORY:
                     drive.scans.appendleft(scan)
                 raise
-        return is_any
+        # What came behind the codes, such as that the device has gone off.
+        self._hand_in(drive)
+        return True
 
     # The loop.
 
@@ -235,28 +263,57 @@ class Drives:
             self._wait(min(left, _OFTEN))
 
     def _round(self) -> bool:
-        is_any = False
-        for drive in self._drives.values():
-            # The replies of one that is detached can't be read.
-            with contextlib.suppress(NoDeviceError):
-                drive.driver.poll()
-        is_any |= self.hand_in()
-        for drive in self._drives.values():
-            if self._tells_scans(drive):
-                # What came behind the codes, such as that the device has gone off.
-                self._hand_in(drive)
-                is_any = True
-        for drive in self._drives.values():
-            if drive.category == "POSPrinter" and time.monotonic() - drive.refused_at >= _OFTEN:
-                # Nothing waits for one that is detached.
-                with contextlib.suppress(NoDeviceError):
-                    is_any |= self._works(drive)
+        """Does what the devices need, and returns whether anything was done. If something fails, the rest is done first."""
+        stages: tuple[Callable[[], bool], ...] = (
+            functools.partial(self._each, self._polls), self.hand_in,
+            functools.partial(self._each, self._tells_scans), functools.partial(self._each, self._works))
+        is_any, faults = False, list[Exception]()
+        for stage in stages:
+            try:
+                is_any |= stage()
+            except Exception as fault:
+                # A till that is closed does nothing more.
+                self._session.check()
+                faults.append(fault)
+        if faults:
+            # What has gone wrong behind an order of this round is a later fault.
+            self._fault = None
+            raise faults[0]
         return is_any
+
+    def _each(self, serve: Callable[[Drive], bool]) -> bool:
+        """Serves each device, and returns whether anything was done. If one fails, the others are served first. A till
+        that is closed meanwhile ends it."""
+        is_any, faults = False, list[Exception]()
+        for drive in list(self._drives.values()):
+            try:
+                is_any |= serve(drive)
+            except Exception as fault:
+                faults.append(fault)
+            finally:
+                if self._session.is_closed:
+                    self._close_again(drive)
+            self._session.check()
+        if faults:
+            raise faults[0]
+        return is_any
+
+    def _polls(self, drive: Drive) -> bool:
+        """Has a driver read what its device has said, of which nothing is told yet."""
+        # The replies of one that is detached can't be read.
+        with contextlib.suppress(NoDeviceError):
+            drive.driver.poll()
+        return False
 
     def _works(self, drive: Drive) -> bool:
         """Prints the first request that waits, and returns whether one did. One that is refused is tried again a little
         later: what refused it, such as an open cover, may last."""
-        done = Device(self._till, drive.name).work()
+        if drive.category != "POSPrinter" or time.monotonic() - drive.refused_at < _OFTEN:
+            return False
+        done = None
+        # Nothing waits for one that is detached.
+        with contextlib.suppress(NoDeviceError):
+            done = Device(self._till, drive.name).work()
         if isinstance(done, WorkFailed):
             drive.refused_at = time.monotonic()
         return done is not None
@@ -264,13 +321,19 @@ class Drives:
     def _wait(self, seconds: float) -> None:
         """Waits until a device says something."""
         waiting = select.poll()
-        for drive in self._drives.values():
+        for drive in list(self._drives.values()):
             for file in drive.driver.files():
                 waiting.register(file, select.POLLIN)
         waiting.poll(seconds * 1000)
 
     def close(self) -> None:
-        """Closes the ports."""
+        """Takes the drivers away, and closes their ports."""
         with contextlib.ExitStack() as ends:
-            for drive in self._drives.values():
-                ends.callback(drive.driver.close)
+            for name in list(self._drives):
+                ends.callback(self.remove, name)
+
+    def _close_again(self, drive: Drive) -> None:
+        """Closes the port of a driver that was at work when the till was closed, and may have opened it since."""
+        if not self._session.is_forked:
+            with contextlib.suppress(Exception):
+                drive.driver.close()

@@ -75,7 +75,7 @@ class ProfileError(LibraryFault):
 
 class NoMemoryError(LibraryFault, MemoryError):
     """The library had no memory for a call. Nothing has changed, unless `library_code` is KIJOLVAR_CUT: then the call was
-    carried out, and only its answer is lost."""
+    carried out, or some of its lines, and the answer is lost."""
 
 
 class DiskError(LibraryFault):

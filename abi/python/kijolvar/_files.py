@@ -11,7 +11,7 @@ from typing import BinaryIO
 
 from ._constants import KIJOLVAR_DISK_LENGTH
 from ._library import Path
-from ._session import Session
+from ._session import Session, write_whole
 
 
 @contextlib.contextmanager
@@ -65,7 +65,8 @@ def create_totals(library: ctypes.CDLL, path: Path, profile: bytes = b"") -> Bin
         unnamed = os.open(".", os.O_RDWR | os.O_TMPFILE, 0o600, dir_fd=folder)
         totals = undo.enter_context(open(unnamed, "r+b", buffering=0))
         _lock(totals, name)
-        totals.truncate(KIJOLVAR_DISK_LENGTH)
+        # All of its bytes are written, so that a disk without room for them fails now, and not later.
+        write_whole(totals.fileno(), bytes(KIJOLVAR_DISK_LENGTH), 0)
         Session(library, profile, totals, begin="kijolvar_format_file").close()
         # Given a folder, os.link follows the first path to the file that it stands for.
         os.link(f"/proc/self/fd/{totals.fileno()}", os.path.basename(name), dst_dir_fd=folder)

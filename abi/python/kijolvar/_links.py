@@ -36,6 +36,9 @@ _PRINTER, _CAUSE, _PAPER_IN_ORDER = int(Asked.PRINTER), int(Asked.OFFLINE_CAUSE)
 _QUICKLY, _OFTEN = 0.25, 0.1
 # How long late answers may be apart, in seconds.
 _APART = 0.5
+# How long a printer whose line holds back what is sent may say nothing while something is due, and how long after it has
+# stopped it may acknowledge what was before that, in seconds.
+_SILENT, _SHORTLY = 2.0, 1.0
 # What ends a piece: a line feed, a pulse, a feed, or a cut.
 _PIECE = re.compile(rb"(?:\x1b[^pd].|[^\n\x1b\x1d]++)*+(?:\n|\x1bp...|\x1bd.|\x1dV(?:[AB].|[^AB])|\Z)", re.S)
 
@@ -134,6 +137,10 @@ class PrinterLink:
     chip of its own and a print server. So a piece is printed only if its own acknowledgement comes. One that comes for a
     later piece says that the earlier ones are printed or lost, and they are sent again.
 
+    A line that holds back what is sent keeps a part of it while the printer is off, and gives it to the printer later: a
+    tail that was kept would be acknowledged as the whole. So nothing of what is due counts any more once a printer on such
+    a line has said nothing for a time. One that has stopped may take nothing, and needn't say anything.
+
     An interrupt, which a signal's handler may raise between any two steps, costs at most what a lost acknowledgement
     costs. So each step stands for itself: what is to be acknowledged is noted before it may go out, and a reply is
     forgotten after what it says is noted.
@@ -157,6 +164,8 @@ class PrinterLink:
     def __init__(self, port: Port, timeout: float, pause: float) -> None:
         self.port, self.timeout, self._pause = port, timeout, pause
         port.is_patient = True
+        # When the order that is out or the connection began, and until when something has to be acknowledged.
+        self._began_at = self._ends_at = -1e9
         self.wires: list[Wire] = []
         self.is_begun = self.is_stopped = False
         self.told: list[Told] = []
@@ -174,7 +183,7 @@ class PrinterLink:
         self._is_there = self._was_silent = self._is_refreshing = False
         # Whether bytes of the outbox may have gone out that are still in it.
         self._is_unsure = False
-        self._tried_at = self._refreshed_at = self._heard_at = -1e9
+        self._tried_at = self._refreshed_at = self._heard_at = self._told_at = -1e9
         self._asked_at: float | None = None
         self._asked_what = _PRINTER
 
@@ -185,7 +194,7 @@ class PrinterLink:
 
     def _is_told(self, signs: dict[str, str], told: list[Told]) -> None:
         """The printer is as these replies tell, or it isn't known how it is."""
-        self.signs, self.told = signs, told
+        self.signs, self.told, self._told_at = signs, told, time.monotonic()
         self.statuses += bool(told)
         self.is_stopped = signs.get("offline") == "yes" and (
             signs.get("cover") == "open" or signs.get("fault") == "yes" or signs.get("paper") == "empty")
@@ -195,15 +204,22 @@ class PrinterLink:
         """Whether its sensors see enough paper."""
         return self.signs.get("paper") == "good"
 
+    @property
+    def is_near_end(self) -> bool:
+        """Whether its sensors see that the end of the paper is near."""
+        return self.signs.get("paper") == "near"
+
     # Orders.
 
     def carry_out(self, wire: Wire, is_once: bool = True) -> bool:
-        """Sends the order that is out, and returns whether the printer acknowledged it within the timeout.
+        """Sends the order that is out, and returns whether the printer acknowledged it. It has failed once the printer has
+        acknowledged nothing for the timeout.
 
-        If an order failed and the next one is the same, only what wasn't printed is sent again. An order that is done has
-        failed, too, if an interrupt comes before its report. With is_once false it is sent whole.
+        If an order failed and the next one is the same, only what wasn't printed is sent again, unless it was given up. An
+        order that is done has failed, too, if an interrupt comes before its report. With is_once false it is sent whole.
         """
-        end = time.monotonic() + self.timeout
+        self._began_at = time.monotonic()
+        self._ends_at = self._began_at + self.timeout
         if not self.is_online:
             return False
         self._takes_as_sent()
@@ -213,11 +229,12 @@ class PrinterLink:
             self._receive()
             if self._failed is not None and self._failed.is_reported:
                 self._failed = None
-            job = self._taken_up(data[:-self._end_size], is_once, end)
-            while not (job.is_done or job.is_torn or self.is_stopped or self._is_due(job)) and time.monotonic() < end:
+            job = self._taken_up(data[:-self._end_size], is_once)
+            self._waits_until_it_is_back()
+            while not (job.is_done or job.is_torn or self.is_stopped or self._is_due(job)) and self._has_time():
                 self._post(job)
                 self._writes()
-                self._pump(lambda: job.done == job.sent or job.is_torn or self.is_stopped, end)
+                self._pump(lambda: job.done == job.sent or job.is_torn or self.is_stopped)
         except PortError:
             self._lose()
             return False
@@ -238,26 +255,35 @@ class PrinterLink:
             self.poll()
         return False
 
-    def _taken_up(self, data: bytes, is_once: bool, end: float) -> Job:
+    def give_up(self) -> None:
+        """What has failed isn't asked for any more: an order from now on is a new one, also if it is the same."""
+        failed, self._failed = self._failed, None
+        if failed is not None and failed.is_done and failed.data and not failed.is_reported:
+            # It was printed after it had failed.
+            self.late += 1
+
+    def _has_time(self) -> bool:
+        """Whether the time of the order isn't over."""
+        return time.monotonic() < self._ends_at
+
+    def _taken_up(self, data: bytes, is_once: bool) -> Job:
         """The job of an order: the one that failed if the order is the same, and how far that one has come."""
         if not is_once:
             return Job(data, is_once)
         failed = self._failed
         if failed is None or failed.data != data:
-            if failed is not None and failed.is_done and failed.data:
-                # It was printed after it had failed, and isn't asked for again.
-                self.late += 1
+            self.give_up()
             self._failed = Job(data, is_once)
             return self._failed
-        self._catches_up(failed, end)
+        self._catches_up(failed)
         return failed
 
-    def _catches_up(self, job: Job, end: float) -> None:
+    def _catches_up(self, job: Job) -> None:
         """Finds out how far a job has come that failed."""
         if self._is_due(job):
             # What was sent before is printed or lost once this is acknowledged.
             self._send(b"", None, 0)
-            self._pump(lambda: job.is_done or not self._is_due(job) or self.is_stopped, end)
+            self._pump(lambda: job.is_done or not self._is_due(job) or self.is_stopped)
         if not self._is_due(job):
             if job.sent > job.done:
                 # Some of it was lost, and the printer may have begun a line.
@@ -267,6 +293,46 @@ class PrinterLink:
     def _is_due(self, job: Job) -> bool:
         """Whether something of a job may still be acknowledged."""
         return bool(self._due) and any(parcel.job is job for parcel in self._due)
+
+    def _is_back(self) -> bool:
+        """Whether the printer has answered since it was silent."""
+        return not self._was_silent
+
+    def _waits_until_it_is_back(self) -> None:
+        """Waits until a printer that was silent answers, if its line would keep the order for one that is off."""
+        if self.port.holds_back and not (self._is_back() or self.is_stopped):
+            self._ask_at_once()
+            self._pump(lambda: self._is_back() or self.is_stopped)
+
+    def _minds_silence(self) -> None:
+        """Asks a printer whose line holds back what is sent, if it says nothing while something is due. If it doesn't
+        answer, what is due is lost."""
+        if not self._due or self.is_stopped or not self.port.holds_back:
+            return
+        most = min(self.timeout, _SILENT)
+        silence = time.monotonic() - max(self._heard_at, self._began_at)
+        if silence >= most / 2 and self._asked_at is None:
+            self._ask()
+        elif silence >= most:
+            self._tears()
+
+    def _tears(self) -> None:
+        """The printer may have lost a part of what is due, and the line may have kept the rest: nothing of it counts any
+        more. The printer is asked whether it is there."""
+        for parcel in self._due:
+            if parcel.job is not None:
+                parcel.job.is_torn = True
+        self.port.discard()
+        self._drop()
+        self._outbox.clear()
+        self._due.clear()
+        self._was_silent, self._asked_at = True, None
+        self._ask_at_once()
+
+    def _was_reset(self) -> bool:
+        """Whether a printer that acknowledges something has lost its power since it stopped. It would have said first that
+        it goes on."""
+        return self.is_stopped and self.port.holds_back and time.monotonic() - self._told_at > _SHORTLY
 
     def _post(self, job: Job) -> None:
         """Sends the pieces of a job that weren't sent yet."""
@@ -335,7 +401,10 @@ class PrinterLink:
     def _hears(self, text: bytes, data: bytes, asked: int) -> None:
         """What a reply says. Only an automatic status tells of the cover."""
         if text.startswith(b"job "):
-            self._acknowledged(int(text[4:]))
+            if self._due and self._was_reset():
+                self._tears()
+            else:
+                self._acknowledged(int(text[4:]))
             return
         signs = signs_of(text)
         if asked == _CAUSE and "cover" in signs:
@@ -366,7 +435,7 @@ class PrinterLink:
                 if is_due or job.is_torn:
                     job.is_torn = True
                 elif parcel.done > job.done:
-                    job.done = parcel.done
+                    job.done, self._ends_at = parcel.done, time.monotonic() + self.timeout
                     self.late += job.is_done and job.is_late(self._failed)
             self._due.popleft()
 
@@ -380,10 +449,10 @@ class PrinterLink:
         for data in self.port.waiting():
             self._takes(data)
 
-    def _pump(self, until: Callable[[], bool], end: float) -> bool:
+    def _pump(self, until: Callable[[], bool]) -> bool:
         """Sends and reads until something is so, and returns whether it was so in time."""
         while not until():
-            left = end - time.monotonic()
+            left = self._ends_at - time.monotonic()
             if left <= 0:
                 return False
             self._asks_on()
@@ -391,6 +460,8 @@ class PrinterLink:
             data = self.port.read_some() if can_read else b""
             if data:
                 self._takes(data)
+            # What has come while nobody looked comes first.
+            self._minds_silence()
             if can_write:
                 self._writes()
             elif can_read and not data:
@@ -421,13 +492,13 @@ class PrinterLink:
     # The port.
 
     def start(self) -> None:
-        """Opens the port, and waits for the printer's first status as long as for an order."""
+        """Opens the port, and waits for the printer's first status as long as for a line."""
         self.is_begun = True
-        end = time.monotonic() + self.timeout
+        end = self._ends_at = time.monotonic() + self.timeout
         self._connect(self.timeout)
         if self.port.is_open:
             try:
-                self._pump(lambda: bool(self.told), end)
+                self._pump(lambda: bool(self.told) or time.monotonic() >= end)
             except PortError:
                 self._lose()
 
@@ -441,6 +512,7 @@ class PrinterLink:
         try:
             self._takes_as_sent()
             self._receive()
+            self._minds_silence()
             self._look_after(now)
             if self._outbox and self.port.ready(True, 0)[1]:
                 self._writes()
@@ -465,7 +537,9 @@ class PrinterLink:
 
     def _notes_silence(self) -> bool:
         """A printer that hasn't answered for the timeout counts as off, also while orders are tried again and again.
-        Returns whether it hasn't."""
+        Returns whether it hasn't. One that has stopped may take no question from a line that holds it back."""
+        if self.is_stopped and self.port.holds_back:
+            return False
         is_silent = self._asked_at is not None and time.monotonic() - self._asked_at > self.timeout
         if is_silent:
             self._is_there = False
@@ -477,6 +551,10 @@ class PrinterLink:
         if self._asked_at is None:
             self._asked_at = time.monotonic()
         self._puts(_STATUS_NOW + bytes([self._asked_what]))
+
+    def _ask_at_once(self) -> None:
+        """Asks whether the printer is there, also if a question is out that may be lost."""
+        self._ask()
 
     def _refreshes(self, now: float) -> None:
         """Asks for the whole status, which the printer then tells at each change, also if it was off and on again. While
@@ -491,7 +569,7 @@ class PrinterLink:
         except PortError:
             return
         finally:
-            self._tried_at = time.monotonic()
+            self._tried_at = self._began_at = time.monotonic()
         self._forget()
         self._puts(self._start)
         self._ask()
@@ -510,11 +588,12 @@ class PrinterLink:
         self._is_told({}, [])
         self._asked_at, self._asked_what = None, _PRINTER
 
-    def close(self) -> None:
-        """Closes the port."""
-        self._lose()
-        self.is_begun = False
-        self.wires.clear()
+    def close(self, wire: Wire | None) -> None:
+        """Ends a driver's wire, and closes the port if no other driver has one."""
+        self.wires = [one for one in self.wires if one is not wire]
+        if not self.wires:
+            self._lose()
+            self.is_begun = False
 
 
 class AskedLink(PrinterLink):
@@ -533,6 +612,8 @@ class AskedLink(PrinterLink):
         self._asked_last, self._unanswered, self._questioned_at = 1, 0, -1e9
         # Whether late answers come, as far as is known.
         self._is_late = False
+        # Whether what was due was lost since the printer has answered, and until when answers to that may come.
+        self._was_torn, self._answers_until = False, -1e9
         self._heard: dict[int, tuple[Told, dict[str, str]]] = {}
         self._rounds = 0
 
@@ -561,6 +642,10 @@ class AskedLink(PrinterLink):
         if self._asked_at is None:
             self._asked_at = time.monotonic()
         self._asks_on()
+
+    def _ask_at_once(self) -> None:
+        self._questioned_at = -1e9
+        self._ask()
 
     def _look_after(self, now: float) -> None:
         super()._look_after(now)
@@ -607,9 +692,9 @@ class AskedLink(PrinterLink):
         if signs != self.signs:
             self._is_told(signs, [told for told, _ in heard])
 
-    def _taken_up(self, data: bytes, is_once: bool, end: float) -> Job:
-        self._gives_up(end)
-        return super()._taken_up(data, is_once, end)
+    def _taken_up(self, data: bytes, is_once: bool) -> Job:
+        self._gives_up()
+        return super()._taken_up(data, is_once)
 
     def _is_due(self, job: Job) -> bool:
         """Whether any acknowledgement may still come. It wouldn't say which job it is for."""
@@ -621,13 +706,26 @@ class AskedLink(PrinterLink):
         job.sent += 1
         self._send(job.pieces[job.sent - 1], job, job.sent)
 
-    def _gives_up(self, end: float) -> None:
+    def _is_back(self) -> bool:
+        """What the line has kept is answered a little after the printer is back. Such answers have no number."""
+        return super()._is_back() and time.monotonic() >= self._answers_until
+
+    def _tears(self) -> None:
+        super()._tears()
+        self._was_torn = True
+
+    def _comes_back(self) -> None:
+        super()._comes_back()
+        if self._was_torn:
+            self._was_torn, self._answers_until = False, time.monotonic() + _APART
+
+    def _gives_up(self) -> None:
         """Waits for acknowledgements that are late. They are lost if none comes for the whole time, although the printer
         says that it can print."""
         if not self._due:
             return
         count, rounds = len(self._due), self._rounds
-        self._pump(lambda: not self._due or self.is_stopped, end)
+        self._pump(lambda: not self._due or self.is_stopped)
         if len(self._due) == count and self._rounds > rounds + 1 and not self.is_stopped:
             self._lost_due()
 

@@ -37,7 +37,7 @@ _DONE, _NOT_DONE = 0, 1
 _NOTHING, _CALL, _ORDER = 0, 1, 2
 
 
-def _write_whole(file: int, data: bytes, at: int) -> None:
+def write_whole(file: int, data: bytes, at: int) -> None:
     """Writes all bytes at a place of a file: a full disk may take only some at first, and then says why."""
     while data:
         count = os.pwrite(file, data, at)
@@ -141,6 +141,8 @@ class Session:
         self.taken: Callable[[bool, list[bytes]], object] | None = None
         #: Is called after lines whose orders were carried out so.
         self.served: Callable[[], object] | None = None
+        #: Is called with a line that may give up what a driven printer didn't print, and its answer.
+        self.given_up: Callable[[bytes, bytes], object] | None = None
         #: Is called once the till has ended, if it was closed while a call was under way.
         self.ended: Callable[[], object] | None = None
         # The device and the number of the file of totals, and whether the till has it no more.
@@ -313,7 +315,7 @@ class Session:
                 if code == KIJOLVAR_SYNC:
                     os.fsync(file)
                 elif code == KIJOLVAR_WRITE:
-                    _write_whole(file, self._errand[:count.value], at.value)
+                    write_whole(file, self._errand[:count.value], at.value)
                 else:
                     raise library_fault(KIJOLVAR_DISK_FAILED)
             except BaseException:
@@ -372,6 +374,9 @@ class Session:
             def watched(*words: Any) -> int:
                 needed.value = _UNWRITTEN
                 code: int = export(*words)
+                line: bytes = words[2]
+                if b" clear" in line and not code and self.given_up is not None:
+                    self.given_up(line, room[:needed.value])
                 return code
 
             call = watched

@@ -40,6 +40,8 @@ _MOST_LINES = 100_000
 _MOST_FEEDS, _LONG = 4096, 100
 # How long a lost port may take to open, in seconds, while other devices wait.
 _QUICKLY = 0.25
+# After how long without an order nobody knows what a display shows, in seconds.
+_UNSEEN = 10.0
 
 
 class Driver:
@@ -102,6 +104,9 @@ class Driver:
         """The device has another peripheral now (`attach`), which shows nothing yet of what this driver has said before.
         The orders are the driver's again."""
 
+    def given_up(self) -> None:
+        """The application has given up what a printer didn't print. The same order is a new one from now on."""
+
     def close(self) -> None:
         """Ends, and closes the port. It isn't called in a process that was forked from the till's."""
 
@@ -110,7 +115,13 @@ class EscPosPrinter(Driver):
     """A receipt printer with ESC/POS, and the drawer on its connector.
 
     An order counts as done once the printer has acknowledged it (GS ( H). If an order failed and the next one is the
-    same, as a retry is, only the lines and cuts that the printer hasn't acknowledged are sent again.
+    same, as a retry is, only the lines and cuts that the printer hasn't acknowledged are sent again, also if the control
+    was released or closed meanwhile. It is a new order, of which all is printed, if the application has given up the one
+    that failed: with `clear_output`, or with the reply ER_CLEAR to its ErrorEvent.
+
+    A serial line with flow control keeps what was sent while the printer is off. If the printer says nothing for 2
+    seconds, or for the timeout if that is shorter, the order has failed, and what isn't acknowledged of it is printed
+    again: parts of lines may be on the paper beside the whole ones.
 
     Args:
         port: The port, or its name as `port_of` takes it: /dev/usb/lp0, /dev/ttyUSB0, tcp:192.168.1.9:9100.
@@ -123,10 +134,11 @@ class EscPosPrinter(Driver):
         is_open_high: Whether the drawer is open when pin 3 of its connector is high.
         lines: How many lines the till counts with when the sensors see enough paper, at most 100,000. If they still see
             enough when it has counted down to the near end, it begins again. With 100 lines or more it begins a quarter
-            of those earlier, or 4,096, so that no long request is refused.
+            of those earlier, or 4,096, so that no long request is refused. While they see that the end is near, it
+            counts with the device's `near` lines after each order: that is the longest request that may be taken then.
         is_asked: Whether the printer says nothing by itself, and doesn't know GS ( H, as simpler ones. Then it is asked
             for its status (DLE EOT), and after each line whether that is printed (GS r).
-        timeout: How long an order may take, in seconds.
+        timeout: How long the printer may go on without acknowledging a line, in seconds.
         pause: How long to wait before a lost port is tried again, in seconds.
 
     Raises:
@@ -163,8 +175,8 @@ class EscPosPrinter(Driver):
 
     @property
     def late_orders(self) -> int:
-        """How many orders were printed after they had failed, and weren't asked for again. The printer had got them
-        before it stopped, and there is no command that takes them back."""
+        """How many orders were printed after they had failed, and weren't asked for again, or were given up. The printer
+        had got them before it stopped, and there is no command that takes them back."""
         return self.link.late
 
     @property
@@ -210,22 +222,29 @@ class EscPosPrinter(Driver):
         if self.is_quiet:
             return []
         words, self._compared = _told(link, self._wire), link.statuses
-        if link.told and link.has_paper and not any(word.startswith("paper ") for word in words):
-            is_due = link.lines >= self._lines_until and self._lines - self._near >= _LONG
-            if is_due or not self._is_known:
-                words.append(f"paper {self._lines}")
+        if link.told and not any(word.startswith("paper ") for word in words):
+            words += self._counted_again()
         self._is_known = self._is_known or bool(link.told)
         for word in words:
             if word.startswith("paper "):
                 self._lines_until = link.lines + self._counted_until(int(word[len("paper "):]))
         return words
 
+    def _counted_again(self) -> list[str]:
+        """The lines with which the till begins to count again, if the sensors see as much paper as before."""
+        is_due = self.link.lines >= self._lines_until
+        if self.link.has_paper:
+            is_due, count = is_due and self._lines - self._near >= _LONG, self._lines
+        else:
+            count = self._near if self.link.is_near_end else 0
+        return [f"paper {count}"] if count and (is_due or not self._is_known) else []
+
     def _counted_until(self, count: int) -> int:
         """How many lines on the till has to look at the sensors again, when it counts so many. It looks before a long
-        request could be refused though they still see enough."""
+        request could be refused though they still see enough, and near the end after each order."""
         left = count - self._near
         if left <= 0:
-            return count
+            return min(count, 1)
         return left if left < _LONG else left - min(left // 4, _MOST_FEEDS)
 
     def poll(self) -> None:
@@ -241,8 +260,11 @@ class EscPosPrinter(Driver):
     def attached(self) -> None:
         self._is_known, self._compared = False, -1
 
+    def given_up(self) -> None:
+        self.link.give_up()
+
     def close(self) -> None:
-        self.link.close()
+        self.link.close(self._wire)
         self._is_known = False
 
 
@@ -313,7 +335,7 @@ class EscPosDrawer(Driver):
         self._kicked_at, self._compared = None, -1
 
     def close(self) -> None:
-        self._printer.close()
+        self._printer.link.close(self._wire)
 
 
 def _told(link: PrinterLink, wire: Wire) -> list[str]:
@@ -333,10 +355,11 @@ class SerialDisplay(Driver):
 
     A display answers nothing. Over a serial line an order counts as done once its bytes have left this machine; over TCP
     and /dev/usb/lp0 once the system has taken them. A display that was lost shows all its rows again with the next
-    order.
+    order. One with its own power supply may have been off, which nobody can see. So it also gets all its rows with an
+    order that changes nothing, and with one after 10 seconds without any.
 
     Args:
-        port: The port, or its name as `port_of` takes it.
+        port: The port, or its name as `port_of` takes it. A serial line of that name has no flow control.
         protocol: "cd5220" or "escpos".
         timeout: How long an order may take, in seconds.
         pause: How long to wait before a lost port is tried again, in seconds.
@@ -352,10 +375,11 @@ class SerialDisplay(Driver):
                  pause: float = 1.0) -> None:
         if protocol not in _PROTOCOLS:
             raise ValueError(f"no such protocol: {protocol!r}")
-        self.port, self._timeout, self._pause = port_of(port), timeout, pause
+        self.port, self._timeout, self._pause = port_of(port, flow="none"), timeout, pause
         self._settings = WireSettings(protocol=_PROTOCOLS.index(protocol))
         self._till: Till | None = None
-        self._tried_at, self._is_new = -1e9, True
+        self._tried_at = self._shown_at = -1e9
+        self._is_new = True
 
     def __repr__(self) -> str:
         return f"<kijolvar.SerialDisplay {self.port.name!r}, {'online' if self.is_online else 'offline'}>"
@@ -377,7 +401,7 @@ class SerialDisplay(Driver):
         self._listen()
         if not self.port.is_open:
             return False
-        data, is_done = self._till.order_bytes(self._settings, self._is_new), False
+        data, is_done = self._bytes(self._till), False
         # Until the till has taken it as done, the display may show something else than the till.
         self._is_new = True
         try:
@@ -388,6 +412,12 @@ class SerialDisplay(Driver):
                 # The display may have a part of it.
                 self.port.close()
         return is_done
+
+    def _bytes(self, till: Till) -> bytes:
+        """The bytes of the order that is out, with all rows if nobody knows what the display shows."""
+        is_new = self._is_new or time.monotonic() - self._shown_at >= _UNSEEN
+        self._shown_at = time.monotonic()
+        return till.order_bytes(self._settings, is_new) or till.order_bytes(self._settings, True)
 
     def reported(self) -> None:
         self._is_new = False
@@ -547,7 +577,8 @@ class WedgeScanner(Driver):
 
     A keyboard wedge types as a keyboard of the layout US: characters, the keypad, and Ctrl and ] for GS. A code with
     any other key is a failed scan: the scanner gets an ErrorEvent. So is one of which the system drops key events. While
-    a call waits for a printer, it keeps fewer of them than a code of 13 digits has.
+    a call waits for a printer, it keeps fewer of them than a code of 13 digits has. A code from a serial line with a
+    byte of 0 is a failed scan, too: the line has disturbed it.
 
     Args:
         device: /dev/input/.. for a keyboard wedge, whose keys no other program gets meanwhile. Any other name is that
@@ -596,10 +627,14 @@ class WedgeScanner(Driver):
             self._open()
             for data in self.port.waiting():
                 for code in self._reader.take(data):
-                    if code is None:
+                    if code is None or self._is_disturbed(code):
                         self._has_failed = True
                     else:
                         self._found.append(code)
+
+    def _is_disturbed(self, code: bytes) -> bool:
+        """Whether a serial line has disturbed a code: the system gives a 0 byte in place of one that came wrong."""
+        return self.port.is_line and not self._has_keys and 0 in code
 
     def _new_reader(self) -> _Keys | _Lines:
         return _Keys() if self._has_keys else _Lines()

@@ -23,6 +23,8 @@ from ._library import Path
 
 Parity = Literal["none", "even", "odd"]
 Flow = Literal["none", "rts-cts", "xon-xoff"]
+# How a serial line's device says that it can take no more, if nothing else is said.
+_FLOW: Flow = "rts-cts"
 _AT_ONCE = 65_536
 # In how many parts is read what has come.
 _MOST_PARTS = 16
@@ -75,6 +77,23 @@ class Port:
     def is_open(self) -> bool:
         """Whether the port is open."""
         return self._file is not None
+
+    @property
+    def is_line(self) -> bool:
+        """Whether it is a serial line, as far as is known."""
+        return False
+
+    @property
+    def holds_back(self) -> bool:
+        """Whether it keeps what was sent while the device takes nothing, and gives it to the device later, also if that
+        was off meanwhile: a serial line with flow control does."""
+        return False
+
+    def discard(self) -> None:
+        """Drops what a port that holds back keeps, as far as its driver can."""
+        if self._file is not None and self.holds_back:
+            with contextlib.suppress(OSError, termios.error):
+                termios.tcflush(self._file, termios.TCOFLUSH)
 
     def fileno(self) -> int:
         """The file descriptor, for `select`.
@@ -255,13 +274,22 @@ class FilePort(Port):
 
     def __init__(self, path: Path) -> None:
         super().__init__(os.fspath(path))
-        # Whether `port_of` made it of a path that may be a link to a serial line later, and the line that it then is.
-        self._may_be_line = False
+        # Whether `port_of` made it of a path that may be a link to a serial line later, the flow control of such a line,
+        # and the line that it then is.
+        self._may_be_line, self._flow = False, _FLOW
         self._line: SerialPort | None = None
+
+    @property
+    def is_line(self) -> bool:
+        return self._line is not None
+
+    @property
+    def holds_back(self) -> bool:
+        return self._line is not None and self._line.holds_back
 
     def _opened(self, seconds: float) -> int:
         if self._may_be_line:
-            self._line = SerialPort(self.name) if _is_line(self.name) else None
+            self._line = SerialPort(self.name, flow=self._flow) if _is_line(self.name) else None
         file = os.open(self.name, self._way | os.O_NONBLOCK | os.O_NOCTTY | os.O_CLOEXEC)
         try:
             self._prepare(file)
@@ -301,12 +329,14 @@ class SerialPort(FilePort):
         stops: 1 or 2 stop bits.
         flow: How the device says that it can take no more: "rts-cts", "xon-xoff" or "none".
 
+    With a parity, a byte that came with a wrong one is read as 0.
+
     Raises:
         ValueError: No line has such a setting.
     """
 
     def __init__(self, path: Path, speed: int = 9600, *, bits: int = 8, parity: Parity = "none", stops: int = 1,
-                 flow: Flow = "rts-cts") -> None:
+                 flow: Flow = _FLOW) -> None:
         super().__init__(path)
         found = getattr(termios, f"B{speed}", 0)
         if not found:
@@ -317,6 +347,14 @@ class SerialPort(FilePort):
             raise ValueError("parity is none, even or odd; flow is none, rts-cts or xon-xoff")
         self._speed, self._bits, self._parity, self._stops, self._flow = found, bits, parity, stops, flow
 
+    @property
+    def is_line(self) -> bool:
+        return True
+
+    @property
+    def holds_back(self) -> bool:
+        return self._flow != "none"
+
     def _set_up(self, file: int) -> None:
         found = _raw(file)
         control = found[2] & ~(termios.CSIZE | termios.PARENB | termios.PARODD | termios.CSTOPB | termios.CRTSCTS)
@@ -325,6 +363,7 @@ class SerialPort(FilePort):
         control |= termios.CSTOPB if self._stops == 2 else 0
         control |= termios.CRTSCTS if self._flow == "rts-cts" else 0
         found[0] |= termios.IXON | termios.IXOFF if self._flow == "xon-xoff" else 0
+        found[0] |= termios.INPCK if self._parity != "none" else 0
         found[2], found[4], found[5] = control, self._speed, self._speed
         termios.tcsetattr(file, termios.TCSANOW, found)
         termios.tcflush(file, termios.TCIOFLUSH)
@@ -441,20 +480,25 @@ def _drop_unsent(file: int) -> None:
 
 
 def _raw(file: int) -> list[Any]:
-    """The attributes of a terminal line through which bytes pass as they are."""
+    """The attributes of a terminal line through which bytes pass as they are. A line that is cut for a moment isn't a byte
+    of 0."""
     found = termios.tcgetattr(file)
-    found[0] = found[1] = found[3] = 0
+    found[0], found[1], found[3] = termios.IGNBRK, 0, 0
     found[2] = found[2] & ~(termios.CSIZE | termios.PARENB) | termios.CS8 | termios.CREAD | termios.CLOCAL
     found[6][termios.VMIN], found[6][termios.VTIME] = 1, 0
     return found
 
 
-def port_of(name: Union[Port, Path]) -> Port:
+def port_of(name: Union[Port, Path], flow: Flow = _FLOW) -> Port:
     """Returns the port of a name: `tcp:HOST` or `tcp:HOST:PORT`, also with `//` before HOST, or the path of a device
     file. An address of IPv6 is in brackets: `tcp:[::1]:9100`.
 
     A path of /dev/tty.. or /dev/serial/.., or a link to one, is a serial line of 9,600 bits per second with RTS/CTS.
     A link that leads nowhere yet is looked at again when the port is opened. For other settings use SerialPort.
+
+    Args:
+        name: The name, or a port, which is returned as it is.
+        flow: How the device of a serial line says that it can take no more, as that of SerialPort.
 
     Raises:
         ValueError: A name that begins with `tcp:` goes on otherwise.
@@ -468,7 +512,7 @@ def port_of(name: Union[Port, Path]) -> Port:
             raise ValueError(f"not a host and a TCP port: {text!r}")
         return TcpPort(found["address"] or found["name"], int(found["port"] or 9100))
     if _is_line(text):
-        return SerialPort(text)
+        return SerialPort(text, flow=flow)
     port = FilePort(text)
-    port._may_be_line = True
+    port._may_be_line, port._flow = True, flow
     return port

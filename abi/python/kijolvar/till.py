@@ -7,6 +7,7 @@ import fcntl
 import functools
 import io
 import os
+import re
 import warnings
 import weakref
 from collections import deque
@@ -15,14 +16,14 @@ from types import TracebackType
 from typing import BinaryIO, TypeVar
 
 from . import _files
-from ._constants import PTR_S_RECEIPT, KIJOLVAR_NO_DEVICE, KIJOLVAR_NO_MEMORY
-from ._control import Control, Text, device_word, is_true
+from ._constants import KIJOLVAR_CUT, KIJOLVAR_NO_DEVICE, KIJOLVAR_NO_MEMORY, PTR_S_RECEIPT
+from ._control import Control, Text, device_word, is_true, undoing
 from ._controls import CashDrawer, LineDisplay, POSPrinter, Scanner
 from ._devices import Device, Order, read_order
 from ._drives import Drives
 from ._events import Event
 from ._faults import (Error, LineError, NameInUseError, NoDeviceError, NoMemoryError, ProfileError,
-                      TooManyControlsError)
+                      TooManyControlsError, library_fault)
 from ._library import Path
 from ._questions import Profile, ProfileDevice, devices, explain, library_of, text_of
 from ._session import Session
@@ -31,6 +32,8 @@ from .drivers import Driver
 from .totals import Totals
 
 C = TypeVar("C", bound=Control)
+# Lines that give up output: an order behind one is a new one.
+_CLEARS = re.compile(r" clear(Output)? *\r?$", re.M)
 
 
 class Printer(POSPrinter):
@@ -61,6 +64,8 @@ class Till:
         self._carry_out = session.carry_out
         self._file, self._owns_file = totals, owns_totals
         self._controls: weakref.WeakValueDictionary[str, Control] = weakref.WeakValueDictionary()
+        # Open ones that have a listener.
+        self._kept: set[Control] = set()
         self._names: dict[int, str] = {}
         # The names of controls that were given back: made up ones by their category, and the categories of chosen ones.
         self._free: dict[str, deque[str]] = {}
@@ -79,7 +84,8 @@ class Till:
 
     def __exit__(self, kind: type[BaseException] | None, value: BaseException | None,
                  trace: TracebackType | None) -> None:
-        self.close()
+        with undoing(value):
+            self.close()
 
     def __del__(self) -> None:
         session = getattr(self, "_session", None)
@@ -105,6 +111,7 @@ class Till:
             ends.callback(self._close_file)
             if not self._session.is_forked:
                 ends.callback(self._drives.close)
+            self._kept.clear()
             self._session.close()
 
     def _close_file(self) -> None:
@@ -163,8 +170,16 @@ class Till:
         """Keeps the control's name, so that another control takes its place once nothing refers to it."""
         self._controls[control.name] = control
         end = functools.partial(_end_control, weakref.ref(self), control.category, control.name, is_chosen)
-        weakref.finalize(control, self._session.later, end).atexit = False
+        # What ends a control mustn't keep its till: that may keep the control.
+        weakref.finalize(control, _ask_later, weakref.ref(self._session), end).atexit = False
         return control
+
+    def _keep(self, control: Control, is_kept: bool) -> None:
+        """Refers to a control from now on, so that it stays open, or no more."""
+        if is_kept and not self.is_closed:
+            self._kept.add(control)
+        else:
+            self._kept.discard(control)
 
     def _give_back(self, category: str, name: str, is_chosen: bool) -> None:
         """Lets the name of a control that is closed be used again. A chosen one isn't used for another name."""
@@ -393,18 +408,37 @@ class Till:
     # The text layer.
 
     def carry_out(self, lines: str) -> str:
-        """Carries out lines of the text layer (docs/reference/console.md), and returns what they print."""
-        if "attach" not in lines:
-            return self._carry_out(lines.encode()).decode()
-        return "".join([self._carry_out_line(line) for line in io.StringIO(lines, newline="\n")])
+        """Carries out lines of the text layer (docs/reference/console.md), and returns what they print.
 
-    def _carry_out_line(self, line: str) -> str:
-        """Carries out a line. A device to which it attaches a peripheral goes on with its driver at once, before the next
-        line can order something of it."""
-        answer, words = self._carry_out(line.encode()).decode(), line.split()
+        Raises:
+            NoMemoryError: There was no memory. With KIJOLVAR_CUT some of the lines were carried out, or all.
+        """
+        if "attach" not in lines and not (" clear" in lines and _CLEARS.search(lines)):
+            return self._carry_out(lines.encode()).decode()
+        answers: list[str] = []
+        try:
+            for line in io.StringIO(lines, newline="\n"):
+                answers.append(self._carry_out(line.encode()).decode())
+                self._attaches(line.split(), answers[-1])
+        except NoMemoryError:
+            if not answers:
+                raise
+            # Lines were carried out.
+            raise library_fault(KIJOLVAR_CUT) from None
+        return "".join(answers)
+
+    def _attaches(self, words: list[str], answer: str) -> None:
+        """A device to which a line has attached a peripheral goes on with its driver at once, before the next line can
+        order something of it."""
         if words[:1] == ["attach"] and answer == "ok\n":
             self._drives.attached(words[1])
-        return answer
+
+
+def _ask_later(session: weakref.ref[Session], deed: Callable[[], Callable[[], None] | None]) -> None:
+    """Has a session, if it is still there, do something later."""
+    found = session()
+    if found is not None:
+        found.later(deed)
 
 
 def _end_control(till: weakref.ref[Till], category: str, name: str, is_chosen: bool) -> Callable[[], None] | None:
@@ -433,18 +467,22 @@ def open(profile: Profile | None = None, totals: Path | BinaryIO | None = None, 
             t1. An empty text is a profile without devices.
         totals: The path of a file of totals, which is locked until the till is closed; or a file that open_totals or
             create_totals returned, which stays yours. Without one, the totals are in memory.
-        create: Whether the file of totals is created if it is missing.
+        create: Whether the file of totals is created if it is missing. Totals in memory can't be.
         library: The path of the library, or the library that `kijolvar.load` returned. Without one, it is the path in
             the environment variable KIJOLVAR_LIBRARY, or libkijolvar.so beside the package.
 
     Raises:
+        ValueError: A file is to be created, and it has no path.
         ProfileError: The profile is refused.
         FileNotFoundError: The file of totals is missing.
         BlockingIOError: Another till has the file of totals open.
         TooSmallError: The file is too short for totals.
         LibraryError: The library isn't found, or is of another version.
     """
-    may_create, found, text = is_true(create), library_of(library), text_of(profile)
+    may_create = is_true(create)
+    if may_create and totals is None:
+        raise ValueError("create needs the path of a file of totals")
+    found, text = library_of(library), text_of(profile)
     with contextlib.ExitStack() as undo:
         undo.enter_context(_explaining(found, text))
         file, owns, where = _file_of(found, totals, may_create, text.encode())

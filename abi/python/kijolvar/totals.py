@@ -94,7 +94,7 @@ class Totals(HardTotals):
 
 
 class TotalsFile:
-    """A file of Hard Totals. Wherever a handle is asked for, you can pass the file.
+    """A file of Hard Totals. Wherever a handle is asked for, you can pass the file. `bytes(file)` is all that it has.
 
     Attributes:
         handle: The file's handle.
@@ -108,8 +108,8 @@ class TotalsFile:
     def __repr__(self) -> str:
         return f"<kijolvar.TotalsFile {self.name!r}: {self.size} bytes, handle {self.handle}>"
 
-    def __index__(self) -> int:
-        return self.handle
+    def __bytes__(self) -> bytes:
+        return self.read()
 
     def __len__(self) -> int:
         return self.size
@@ -125,8 +125,8 @@ class TotalsFile:
     def __hash__(self) -> int:
         return hash(self.handle)
 
-    def read(self, offset: SupportsIndex = 0, count: SupportsIndex | None = None) -> bytes:
-        """Reads so many bytes from an offset on, or all up to the end."""
+    def read(self, *, offset: SupportsIndex = 0, count: SupportsIndex | None = None) -> bytes:
+        """Reads so many bytes from an offset on, or all up to the end. Both need their names: `file.read(count=8)`."""
         return self._totals.read(self.handle, offset, self.size - int(offset) if count is None else count)
 
     def write(self, offset: SupportsIndex, data: Text) -> None:
@@ -156,6 +156,9 @@ class TotalsFile:
         """Claims the file, which keeps other controls from reading and changing it.
 
         The claim that it returns releases the file at the end of a `with` block; you needn't use it.
+
+        Raises:
+            kijolvar.TimeoutError: Another control has claimed the file or the device.
         """
         self._totals.claim_file(self.handle, timeout)
         return FileClaim(self)

@@ -45,10 +45,10 @@ fn an_order_that_is_reported_as_not_done_fails_or_is_refused(rt: HostRuntime) {
     drop(drawer.into_twin());
 }
 
-/// A text in the first row.
-fn text(alloc: Global, bytes: &[u8]) -> Result<Order, NoMemory> {
+/// A text at the beginning of a row.
+pub fn text(alloc: Global, row: u32, bytes: &[u8]) -> Result<Order, NoMemory> {
     Ok(Order::ShowText {
-        row: 0,
+        row,
         column: 0,
         attribute: Attribute::Normal,
         bytes: Bytes::from_slice(alloc, bytes)?,
@@ -57,7 +57,7 @@ fn text(alloc: Global, bytes: &[u8]) -> Result<Order, NoMemory> {
 
 #[test]
 fn a_report_is_of_one_order(rt: HostRuntime) -> Result<(), Fail> {
-    let (one, other) = (text(rt.alloc(), b"A")?, text(rt.alloc(), b"B")?);
+    let (one, other) = (text(rt.alloc(), 0, b"A")?, text(rt.alloc(), 0, b"B")?);
     let mut display = Driven::new(rt.alloc(), PlainDisplay::new(rt.alloc(), 1, 4)?);
     display.drive();
     assert!(rt; reported(&mut display, &one, true));

@@ -21,8 +21,6 @@ mod receipt_progress;
 mod replies;
 mod settings;
 mod statuses;
-#[cfg(test)]
-mod tests;
 
 pub use bytes_fault::BytesFault;
 pub use display_bytes::{blank_cells, display_start_bytes, rows_bytes};

@@ -114,27 +114,28 @@ fn files_that_cannot_be_read(rt: HostRuntime) -> Result<(), Fail> {
     Ok(())
 }
 
+/// How many devices a run's profile has, and how long its disk is; or the path of the disk that isn't there.
+fn sizes_of_run<'a>(
+    rt: &HostRuntime,
+    profile: &'a str,
+    disk: &'a str,
+) -> Result<(usize, u64), &'a str> {
+    match open_run(&SystemFiles::of(rt), profile, disk) {
+        Ok((profile, disk)) => Ok((profile.devices().len(), disk.len())),
+        Err(Fault::Disk { path, .. }) => Err(path),
+        Err(_) => Err(""),
+    }
+}
+
 #[test]
 fn files_of_a_run(rt: HostRuntime) -> Result<(), Fail> {
     let (profile, disk) = ("files_of_a_run/p", "files_of_a_run/d");
     let _ = fs::remove_dir_all(&rt, "files_of_a_run");
     fs::create_dir(&rt, "files_of_a_run")?;
     fs::write(&rt, profile, "device=[{name='t1',category='HardTotals'}]")?;
-    let outcome = open_run(&SystemFiles::of(&rt), profile, disk);
-    assert!(rt;
-        matches!(
-            outcome,
-            Err(Fault::Disk {
-                path: "files_of_a_run/d",
-                ..
-            })
-        )
-    );
+    assert_eq!(rt; sizes_of_run(&rt, profile, disk), Err(disk));
     fs::write(&rt, disk, "abc")?;
-    let Ok((profile, disk)) = open_run(&SystemFiles::of(&rt), profile, disk) else {
-        panic!(rt; "two files");
-    };
-    assert_eq!(rt; (profile.devices().len(), disk.len()), (1, 3));
+    assert_eq!(rt; sizes_of_run(&rt, profile, disk), Ok((1, 3)));
     fs::remove_dir_all(&rt, "files_of_a_run")?;
     Ok(())
 }

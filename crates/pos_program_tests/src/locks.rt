@@ -112,14 +112,17 @@ fn a_locked_file_is_in_use(rt: HostRuntime) -> Result<(), Fail> {
     Ok(())
 }
 
+/// Whether a file that others only read can be read, and not opened.
+fn is_read_alone(rt: &HostRuntime, path: &str) -> bool {
+    read_totals(rt, path).is_ok() && matches!(open_totals(rt, path), Err(FileFault::InUse))
+}
+
 #[test]
 fn a_file_is_read_by_several(rt: HostRuntime) -> Result<(), Fail> {
     let path = "a_file_is_read_by_several";
     fs::write(&rt, path, b"abc")?;
     let held = File::open(&rt, path)?;
-    assert!(rt; held.try_lock_shared().is_ok());
-    assert!(rt; read_totals(&rt, path).is_ok());
-    assert!(rt; matches!(open_totals(&rt, path), Err(FileFault::InUse)));
+    assert!(rt; held.try_lock_shared().is_ok() && is_read_alone(&rt, path));
     drop(held);
     assert!(rt; open_totals(&rt, path).is_ok());
     fs::remove_file(&rt, path)?;

@@ -31,6 +31,16 @@ fn takes<D: Disk>(disk: &mut D) -> bool {
     disk.len() == 8 && disk.write(2, &[2, 3, 4, 5]).is_ok()
 }
 
+/// Whether a mirror is lost after so many calls of the disk below.
+fn is_lost_after(mirror: &MirrorDisk<Fused>, calls: u64) -> bool {
+    mirror.is_lost() && mirror.below().calls() == calls
+}
+
+/// Whether a disk of eight bytes refuses each call.
+fn refuses<D: Disk>(disk: &mut D) -> bool {
+    disk.len() == 8 && disk.read(0, &mut [0; 8]).is_err() && !takes(disk) && disk.sync().is_err()
+}
+
 #[test]
 fn a_write_is_in_the_disk_below(rt: HostRuntime) -> Result<(), Fail> {
     let mut mirror = mirror(rt.alloc(), 9, 0)?;
@@ -53,9 +63,8 @@ fn a_failed_write_shows_what_the_disk_has(rt: HostRuntime) -> Result<(), Fail> {
 #[test]
 fn a_failed_reading_loses_the_mirror(rt: HostRuntime) -> Result<(), Fail> {
     let mut mirror = mirror(rt.alloc(), 2, 2)?;
-    assert!(rt; !takes(&mut mirror) && mirror.is_lost() && mirror.below().calls() == 4);
-    assert!(rt; !gives(&mut mirror, [1, 1, 2, 3, 1, 1, 1, 1]) && !takes(&mut mirror));
-    assert!(rt; mirror.sync().is_err() && mirror.below().calls() == 4);
+    assert!(rt; !takes(&mut mirror) && is_lost_after(&mirror, 4));
+    assert!(rt; refuses(&mut mirror) && is_lost_after(&mirror, 4));
     assert!(rt; gives(&mut mirror.into_below(), [1, 1, 2, 3, 1, 1, 1, 1]));
     Ok(())
 }
@@ -63,9 +72,9 @@ fn a_failed_reading_loses_the_mirror(rt: HostRuntime) -> Result<(), Fail> {
 #[test]
 fn a_failed_sync_loses_the_mirror(rt: HostRuntime) -> Result<(), Fail> {
     let mut mirror = mirror(rt.alloc(), 2, 1)?;
-    assert!(rt; mirror.sync().is_err() && mirror.is_lost() && mirror.below().calls() == 3);
-    assert!(rt; !gives(&mut mirror, [1; 8]) && !takes(&mut mirror) && mirror.sync().is_err());
-    assert!(rt; mirror.below().calls() == 3 && gives(&mut mirror.into_below(), [1; 8]));
+    assert!(rt; mirror.sync().is_err() && is_lost_after(&mirror, 3));
+    assert!(rt; refuses(&mut mirror) && is_lost_after(&mirror, 3));
+    assert!(rt; gives(&mut mirror.into_below(), [1; 8]));
     Ok(())
 }
 

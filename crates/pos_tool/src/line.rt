@@ -2,9 +2,9 @@
 ghost use Rattle.std.specs.Prelude.{◌≡◌, IfOk, false};
 ghost use Rattle.clap.specs.Words.{app_of, rule_of};
 ghost use Rattle.clap.specs.declared.builder.command.Command.TheViews.{out-Command as fields_of};
-ghost use Rattle.pos_tool.specs.Lines.{flag_rule, flagged_line, flagged_two_line, making_line, place_line, place_rule};
-ghost use Rattle.pos_tool.specs.Lines.{places_rule, program_line, reading_line, run_line, some_places_rule};
-ghost use Rattle.pos_tool.specs.Lines.{test_line, top_line, two_line, valued_rule};
+ghost use Rattle.pos_tool.specs.Lines.{Adds, flag_rule, flagged_line, flagged_two_line, making_line, place_line};
+ghost use Rattle.pos_tool.specs.Lines.{place_rule, places_rule, program_line, reading_line, run_line};
+ghost use Rattle.pos_tool.specs.Lines.{some_places_rule, test_line, top_line, two_line, valued_rule};
 
 use clap::{Arg, ArgAction, Command};
 use std::alloc::{AllocError, Global};
@@ -134,17 +134,27 @@ fn top_line<'a>(alloc: Global, version: &'a str) -> Result<Command<'a>, AllocErr
     helps.subcommand(Command::new(alloc, "version"))
 }
 
+// A command line with one command more, if that was made.
+fn add<'a>(
+    line: Command<'a>,
+    command: Result<Command<'a>, AllocError>,
+) -> Result<Command<'a>, AllocError>
+    ensures { IfOk result (λ added. Adds line.entry command.entry added) }
+{
+    line.subcommand(command?)
+}
+
 // The program's, with those that only read, too.
 fn reading_line<'a>(alloc: Global, version: &'a str) -> Result<Command<'a>, AllocError>
     ensures { IfOk result (λ line. app_of line ≡ reading_line) }
 {
     let top = top_line(alloc, version)?;
-    let explains = top.subcommand(place_line(alloc, "explain", "CODE")?)?;
-    let checks = explains.subcommand(flagged_line(alloc, "check", "quiet")?)?;
-    let lists = checks.subcommand(flagged_line(alloc, "files", "json")?)?;
-    let prints = lists.subcommand(flagged_two_line(alloc, "cat", "FILE", "NAME", "hex")?)?;
-    let dumps = prints.subcommand(place_line(alloc, "dump", "FILE")?)?;
-    dumps.subcommand(two_line(alloc, "diff", "FILE", "OTHER")?)
+    let explains = add(top, place_line(alloc, "explain", "CODE"))?;
+    let checks = add(explains, flagged_line(alloc, "check", "quiet"))?;
+    let lists = add(checks, flagged_line(alloc, "files", "json"))?;
+    let prints = add(lists, flagged_two_line(alloc, "cat", "FILE", "NAME", "hex"))?;
+    let dumps = add(prints, place_line(alloc, "dump", "FILE"))?;
+    add(dumps, two_line(alloc, "diff", "FILE", "OTHER"))
 }
 
 // The program's, with those that make files, too.
@@ -152,14 +162,15 @@ fn making_line<'a>(alloc: Global, version: &'a str) -> Result<Command<'a>, Alloc
     ensures { IfOk result (λ line. app_of line ≡ making_line) }
 {
     let reads = reading_line(alloc, version)?;
-    let creates = reads.subcommand(place_line(alloc, "create", "FILE")?)?;
-    let migrates = creates.subcommand(place_line(alloc, "migrate", "FILE")?)?;
-    let backs_up = migrates.subcommand(two_line(alloc, "backup", "FILE", "TO")?)?;
-    let restores = backs_up.subcommand(flagged_two_line(
-        alloc, "restore", "FROM", "FILE", "replace",
-    )?)?;
-    let loads = restores.subcommand(two_line(alloc, "load", "TEXT", "FILE")?)?;
-    loads.subcommand(two_line(alloc, "salvage", "FILE", "TO")?)
+    let creates = add(reads, place_line(alloc, "create", "FILE"))?;
+    let migrates = add(creates, place_line(alloc, "migrate", "FILE"))?;
+    let backs_up = add(migrates, two_line(alloc, "backup", "FILE", "TO"))?;
+    let restores = add(
+        backs_up,
+        flagged_two_line(alloc, "restore", "FROM", "FILE", "replace"),
+    )?;
+    let loads = add(restores, two_line(alloc, "load", "TEXT", "FILE"))?;
+    add(loads, two_line(alloc, "salvage", "FILE", "TO"))
 }
 
 /// Returns the command line of the program: its version is this one.
@@ -171,8 +182,8 @@ pub(crate) fn program_line<'a>(alloc: Global, version: &'a str) -> Result<Comman
     ensures { IfOk result (λ line. app_of line ≡ program_line) }
 {
     let makes = making_line(alloc, version)?;
-    let runs = makes.subcommand(run_line(alloc)?)?;
-    let tests = runs.subcommand(test_line(alloc)?)?;
-    let completes = tests.subcommand(place_line(alloc, "completions", "SHELL")?)?;
+    let runs = add(makes, run_line(alloc))?;
+    let tests = add(runs, test_line(alloc))?;
+    let completes = add(tests, place_line(alloc, "completions", "SHELL"))?;
     completes.subcommand(Command::new(alloc, "man"))
 }

@@ -1,5 +1,5 @@
 // Changes of two files, and what they make of them.
-use crate::two_files::{disk_with_files, over, spell};
+use crate::two_files::{disk_with_files, over, recovered_totals, spell};
 use pos_disk::Disk;
 use pos_service::{Answer, Code, NoMemory};
 use pos_totals::{RecoveryFault, Totals};
@@ -82,37 +82,53 @@ pub fn is_after<D: Disk>(
     Ok(is_after)
 }
 
+// Whether a call succeeded.
+fn is_done(answer: Answer) -> bool {
+    matches!(answer, Answer::Done(_))
+}
+
+// Whether a call was refused with this code.
+fn is_refused(answer: Answer, code: Code) -> bool {
+    matches!(answer, Answer::Refused(found, 0) if found == code)
+}
+
 #[test]
-fn a_claim_and_a_rollback(rt: HostRuntime) -> Result<(), Fail> {
-    let mut totals = over(rt.alloc(), disk_with_files(rt.alloc())?)?;
-    totals.recover()?;
-    assert!(rt; matches!(totals.claim_file(0, 1, 0), Answer::Done(_)));
+fn a_claim_keeps_others_out(rt: HostRuntime) -> Result<(), Fail> {
+    let mut totals = recovered_totals(rt.alloc())?;
+    assert!(rt; is_done(totals.claim_file(0, 1, 0)));
     let foreign = totals.write(1, 1, 1, &[8, 9])?;
-    assert!(rt; matches!(foreign, Answer::Refused(Code::Claimed, 0)));
-    assert!(rt; matches!(totals.release_file(0, 1), Answer::Done(_)));
-    assert!(rt; matches!(totals.begin_trans(0), Answer::Done(_)));
-    overwrite(&mut totals)?;
-    assert!(rt; matches!(totals.rollback(0), Answer::Done(_)));
-    let text = spell(rt.alloc(), &totals, 1)?;
-    assert!(rt; !totals.in_transaction(0) && text.as_slice() == BEFORE.as_slice());
+    assert!(rt; is_refused(foreign, Code::Claimed));
+    assert!(rt; is_done(totals.release_file(0, 1)));
     Ok(())
+}
+
+#[test]
+fn a_rollback_leaves_the_files(rt: HostRuntime) -> Result<(), Fail> {
+    let mut totals = recovered_totals(rt.alloc())?;
+    assert!(rt; is_done(totals.begin_trans(0)));
+    overwrite(&mut totals)?;
+    assert!(rt; is_done(totals.rollback(0)) && !totals.in_transaction(0));
+    let text = spell(rt.alloc(), &totals, 1)?;
+    assert!(rt; text.as_slice() == BEFORE.as_slice());
+    Ok(())
+}
+
+// Whether the calls of another control that use a file are refused, since the area is claimed.
+fn are_claimed<D: Disk>(totals: &mut Totals<D>) -> Result<bool, NoMemory> {
+    let named = is_refused(totals.find_by_index(1, 0)?, Code::Claimed);
+    let read = is_refused(totals.read(1, 1, 0, 1)?, Code::Claimed);
+    let written = is_refused(totals.write(1, 1, 1, &[8, 9])?, Code::Claimed);
+    Ok(named && read && written)
 }
 
 #[test]
 fn a_foreign_area_comes_before_a_fault(rt: HostRuntime) -> Result<(), Fail> {
     let mut totals = over(rt.alloc(), disk_with_files(rt.alloc())?)?;
     assert!(rt; totals.claim_area(0).is_ok());
-    assert!(rt; matches!(totals.find(1, b"A"), Answer::Refused(Code::Claimed, 0)));
-    let named = totals.find_by_index(1, 0)?;
-    assert!(rt; matches!(named, Answer::Refused(Code::Claimed, 0)));
-    let read = totals.read(1, 1, 0, 1)?;
-    assert!(rt; matches!(read, Answer::Refused(Code::Claimed, 0)));
-    let written = totals.write(1, 1, 1, &[8, 9])?;
-    assert!(rt; matches!(written, Answer::Refused(Code::Claimed, 0)));
-    let claimed = totals.claim_file(1, 1, 0);
-    assert!(rt; matches!(claimed, Answer::Refused(Code::Failure, 0)));
-    let timed = totals.claim_file(1, 1, -2);
-    assert!(rt; matches!(timed, Answer::Refused(Code::Failure, 0)));
-    assert!(rt; matches!(totals.find(0, b"A"), Answer::Refused(Code::Failure, 0)));
+    assert!(rt; is_refused(totals.find(1, b"A"), Code::Claimed));
+    assert!(rt; are_claimed(&mut totals)?);
+    assert!(rt; is_refused(totals.claim_file(1, 1, 0), Code::Failure));
+    assert!(rt; is_refused(totals.claim_file(1, 1, -2), Code::Failure));
+    assert!(rt; is_refused(totals.find(0, b"A"), Code::Failure));
     Ok(())
 }

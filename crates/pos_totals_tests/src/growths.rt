@@ -1,6 +1,6 @@
 // Refused growths, answers that ample memory gives, and texts.
 use crate::changes::{BEFORE, CHANGES, Change, apply, is_after, overwrite};
-use crate::two_files::{disk_of_layout_2, disk_with_files, over, spell};
+use crate::two_files::{disk_of_layout_2, disk_with_files, over, recovered_totals, spell};
 use pos_disk::MemDisk;
 use pos_service::{Answer, Value};
 use pos_totals::{RecoveryFault, Totals};
@@ -43,8 +43,7 @@ fn buffers_once(alloc: Global, totals: &mut Totals<MemDisk>) -> Result<bool, Fai
 
 #[test]
 fn a_refused_growth_buffers_nothing(rt: HostRuntime) -> Result<(), Fail> {
-    let mut totals = over(rt.alloc(), disk_with_files(rt.alloc())?)?;
-    totals.recover()?;
+    let mut totals = recovered_totals(rt.alloc())?;
     assert!(rt; buffers_once(rt.alloc(), &mut totals)?);
     Ok(())
 }

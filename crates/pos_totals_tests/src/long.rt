@@ -1,6 +1,6 @@
 // What takes long: a recovery over a thousand records, and a transaction of a hundred changes. With ample memory
 // neither lacks any.
-use crate::two_files::{disk_with_files, over, spell};
+use crate::two_files::{over, recovered_totals, spell};
 use pos_disk::{Disk, MemDisk};
 use pos_service::{Answer, NoMemory};
 use pos_totals::Totals;
@@ -38,8 +38,7 @@ fn recovered(alloc: Global, disk: MemDisk) -> Result<Vec<u8>, Fail> {
 // A record of `setAll` takes 11 bytes, so a thousand stand in the log of the first slot, and the second stays closed.
 #[test]
 fn ample_memory_recovers_a_thousand_records(rt: HostRuntime) -> Result<(), Fail> {
-    let mut totals = over(rt.alloc(), disk_with_files(rt.alloc())?)?;
-    totals.recover()?;
+    let mut totals = recovered_totals(rt.alloc())?;
     assert!(rt; set_often(&mut totals, 2, 1_000)?);
     let mut disk = totals.into_disk();
     let gates = [
@@ -57,13 +56,17 @@ fn ample_memory_recovers_a_thousand_records(rt: HostRuntime) -> Result<(), Fail>
     Ok(())
 }
 
+// Sets the first file 99 times and the second once in one transaction: whether that was done.
+fn commit_a_hundred(totals: &mut Totals<MemDisk>) -> Result<bool, NoMemory> {
+    let _ = totals.begin_trans(0);
+    let are_set = set_often(totals, 1, 99)? && set_often(totals, 2, 1)?;
+    Ok(matches!(totals.commit_trans(0)?, Answer::Done(_)) && are_set)
+}
+
 #[test]
 fn ample_memory_commits_a_hundred_changes(rt: HostRuntime) -> Result<(), Fail> {
-    let mut totals = over(rt.alloc(), disk_with_files(rt.alloc())?)?;
-    totals.recover()?;
-    let _ = totals.begin_trans(0);
-    assert!(rt; set_often(&mut totals, 1, 99)? && set_often(&mut totals, 2, 1)?);
-    assert!(rt; matches!(totals.commit_trans(0)?, Answer::Done(_)));
+    let mut totals = recovered_totals(rt.alloc())?;
+    assert!(rt; commit_a_hundred(&mut totals)?);
     let wanted = [0x41u8, 99, 99, 99, 99, 0x42, 1, 1];
     assert_eq!(rt;
         spell(rt.alloc(), &totals, 1)?.as_slice(),

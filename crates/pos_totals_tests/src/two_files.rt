@@ -39,6 +39,13 @@ pub fn over<D: Disk + Drop>(alloc: Global, disk: D) -> Result<Totals<D>, NoMemor
     Ok(totals)
 }
 
+/// Totals over a disk of layout 1 with these files, behind a recovery.
+pub fn recovered_totals(alloc: Global) -> Result<Totals<MemDisk>, Fail> {
+    let mut totals = over(alloc, disk_with_files(alloc)?)?;
+    totals.recover()?;
+    Ok(totals)
+}
+
 // The size of the file with a name, if it has this handle; -1, if not.
 fn size_of<D: Disk>(totals: &Totals<D>, name: &[u8], handle: i128) -> i128 {
     match totals.find(0, name) {

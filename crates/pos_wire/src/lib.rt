@@ -15,8 +15,6 @@ mod replies;
 mod reply_lines;
 mod rows;
 mod settings;
-#[cfg(test)]
-mod tests;
 mod wire_fault;
 
 pub use frames::JobEnd;

@@ -1,14 +1,22 @@
 //! A till for several threads.
 use crate::error::{Cause, Error};
+use crate::ports::end_after;
 use crate::till::Till;
 use std::sync::mpsc::{channel, Sender};
-use std::thread::{current, Builder, JoinHandle, ThreadId};
+use std::thread::{current, sleep, Builder, JoinHandle, ThreadId};
+use std::time::{Duration, Instant};
+
+/// How long the till is left to others between two looks at its devices.
+const SLICE: Duration = Duration::from_millis(20);
 
 /// What the till's thread does next.
 type Job = Box<dyn FnOnce(&Till) + Send>;
 
 /// A till on a thread of its own. Each thread has a clone of the actor, and gives it work, which is done in the order
 /// in which it comes. The till is dropped, and its thread ends, once all clones are dropped.
+///
+/// Call [`Actor::run_devices`] in a loop on one of the threads if devices have drivers. Work that called
+/// [`Till::run_devices`] with a timeout would keep all other work waiting for so long.
 ///
 /// A control is closed at the end of the work that opened it, unless the work keeps its key:
 ///
@@ -71,5 +79,25 @@ impl Actor {
         let job: Job = Box::new(move |till| drop(give.send(work(till))));
         self.jobs.send(job).map_err(|_| ended())?;
         answer.recv().map_err(|_| ended())?
+    }
+
+    /// Does what the driven devices need, as [`Till::run_devices`] does, and waits as long as this until there is
+    /// something to do. It looks at the devices again and again, and other threads use the till meanwhile.
+    ///
+    /// # Errors
+    ///
+    /// As [`Till::run_devices`] and [`Actor::run`].
+    pub fn run_devices(&self, timeout: Duration) -> Result<bool, Error> {
+        let end = end_after(timeout);
+        loop {
+            if self.run(|till| till.run_devices(Duration::ZERO))? {
+                return Ok(true);
+            }
+            let left = end.saturating_duration_since(Instant::now());
+            if left.is_zero() {
+                return Ok(false);
+            }
+            sleep(left.min(SLICE));
+        }
     }
 }

@@ -16,6 +16,8 @@ const SETTLE: Duration = Duration::from_secs(1);
 const MOST_LINES: u32 = 100_000;
 /// From how many lines before the near end on they are counted again before that.
 const LONG: u64 = 100;
+/// How long nothing is shown until a display gets all its rows again.
+const REST: Duration = Duration::from_secs(10);
 /// The longest code of a scanner, and the highest type (ScanDataType) that a till takes.
 const LONGEST_CODE: usize = 4096;
 const HIGHEST_KIND: u64 = 999;
@@ -156,10 +158,14 @@ pub trait Driver: Send {
         None
     }
 
-    /// Returns how many orders were printed after they had failed, and weren't asked for again.
+    /// Returns how many orders were printed after they had failed, and weren't asked for again, or were given up.
     fn late_orders(&self) -> u64 {
         0
     }
+
+    /// An application has given up the output that failed: by clearOutput, or by the reply ER_CLEAR. The next order is a
+    /// new one, though it is the same. The control may be of another printer.
+    fn given_up(&mut self) {}
 
     /// Returns why the port couldn't be opened or was lost the last time, as the system's number (errno).
     fn port_error(&self) -> Option<i32> {
@@ -204,11 +210,14 @@ pub struct EscPosSettings {
     /// end, at most 100,000. The till refuses what is longer than what is left of them (EPTR_REC_EMPTY). So if the
     /// sensors still see enough at the near end, the count begins again; with 100 lines or more before that, once three
     /// quarters of those are counted.
+    ///
+    /// While the sensors see that the end is near, the till counts with the `near` of its device after each order. So
+    /// `near` is the longest request that it may take then.
     pub lines: u32,
     /// Whether the printer says nothing by itself, and doesn't know GS ( H. Then it is asked for its status (DLE
     /// EOT), and whether an order is printed (GS r).
     pub is_asked: bool,
-    /// How long an order may take.
+    /// How long the printer may go on without acknowledging a line of an order.
     pub timeout: Duration,
     /// How long to wait before a lost port is tried again.
     pub pause: Duration,
@@ -283,6 +292,16 @@ fn check(till: &mut DriverTill<'_>, device: &str, settings: &WireSettings, port:
 /// An order counts as done once the printer has acknowledged it (GS ( H). If an order failed and the next one is the
 /// same, as a retry is, only the lines and cuts that the printer hasn't acknowledged are sent again.
 ///
+/// That holds, too, if the control was released or closed meanwhile. The application gives a failed order up by
+/// clearOutput, or by the reply ER_CLEAR. Once it is given up, the same order is a new one, and is printed from its
+/// beginning. If the printer prints the old one all the same, that counts in
+/// [`DriverState::late_orders`](crate::DriverState::late_orders). The failed orders of all printers of the till are
+/// given up together.
+///
+/// A serial line with flow control holds back what a printer doesn't take, also while the printer is off. So if such a
+/// printer says nothing for 2 seconds, or for the timeout if that is shorter, the lines that it hasn't acknowledged are
+/// sent again once it answers. It may print some of them twice.
+///
 /// ```no_run
 /// use kijolvar::{EscPosPrinter, EscPosSettings, Till, Totals, BUILT_PROFILE};
 ///
@@ -318,10 +337,15 @@ impl EscPosPrinter {
         EscPosDrawer { link, device: String::new(), settings: self.settings, kicked: None }
     }
 
-    /// Whether the till has to be told how many lines there are, where the sensors see enough paper.
-    fn is_count_due(&self, lines: u64) -> bool {
+    /// Whether the till has to be told how many lines there are: where the sensors see enough paper, now and then;
+    /// where they see that its end is near, after each order.
+    fn is_count_due(&self, link: &Link) -> bool {
+        if link.is_near_end() {
+            return self.near > 0 && self.counted_from.is_none_or(|from| link.lines > from);
+        }
         let all = u64::from(self.settings.lines - self.near);
-        self.counted_from.is_none_or(|from| all >= LONG && lines - from >= all - all / 4)
+        let is_long = |from| all >= LONG && link.lines - from >= all - all / 4;
+        link.has_paper() && self.counted_from.is_none_or(is_long)
     }
 }
 
@@ -366,14 +390,15 @@ impl Driver for EscPosPrinter {
     fn happened(&mut self, till: &mut DriverTill<'_>) -> Vec<String> {
         let link = lock(&self.link);
         let mut words = words_of(&link.told, till, &self.device, &self.settings);
-        let mut is_told = words.iter().any(|words| words.starts_with("paper "));
-        if !is_told && link.has_paper() && self.is_count_due(link.lines) {
-            words.push(format!("paper {}", self.settings.lines));
-            is_told = true;
-        }
         let is_first = self.counted_from.is_none() && !link.told.is_empty();
         if is_first {
             self.near = near_of(till, &self.device, &self.settings);
+        }
+        let mut is_told = words.iter().any(|words| words.starts_with("paper "));
+        if !is_told && self.is_count_due(&link) {
+            let count = if link.is_near_end() { self.near } else { self.settings.lines };
+            words.push(format!("paper {count}"));
+            is_told = true;
         }
         if is_told || is_first {
             self.counted_from = Some(link.lines);
@@ -391,6 +416,10 @@ impl Driver for EscPosPrinter {
 
     fn late_orders(&self) -> u64 {
         lock(&self.link).late
+    }
+
+    fn given_up(&mut self) {
+        lock(&self.link).forget_failed();
     }
 
     fn port_error(&self) -> Option<i32> {
@@ -500,8 +529,8 @@ struct Reopened {
 }
 
 impl Reopened {
-    fn new(port: Port, pause: Duration) -> Reopened {
-        Reopened { cable: Cable::new(port), pause, tried_at: None }
+    fn new(cable: Cable, pause: Duration) -> Reopened {
+        Reopened { cable, pause, tried_at: None }
     }
 
     /// Opens the port, unless it is open or that was tried just now. Returns whether it was opened.
@@ -536,20 +565,36 @@ impl Reopened {
 /// A display answers nothing, so on a serial line an order counts as done once its bytes have left this machine. Over
 /// TCP, and on a device file such as /dev/usb/lp0, it is done once the system has taken them: they may still be lost
 /// with the port. A display that was lost shows all its rows again with the next order.
+///
+/// Nobody sees that a display with a power supply of its own was off. So it gets all its rows, too, with an order that
+/// changes nothing, and with the first one after 10 seconds without any.
+///
+/// A serial line that is given by its name has no flow control ([`Port::Line`]).
 #[derive(Debug)]
 pub struct SerialDisplay {
     port: Reopened,
     settings: WireSettings,
     timeout: Duration,
     is_new: bool,
+    ordered_at: Option<Instant>,
 }
 
 impl SerialDisplay {
     /// Returns a driver for the display at a port, which opens it once it drives a device.
     pub fn open(port: impl Into<Port>, settings: DisplaySettings) -> SerialDisplay {
         let wire = WireSettings { protocol: settings.protocol as u32, ..WireSettings::default() };
-        let port = Reopened::new(port.into(), settings.pause);
-        SerialDisplay { port, settings: wire, timeout: settings.timeout, is_new: true }
+        let port = Reopened::new(Cable::without_flow(port.into()), settings.pause);
+        SerialDisplay { port, settings: wire, timeout: settings.timeout, is_new: true, ordered_at: None }
+    }
+
+    /// The bytes of the order that is out. One without any is sent as a new one.
+    fn bytes_of_order(&mut self, till: &mut DriverTill<'_>) -> Result<Vec<u8>, Error> {
+        let is_new = self.is_new || is_over(self.ordered_at, REST);
+        let bytes = till.order_bytes(&self.settings, is_new, OrderEnd::Nothing)?;
+        if bytes.is_empty() {
+            return till.order_bytes(&self.settings, true, OrderEnd::Nothing);
+        }
+        Ok(bytes)
     }
 
     fn shows(&mut self, bytes: &[u8], end: Instant) -> bool {
@@ -594,11 +639,10 @@ impl Driver for SerialDisplay {
 
     fn carry_out(&mut self, till: &mut DriverTill<'_>, _: &Order) -> bool {
         let end = end_after(self.timeout);
-        // An order may have no bytes, and isn't done either if the display is gone.
         self.port.read();
-        let Ok(bytes) = till.order_bytes(&self.settings, self.is_new, OrderEnd::Nothing) else { return false };
+        let Ok(bytes) = self.bytes_of_order(till) else { return false };
         let is_done = self.port.cable.is_open() && self.shows(&bytes, end);
-        self.is_new = !is_done;
+        (self.is_new, self.ordered_at) = (!is_done, Some(Instant::now()));
         if !is_done && self.port.cable.is_open() {
             // The display has a part of it.
             self.port.cable.fault = Some(ETIMEDOUT);
@@ -632,7 +676,8 @@ impl Driver for SerialDisplay {
 ///
 /// Linux keeps about ten characters of a keyboard, and drops them if more come before the till reads. Such a scan has
 /// failed, as has a code of more than 4,096 bytes, or with a key that has no character, but NumLock: the scanner's
-/// control gets an ErrorEvent.
+/// control gets an ErrorEvent. So it does of a code with a 0 byte over a serial line, since a byte that was changed on
+/// its way reads as 0 if the line has a parity.
 #[derive(Debug)]
 pub struct WedgeScanner {
     port: Reopened,
@@ -642,7 +687,8 @@ pub struct WedgeScanner {
     events: Vec<u8>,
     is_shifted: bool,
     is_control: bool,
-    /// Whether the code that has begun lacks a character: its event was dropped, or its key has none here.
+    /// Whether the code that has begun lacks a character: its event was dropped, its key has none here, or it was
+    /// changed on a serial line.
     has_gap: bool,
     found: Vec<Scan>,
     /// Whether a code had a gap or was too long, and whether that is said next.
@@ -654,7 +700,7 @@ impl WedgeScanner {
     /// Returns a driver for the scanner at a port, /dev/input/.. for a keyboard wedge. It opens it once it drives a
     /// device, and looks for it each second after it was lost.
     pub fn open(device: impl Into<Port>) -> WedgeScanner {
-        let port = Reopened::new(device.into(), Duration::from_secs(1));
+        let port = Reopened::new(Cable::new(device.into()), Duration::from_secs(1));
         WedgeScanner {
             port,
             kind: 0,
@@ -820,9 +866,11 @@ impl Driver for WedgeScanner {
             self.take_events(&bytes);
             return;
         }
+        let is_line = matches!(self.port.cable.port, Port::Line(_) | Port::Serial(..));
         for byte in bytes {
             match byte {
                 b'\r' | b'\n' => self.end_code(),
+                0 if is_line => self.has_gap = true,
                 _ => self.add(byte),
             }
         }
@@ -850,6 +898,9 @@ impl Driver for WedgeScanner {
 #[cfg(test)]
 mod tests {
     use super::*;
+    use crate::{standard::DisplayAttribute, Till, Totals, BUILT_PROFILE};
+    use std::io::{Read, Write};
+    use std::net::TcpListener;
 
     /// The events of keys, each of which is pressed and let go.
     fn events(keys: &[u16]) -> Vec<u8> {
@@ -857,6 +908,52 @@ mod tests {
             [&[0; 16][..], &1u16.to_ne_bytes(), &key.to_ne_bytes(), &value.to_ne_bytes()].concat()
         };
         keys.iter().flat_map(|key| [event(*key, 1), event(*key, 0)].concat()).collect()
+    }
+
+    /// What a display gets of an order that changes one character, so long after the order before it.
+    fn sent_after(rest: Duration) -> Vec<u8> {
+        let listener = TcpListener::bind("127.0.0.1:0").unwrap();
+        let port = format!("tcp:{}", listener.local_addr().unwrap());
+        let mut display = SerialDisplay::open(port, DisplaySettings::default());
+        (display.is_new, display.ordered_at) = (false, Instant::now().checked_sub(rest));
+        let till = Till::open(BUILT_PROFILE, Totals::Memory).unwrap();
+        till.drive("p1", display).unwrap();
+        let (mut stream, _) = listener.accept().unwrap();
+        till.line_display("p1").unwrap().enabled().unwrap().display_text("A", DisplayAttribute::Normal).unwrap();
+        drop(till);
+        let mut got = Vec::new();
+        stream.read_to_end(&mut got).unwrap();
+        got
+    }
+
+    #[test]
+    fn a_display_gets_all_its_rows_after_a_rest() {
+        let (soon, late) = (sent_after(Duration::from_secs(8)), sent_after(Duration::from_secs(11)));
+        // ESC @ begins a connection.
+        assert!(!soon.windows(2).any(|pair| pair == b"\x1b@") && soon.contains(&b'A'), "{soon:?}");
+        assert!(late.windows(2).any(|pair| pair == b"\x1b@") && late.contains(&b'A'), "{late:?}");
+        assert!(late.len() > soon.len());
+    }
+
+    #[test]
+    fn a_zero_byte_of_a_line_is_a_failed_scan() {
+        // A terminal is a line only if its port says so.
+        for (is_line, codes) in [(true, vec![b"78".to_vec()]), (false, vec![b"12\x0034".to_vec(), b"78".to_vec()])] {
+            let (mut device, path) = crate::ports::terminal();
+            let port = if is_line { Port::Line(path) } else { Port::File(path) };
+            let till = Till::open(BUILT_PROFILE, Totals::Memory).unwrap();
+            let mut scanner = WedgeScanner::open(port);
+            scanner.poll(&mut DriverTill { inner: &mut till.inner.borrow_mut() });
+            device.write_all(b"12\x0034\r\n78\r\n").unwrap();
+            let (mut found, end) = (Vec::new(), end_after(Duration::from_secs(10)));
+            while found.last().is_none_or(|data| data != b"78") && Instant::now() < end {
+                std::thread::sleep(Duration::from_millis(1));
+                scanner.poll(&mut DriverTill { inner: &mut till.inner.borrow_mut() });
+                found.extend(scanner.scans().into_iter().map(|scan| scan.data));
+            }
+            scanner.scans();
+            assert_eq!((found, scanner.is_failing), (codes, is_line));
+        }
     }
 
     #[test]

@@ -20,8 +20,9 @@ pub struct DriverState {
     /// Why the port couldn't be opened or was lost the last time, as the system's number (errno), which
     /// [`std::io::Error::from_raw_os_error`] explains. There is none if neither ever happened.
     pub port_error: Option<i32>,
-    /// How many orders a printer has printed after they had failed, and weren't asked for again. It had got them
-    /// before it stopped, and there is no command that takes them back.
+    /// How many orders a printer has printed after they had failed, and weren't asked for again, or were given up
+    /// ([`EscPosPrinter`](crate::EscPosPrinter)). It had got them before it stopped, and there is no command that takes
+    /// them back.
     pub late_orders: u64,
 }
 
@@ -79,28 +80,54 @@ pub(crate) struct Drives {
     is_handing_in: bool,
 }
 
+/// What a line does to drivers, once it is done.
+#[derive(Clone, Copy)]
+pub(crate) enum Effect {
+    /// The device of the drive at this place has another peripheral.
+    Attached(usize),
+    /// A printer's control has given its output up.
+    GaveUp,
+}
+
+impl Effect {
+    /// Whether the line is done, by its answer, which is the last one of these.
+    fn is_done(&self, answers: &str) -> bool {
+        let answer = answers.lines().next_back().unwrap_or("");
+        // An ErrorEvent at EL_OUTPUT, which had the reply ER_CLEAR.
+        let is_cleared = answer.starts_with("event ErrorEvent ") && answer.ends_with(" 1");
+        answer == "ok" || matches!(self, Effect::GaveUp) && is_cleared
+    }
+}
+
 impl Drives {
     pub(crate) fn is_empty(&self) -> bool {
         self.list.is_empty()
     }
 
-    /// The lines up to the first that attaches a spare to a driven device: how many bytes they have, and the place of
-    /// the device's drive.
-    pub(crate) fn first_attach(&self, lines: &[u8]) -> (usize, Option<usize>) {
+    /// The lines up to the first one that does something to drivers: how many bytes they have, and what that is.
+    pub(crate) fn first_effect(&self, lines: &[u8]) -> (usize, Option<Effect>) {
         if self.is_empty() {
             return (lines.len(), None);
         }
         let mut count = 0;
         for line in lines.split_inclusive(|byte| *byte == b'\n') {
             count += line.len();
-            let mut words = line.split(|byte| b" \r\n".contains(byte)).filter(|word| !word.is_empty());
-            let (Some(b"attach"), Some(device)) = (words.next(), words.next()) else { continue };
-            let place = self.list.iter().position(|drive| drive.name.as_bytes() == device);
-            if place.is_some() {
-                return (count, place);
+            let effect = self.effect_of(line);
+            if effect.is_some() {
+                return (count, effect);
             }
         }
         (count, None)
+    }
+
+    fn effect_of(&self, line: &[u8]) -> Option<Effect> {
+        let mut words = line.split(|byte| b" \r\n".contains(byte)).filter(|word| !word.is_empty());
+        let (verb, name) = (words.next()?, words.next()?);
+        match (verb, words.next()) {
+            (b"attach", _) => self.list.iter().position(|drive| drive.name.as_bytes() == name).map(Effect::Attached),
+            (b"call", Some(b"clearOutput")) | (b"deliver", Some(b"clear")) => Some(Effect::GaveUp),
+            _ => None,
+        }
     }
 
     pub(crate) fn hosted_order(&mut self) -> Option<String> {
@@ -362,7 +389,7 @@ impl Inner {
     /// and `run_devices` says what else went wrong.
     fn hand_in_behind(&mut self) {
         match self.hand_in() {
-            Ok(_) | Err(Cause::NoMemory) => {}
+            Ok(_) | Err(Cause::NoMemory | Cause::NoAnswer) => {}
             Err(cause) => self.drives.fault = Some(cause),
         }
     }
@@ -374,9 +401,10 @@ impl Inner {
         self.drives.is_handing_in = true;
         while let Some(line) = self.drives.inputs.pop_front() {
             let told = self.hand_in_line(&line);
-            if matches!(told, Err(Cause::NoMemory)) {
+            if matches!(told, Err(Cause::NoMemory | Cause::NoAnswer)) {
+                // One without an answer may not have been taken. It may be told twice.
                 self.drives.inputs.push_front(line);
-                found = Err(Cause::NoMemory);
+                found = told.map(|()| is_any);
                 break;
             }
             found = found.and_then(|_| told.map(|()| is_any));
@@ -473,6 +501,24 @@ impl Inner {
         (drive.is_on, drive.orders, drive.refused_at) = (None, 0, None);
         drive.driver.attached();
         self.hand_in_behind();
+    }
+
+    /// Does what the last one of lines does to drivers, unless it failed. Without memory for its answer it may be done.
+    pub(crate) fn apply_effect(&mut self, effect: Effect, found: &Result<String, Cause>) {
+        let is_done = match found {
+            Ok(answers) => effect.is_done(answers),
+            Err(cause) => !matches!(cause, Cause::NoMemory),
+        };
+        match effect {
+            _ if !is_done => {}
+            Effect::Attached(place) => self.drive_again(place),
+            Effect::GaveUp => self.give_output_up(),
+        }
+    }
+
+    /// A printer's control has given its output up. Which printer it is on isn't known.
+    fn give_output_up(&mut self) {
+        self.with_drives(|_, list| list.iter_mut().for_each(|drive| drive.driver.given_up()));
     }
 
     pub(crate) fn driver_state(&self, device: &str) -> Result<DriverState, Cause> {

@@ -51,8 +51,8 @@
 //! # Threads
 //!
 //! A till may be moved to another thread, and is used by one thread at a time. An [`Actor`] has a till for several
-//! threads. A call takes up to 128 KiB of the thread's stack. A profile is read on a thread of its own, which has as
-//! much as any profile takes.
+//! threads, of which one serves the drivers by [`Actor::run_devices`]. A call takes up to 128 KiB of the thread's
+//! stack. A profile is read on a thread of its own, which has as much as any profile takes.
 
 mod actor;
 mod control;
@@ -75,6 +75,7 @@ mod stack;
 pub mod standard;
 mod till;
 mod totals_file;
+mod transaction;
 mod views;
 mod wire;
 

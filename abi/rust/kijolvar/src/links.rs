@@ -20,6 +20,10 @@ const MOST_KEPT: usize = 1024;
 /// How often a printer is asked, and how long late answers may be apart.
 const OFTEN: Duration = Duration::from_millis(100);
 const APART: Duration = Duration::from_millis(500);
+/// How long a printer says nothing at least when it is switched off and on again, and how long it may still acknowledge
+/// a line after it has said that it stops.
+const SILENT: Duration = Duration::from_secs(2);
+const STOPPING: Duration = Duration::from_secs(1);
 
 /// The questions of DLE EOT that are asked one after the other: the printer, why it is offline, its paper.
 const QUESTIONS: [Asked; 3] = [Asked::Printer, Asked::OfflineCause, Asked::Paper];
@@ -111,6 +115,8 @@ enum Until {
     Settled,
     /// Nothing is due, or the printer has stopped.
     NoneDue,
+    /// The printer that was silent has answered something, or it has stopped.
+    Heard,
     /// The first status has come.
     Known,
 }
@@ -118,8 +124,12 @@ enum Until {
 /// The line to a printer, which acknowledges in order what it has printed.
 ///
 /// Any port may stay open while the printer is off, and lose what is sent: a serial line does, and so do a cable with a
-/// chip of its own and a print server. So a piece is printed only if its own acknowledgement comes. One that comes for a
-/// later piece says that the earlier ones are printed or lost, and they are sent again.
+/// chip of its own and a print server. So a piece is printed only if its own acknowledgement comes. One that comes for
+/// a later piece says that the earlier ones are printed or lost, and they are sent again.
+///
+/// A line with flow control holds back what the printer doesn't take. If the printer loses its power in the middle of a
+/// piece, it gets the rest of that later, and acknowledges the piece. So after a silence the acknowledgements of what
+/// was sent before it count for nothing.
 #[derive(Debug)]
 pub(crate) struct Link {
     pub(crate) cable: Cable,
@@ -134,6 +144,9 @@ pub(crate) struct Link {
     paper: Option<Job>,
     pulse: Option<Job>,
     jobs: u64,
+    /// When the order that is out began, and when it ends unless the printer acknowledges something before.
+    began_at: Instant,
+    ends_at: Instant,
     end: Vec<u8>,
     number: u16,
     due: VecDeque<Parcel>,
@@ -145,6 +158,7 @@ pub(crate) struct Link {
     /// What has come.
     got: Vec<u8>,
     pub(crate) told: Vec<Told>,
+    told_at: Option<Instant>,
     signs: Signs,
     pub(crate) statuses: u64,
     pub(crate) late: u64,
@@ -193,6 +207,8 @@ impl Link {
             paper: None,
             pulse: None,
             jobs: 0,
+            began_at: Instant::now(),
+            ends_at: Instant::now(),
             end: Vec::new(),
             number: first_number(),
             due: VecDeque::new(),
@@ -202,6 +218,7 @@ impl Link {
             control: Vec::new(),
             got: Vec::new(),
             told: Vec::new(),
+            told_at: None,
             signs: Signs::default(),
             statuses: 0,
             late: 0,
@@ -231,6 +248,11 @@ impl Link {
     /// Whether the printer's sensors see enough paper.
     pub(crate) fn has_paper(&self) -> bool {
         self.signs.paper == Paper::Good
+    }
+
+    /// Whether they see that the paper is near its end, and that there is some.
+    pub(crate) fn is_near_end(&self) -> bool {
+        self.signs.paper == Paper::Near
     }
 
     /// Whether the printer has said that it prints nothing now, and why.
@@ -390,11 +412,16 @@ impl Link {
         }
     }
 
-    /// What a parcel is of is printed.
+    /// What a parcel is of is printed. So the printer goes on, and the order has its whole time again.
     fn print(&mut self, parcel: &Parcel) {
+        let ends_at = end_after(self.timeout);
         if let Some(job) = self.job_of(parcel.job) {
+            let has_grown = parcel.to > job.done;
             job.done = job.done.max(parcel.to);
             job.is_done |= parcel.is_last;
+            if has_grown {
+                self.ends_at = ends_at;
+            }
         } else if parcel.is_last && parcel.is_once {
             self.late += 1;
         }
@@ -438,11 +465,15 @@ impl Link {
         if let Some(number) = line.strip_prefix("job ") {
             let number = number.parse().ok();
             if let Some(place) = self.due.iter().position(|parcel| Some(parcel.number) == number) {
-                self.acknowledge(place);
+                if self.was_reset() {
+                    self.lose_held();
+                } else {
+                    self.acknowledge(place);
+                }
             }
         } else if line.contains(" pin ") && line.contains(" cover ") {
             self.signs.hear(line);
-            self.told = vec![told];
+            (self.told, self.told_at) = (vec![told], Some(Instant::now()));
             self.is_refreshing = false;
             self.statuses += 1;
             self.heard.clear();
@@ -490,6 +521,7 @@ impl Link {
         self.rounds += 1;
         if self.told.is_empty() || self.hearing != self.signs {
             (self.signs, self.told) = (self.hearing, self.heard.clone());
+            self.told_at = Some(Instant::now());
             self.statuses += 1;
         }
     }
@@ -578,6 +610,7 @@ impl Link {
             Until::Printed => is_stopped || job.is_some_and(|job| job.is_done || job.is_torn),
             Until::Settled => is_stopped || job.is_some_and(|job| job.is_done || !self.is_due(job.number)),
             Until::NoneDue => is_stopped || self.due.is_empty(),
+            Until::Heard => is_stopped || !self.was_silent,
             Until::Known => !self.told.is_empty(),
         }
     }
@@ -588,15 +621,9 @@ impl Link {
     }
 
     /// Sends and reads until something is so, or the time is over. What is posted is the paper's order, or a pulse.
-    fn pump(
-        &mut self,
-        till: &mut DriverTill<'_>,
-        until: Until,
-        posting: Option<bool>,
-        end: Instant,
-    ) -> Result<(), Lost> {
+    fn pump(&mut self, till: &mut DriverTill<'_>, until: Until, posting: Option<bool>) -> Result<(), Lost> {
         while !(if posting == Some(false) { self.is_pulsed() } else { self.is_reached(until) }) {
-            let left = end.saturating_duration_since(Instant::now());
+            let left = self.ends_at.saturating_duration_since(Instant::now());
             if left.is_zero() {
                 return Ok(());
             }
@@ -604,6 +631,7 @@ impl Link {
             self.fill(posting);
             let ready = self.cable.wait(self.out_sent < self.out.len(), left.min(OFTEN));
             let is_any = ready.reading && self.read_some(till)?;
+            self.watch();
             if ready.writing {
                 self.write_some()?;
             } else if ready.reading && !is_any {
@@ -624,10 +652,53 @@ impl Link {
         }
     }
 
-    fn forget(&mut self) {
+    /// Looks whether the printer has fallen silent while a line may hold something of a job back for it. It is asked
+    /// before that counts as lost.
+    fn watch(&mut self) {
+        let is_any_held = self.due.iter().any(|parcel| parcel.job != 0 && !parcel.is_torn);
+        if !self.cable.holds_back() || self.is_stopped() || !is_any_held {
+            return;
+        }
+        let (since, longest) = (self.heard_at.max(Some(self.began_at)), self.timeout.min(SILENT));
+        if is_over(since, longest) {
+            self.lose_held();
+        } else if is_over(since, longest / 2) && self.asked_at.is_none() {
+            self.ask();
+        }
+    }
+
+    /// Whether the printer was switched off and on again since it said that it stops: it would have said by itself that
+    /// it goes on before it acknowledged anything.
+    fn was_reset(&self) -> bool {
+        self.cable.holds_back() && self.is_stopped() && is_over(self.told_at, STOPPING)
+    }
+
+    /// The printer may have lost its power, and a line holds back the rest of what is due, which the printer may still
+    /// get and acknowledge. It is asked again whether it is there.
+    fn lose_held(&mut self) {
+        self.cable.discard();
+        self.clear_out();
+        if self.is_asked {
+            // Acknowledgements without a number may still come, and mustn't count for anything else.
+            let jobs: Vec<u64> = self.due.iter().map(|parcel| parcel.job).collect();
+            jobs.into_iter().for_each(|job| self.tear(job));
+        } else {
+            self.lose_due();
+        }
+        self.was_silent = true;
+        (self.asked_at, self.questioned_at) = (None, None);
+        self.ask();
+    }
+
+    /// Nothing goes out any more of what was put out.
+    fn clear_out(&mut self) {
         self.take_back();
         self.out.clear();
         self.out_sent = 0;
+    }
+
+    fn forget(&mut self) {
+        self.clear_out();
         self.control.clear();
         self.got.clear();
         (self.is_there, self.was_silent, self.is_refreshing) = (false, false, false);
@@ -662,17 +733,19 @@ impl Link {
         if std::mem::replace(&mut self.is_begun, true) {
             return;
         }
-        let end = end_after(self.timeout);
+        self.ends_at = end_after(self.timeout);
         self.connect(self.timeout);
-        if self.cable.is_open() && self.pump(till, Until::Known, None, end).is_err() {
+        if self.cable.is_open() && self.pump(till, Until::Known, None).is_err() {
             self.lose();
         }
     }
 
-    /// Asks a printer that has said nothing for a time, and one that says that it can't print, for more. One on a network
-    /// that doesn't answer is lost, unless something is due: the system might find that much later.
+    /// Asks a printer that has said nothing for a time, and one that says that it can't print, for more. One on a
+    /// network that doesn't answer is lost, unless something is due: the system might find that much later. One that
+    /// has stopped may take nothing over a line that holds it back, and is still there.
     fn look_after(&mut self) -> Result<(), Lost> {
-        let is_late = self.asked_at.is_some_and(|asked_at| asked_at.elapsed() > self.timeout);
+        let is_held = self.cable.holds_back() && self.is_stopped();
+        let is_late = !is_held && self.asked_at.is_some_and(|asked_at| asked_at.elapsed() > self.timeout);
         if is_late {
             self.is_there = false;
             self.told.clear();
@@ -682,7 +755,7 @@ impl Link {
                 return Err(Lost);
             }
         }
-        let is_heard = self.is_there && !is_over(self.heard_at, self.timeout);
+        let is_heard = self.is_there && !self.was_silent && !is_over(self.heard_at, self.timeout);
         if !is_heard && (self.asked_at.is_none() || is_late) && self.is_idle() {
             self.asked_at = None;
             self.ask();
@@ -698,6 +771,7 @@ impl Link {
 
     fn look(&mut self, till: &mut DriverTill<'_>) -> Result<(), Lost> {
         self.receive(till)?;
+        self.watch();
         self.look_after()?;
         self.send_control()
     }
@@ -715,14 +789,14 @@ impl Link {
 
     // Orders.
 
-    /// Waits for acknowledgements that are late, if they have no number. They are lost if none comes for the whole time,
-    /// although the printer says that it can print.
-    fn give_up(&mut self, till: &mut DriverTill<'_>, end: Instant) -> Result<(), Lost> {
+    /// Waits for acknowledgements that are late, if they have no number. They are lost if none comes for the whole
+    /// time, although the printer says that it can print.
+    fn give_up(&mut self, till: &mut DriverTill<'_>) -> Result<(), Lost> {
         let (count, rounds) = (self.due.len(), self.rounds);
         if !self.is_asked || count == 0 {
             return Ok(());
         }
-        self.pump(till, Until::NoneDue, None, end)?;
+        self.pump(till, Until::NoneDue, None)?;
         if self.due.len() == count && self.rounds > rounds + 1 && !self.is_stopped() {
             self.lose_due();
         }
@@ -750,17 +824,16 @@ impl Link {
     }
 
     /// Takes up the order that is out: the one that failed if it is the same, where that one has come to.
-    fn take_up(&mut self, till: &mut DriverTill<'_>, bytes: Vec<u8>, is_once: bool, end: Instant) -> Result<(), Lost> {
-        self.give_up(till, end)?;
+    fn take_up(&mut self, till: &mut DriverTill<'_>, bytes: Vec<u8>, is_once: bool) -> Result<(), Lost> {
+        self.give_up(till)?;
         if !is_once {
             self.pulse = Some(self.new_job(bytes, false));
             return Ok(());
         }
         let number = match &self.paper {
             Some(job) if job.bytes == bytes => job.number,
-            other => {
-                // It was printed after it had failed, and isn't asked for again.
-                self.late += u64::from(other.as_ref().is_some_and(|job| job.is_done && !job.bytes.is_empty()));
+            _ => {
+                self.forget_failed();
                 self.paper = Some(self.new_job(bytes, true));
                 return Ok(());
             }
@@ -768,7 +841,7 @@ impl Link {
         if self.is_due(number) {
             // What was sent before is printed or lost once this is acknowledged.
             self.put_marker();
-            self.pump(till, Until::Settled, None, end)?;
+            self.pump(till, Until::Settled, None)?;
         }
         if !self.is_due(number) {
             if self.current(true).sent > self.current(true).done {
@@ -782,22 +855,40 @@ impl Link {
     }
 
     /// Sends the order, as far as it wasn't.
-    fn post(&mut self, till: &mut DriverTill<'_>, is_once: bool, end: Instant) -> Result<(), Lost> {
+    fn post(&mut self, till: &mut DriverTill<'_>, is_once: bool) -> Result<(), Lost> {
         let (number, is_done) = (self.current(is_once).number, self.current(is_once).is_done);
-        if is_done || self.is_stopped() || self.is_due(number) || Instant::now() >= end {
+        if is_done || self.is_stopped() || self.is_due(number) || Instant::now() >= self.ends_at {
             return Ok(());
         }
         self.fill(Some(is_once));
         if self.out_sent < self.out.len() {
             self.write_some()?;
         }
-        self.pump(till, Until::Printed, Some(is_once), end)
+        self.pump(till, Until::Printed, Some(is_once))
     }
 
-    /// Sends the order that is out, and returns whether the printer acknowledged it within the timeout. If an order
-    /// failed and the next one is the same, only what wasn't printed is sent again, unless it isn't `is_once`.
+    /// Waits until a printer that was silent answers, since a line would hold an order back for it.
+    fn await_answer(&mut self, till: &mut DriverTill<'_>) -> Result<(), Lost> {
+        if !self.cable.holds_back() || !self.was_silent {
+            return Ok(());
+        }
+        // What was asked before may be lost.
+        self.ask();
+        self.pump(till, Until::Heard, None)
+    }
+
+    /// Takes the next order as a new one, though it is the same as the one that failed. If that was printed after it
+    /// had failed, nobody has asked for it again.
+    pub(crate) fn forget_failed(&mut self) {
+        let failed = self.paper.take();
+        self.late += u64::from(failed.is_some_and(|job| job.is_done && !job.bytes.is_empty()));
+    }
+
+    /// Sends the order that is out, and returns whether the printer acknowledged it, each piece of it within the
+    /// timeout. If an order failed and the next one is the same, only what wasn't printed is sent again, unless it
+    /// isn't `is_once`.
     pub(crate) fn carry_out(&mut self, till: &mut DriverTill<'_>, settings: &WireSettings, is_once: bool) -> bool {
-        let end = end_after(self.timeout);
+        (self.began_at, self.ends_at) = (Instant::now(), end_after(self.timeout));
         let size = if self.is_asked { QUESTION_SIZE } else { JOB_SIZE };
         let asked = if self.is_asked { OrderEnd::Paper } else { OrderEnd::Job(0) };
         if !self.is_online() {
@@ -810,8 +901,9 @@ impl Link {
         self.end = bytes.split_off(bytes.len() - size);
         let done = self
             .receive(till)
-            .and_then(|()| self.take_up(till, bytes, is_once, end))
-            .and_then(|()| self.post(till, is_once, end));
+            .and_then(|()| self.await_answer(till))
+            .and_then(|()| self.take_up(till, bytes, is_once))
+            .and_then(|()| self.post(till, is_once));
         if done.is_err() {
             self.lose();
             return false;
@@ -824,11 +916,8 @@ impl Link {
             return true;
         }
         self.take_back();
-        if !self.is_stopped() {
-            self.was_silent = true;
-            // The next look asks. What is asked now may be lost, and that look may come long after the printer is back.
-            self.heard_at = None;
-        }
+        // The next look asks. What is asked now may be lost, and that look may come long after the printer is back.
+        self.was_silent |= !self.is_stopped();
         false
     }
 }

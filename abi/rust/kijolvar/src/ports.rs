@@ -3,7 +3,7 @@
 use std::ffi::{c_int, c_short, c_ulong, c_void};
 use std::fs::{File, OpenOptions};
 use std::io::{self, ErrorKind, Read, Write};
-use std::net::{Ipv6Addr, SocketAddr, TcpStream, ToSocketAddrs};
+use std::net::{Ipv6Addr, Shutdown, SocketAddr, TcpStream, ToSocketAddrs};
 use std::os::fd::{AsRawFd, RawFd};
 use std::os::unix::fs::{FileTypeExt, OpenOptionsExt};
 use std::path::{Path, PathBuf};
@@ -57,9 +57,12 @@ impl Default for SerialSettings {
 #[non_exhaustive]
 pub enum Port {
     /// A device file that takes bytes as they are, such as /dev/usb/lp0. If it is a link to a serial line when it is
-    /// opened, it is one by [`SerialSettings::default`] from then on.
+    /// opened, it is a [`Port::Line`] from then on.
     File(PathBuf),
-    /// A serial line, such as /dev/ttyUSB0.
+    /// A serial line by the usual settings of its device: those of [`SerialSettings::default`], but [`Flow::None`] for
+    /// a display, which answers nothing and whose cable often has no CTS.
+    Line(PathBuf),
+    /// A serial line by these settings, such as /dev/ttyUSB0.
     Serial(PathBuf, SerialSettings),
     /// A TCP port: the host, and the number.
     ///
@@ -76,15 +79,16 @@ impl Port {
     /// Returns the port of a name: `tcp:HOST` or `tcp:HOST:PORT` (9100 if there is none), or the path of a device file.
     /// An address of IPv6 is in brackets: `tcp:[::1]:9100`.
     ///
-    /// A path of /dev/tty.. or /dev/serial/.. is a serial line by [`SerialSettings::default`], as is a link to one. A
-    /// path of /dev/input/.. is a keyboard. [`Till::drive`](crate::Till::drive) refuses a host that can't be one, such
-    /// as that of `tcp:192.168.1.9:91OO`, whose number is misspelt.
+    /// A path of /dev/tty.. or /dev/serial/.. is a serial line by its device's usual settings ([`Port::Line`]), as is a
+    /// link to one. A path of /dev/input/.. is a keyboard. [`Till::drive`](crate::Till::drive) refuses a host that
+    /// can't be one, such as that of `tcp:192.168.1.9:91OO`, whose number is misspelt.
     ///
     /// ```
     /// use kijolvar::Port;
     ///
     /// assert_eq!(Port::of("tcp:192.168.1.9"), Port::Tcp("192.168.1.9".to_string(), 9100));
     /// assert_eq!(Port::of("/dev/usb/lp0"), Port::File("/dev/usb/lp0".into()));
+    /// assert_eq!(Port::of("/dev/ttyUSB0"), Port::Line("/dev/ttyUSB0".into()));
     /// ```
     pub fn of(name: &str) -> Port {
         if let Some(address) = name.strip_prefix("tcp:") {
@@ -96,7 +100,7 @@ impl Port {
         }
         let path = Path::new(name);
         if is_line_name(path) || name.starts_with("/dev/serial/") || is_line_link(path) {
-            Port::Serial(name.into(), SerialSettings::default())
+            Port::Line(name.into())
         } else if name.starts_with("/dev/input/") {
             Port::Keys(name.into())
         } else {
@@ -104,8 +108,8 @@ impl Port {
         }
     }
 
-    /// Whether the settings of a serial line can be set, and a host may be looked up, at a number that isn't 0. Only an IPv6 address has colons,
-    /// and it may have a zone behind it.
+    /// Whether the settings of a serial line can be set, and a host may be looked up, at a number that isn't 0. Only an
+    /// IPv6 address has colons, and it may have a zone behind it.
     pub(crate) fn is_sound(&self) -> bool {
         match self {
             Port::Serial(_, settings) => {
@@ -213,6 +217,8 @@ const ENOTTY: c_int = 25;
 const EPIPE: c_int = 32;
 pub(crate) const ETIMEDOUT: c_int = 110;
 const EHOSTUNREACH: c_int = 113;
+const IGNBRK: u32 = 0o1;
+const INPCK: u32 = 0o20;
 const IXON: u32 = 0o2000;
 const IXOFF: u32 = 0o10000;
 const CBAUD: u32 = 0o10_017;
@@ -248,10 +254,10 @@ fn settings_of(file: RawFd) -> io::Result<Line> {
     Ok(line)
 }
 
-/// Sets up a terminal line, so that bytes pass as they are.
+/// Sets up a terminal line, so that bytes pass as they are. A break is no byte, and a byte with a wrong parity is 0.
 fn set_up(file: RawFd, settings: Option<&SerialSettings>) -> io::Result<()> {
     let mut line = settings_of(file)?;
-    (line.input, line.output, line.local) = (0, 0, 0);
+    (line.input, line.output, line.local) = (IGNBRK, 0, 0);
     line.control = line.control & !(CSIZE | PARENB) | CS8 | CREAD | CLOCAL;
     (line.characters[VMIN], line.characters[VTIME]) = (1, 0);
     if let Some(settings) = settings {
@@ -266,6 +272,7 @@ fn set_up(file: RawFd, settings: Option<&SerialSettings>) -> io::Result<()> {
         };
         line.control |= if settings.stops == 2 { CSTOPB } else { 0 };
         line.control |= if settings.flow == Flow::RtsCts { CRTSCTS } else { 0 };
+        line.input |= if settings.parity == Parity::None { 0 } else { INPCK };
         line.input |= if settings.flow == Flow::XonXoff { IXON | IXOFF } else { 0 };
     }
     // SAFETY: the file is open, and the line is lent for the call.
@@ -329,6 +336,8 @@ enum Stream {
 #[derive(Debug)]
 pub(crate) struct Cable {
     pub(crate) port: Port,
+    /// How a serial line is set up for which there is only a name.
+    usual: SerialSettings,
     /// Whether what was sent may wait for long, as at a printer whose cover is open.
     is_patient: bool,
     /// What is open, and the process that opened it.
@@ -349,9 +358,17 @@ pub(crate) struct Lost;
 
 impl Cable {
     pub(crate) fn new(port: Port) -> Cable {
-        let addresses = Addresses::default();
-        let (ends_empty, was_empty) = (true, false);
-        Cable { port, is_patient: false, stream: None, process: 0, ends_empty, was_empty, fault: None, addresses }
+        Cable {
+            port,
+            usual: SerialSettings::default(),
+            is_patient: false,
+            stream: None,
+            process: 0,
+            ends_empty: true,
+            was_empty: false,
+            fault: None,
+            addresses: Addresses::default(),
+        }
     }
 
     /// A port at which what was sent may wait for long.
@@ -359,6 +376,30 @@ impl Cable {
         let mut cable = Cable::new(port);
         cable.is_patient = true;
         cable
+    }
+
+    /// A port of a device that never says that it can take no more: its line has no flow control, unless that is set.
+    pub(crate) fn without_flow(port: Port) -> Cable {
+        let mut cable = Cable::new(port);
+        cable.usual.flow = Flow::None;
+        cable
+    }
+
+    /// Whether what was sent may wait in it until the device takes it.
+    pub(crate) fn holds_back(&self) -> bool {
+        match &self.port {
+            Port::Serial(_, settings) => settings.flow != Flow::None,
+            Port::Line(_) => self.usual.flow != Flow::None,
+            _ => false,
+        }
+    }
+
+    /// Drops what it holds back, as far as the system can. What an adapter has taken may still be sent.
+    pub(crate) fn discard(&self) {
+        if let (true, Some(file)) = (self.holds_back(), self.file()) {
+            // SAFETY: the file is open.
+            unsafe { ioctl(file, TCFLSH, TCOFLUSH) };
+        }
     }
 
     pub(crate) fn is_open(&self) -> bool {
@@ -392,6 +433,7 @@ impl Cable {
             }
             Port::Keys(path) => open_keys(path).map(|file| (Stream::File(file), true)),
             Port::File(path) => open_file(path, None),
+            Port::Line(path) => open_file(path, Some(&self.usual)),
             Port::Serial(path, settings) => open_file(path, Some(settings)),
         };
         match opened {
@@ -408,18 +450,28 @@ impl Cable {
     fn take_up_link(&mut self) {
         if let Port::File(path) = &self.port {
             if is_line_link(path) {
-                self.port = Port::Serial(path.clone(), SerialSettings::default());
+                self.port = Port::Line(path.clone());
             }
         }
     }
 
-    /// Closes the port, without waiting for what it hasn't sent. In a process that was forked the port is still that of
-    /// the process that opened it, and nothing is dropped.
+    /// Closes the port, without waiting for what it hasn't sent. A process that was forked meanwhile has it too, and
+    /// would keep the connection, and a keyboard's keys. So these end first. In such a process the port is still that
+    /// of the process that opened it, and nothing is dropped or ended.
     pub(crate) fn close(&mut self) {
-        if let Some(Stream::File(file)) = self.stream.take() {
-            if self.process == std::process::id() {
+        let stream = self.stream.take();
+        if self.process != std::process::id() {
+            return;
+        }
+        match (&stream, &self.port) {
+            (Some(Stream::Tcp(stream)), _) => drop(stream.shutdown(Shutdown::Both)),
+            (Some(Stream::File(file)), Port::Keys(_)) => {
+                // SAFETY: the file is open.
+                unsafe { ioctl(file.as_raw_fd(), EVIOCGRAB, 0 as c_int) };
                 drop_unsent(file.as_raw_fd());
             }
+            (Some(Stream::File(file)), _) => drop_unsent(file.as_raw_fd()),
+            (None, _) => {}
         }
     }
 
@@ -469,7 +521,7 @@ impl Cable {
     /// Returns whether all that was written has left this machine before a time, if the port is a serial line. Of other
     /// ports only the system knows that.
     pub(crate) fn is_drained(&mut self, end: Instant) -> bool {
-        let (Port::Serial(..), Some(file)) = (&self.port, self.file()) else { return true };
+        let (Port::Serial(..) | Port::Line(_), Some(file)) = (&self.port, self.file()) else { return true };
         loop {
             let mut left: c_int = 0;
             // SAFETY: the file is open, and the number is lent for the call.
@@ -618,28 +670,29 @@ fn set_up_tcp(stream: TcpStream, is_patient: bool) -> io::Result<TcpStream> {
     Ok(stream)
 }
 
+/// A pseudo terminal of a test: one end, and the path of the other.
+#[cfg(test)]
+pub(crate) fn terminal() -> (File, PathBuf) {
+    const TIOCSPTLCK: c_ulong = 0x4004_5431;
+    const TIOCGPTN: c_ulong = 0x8004_5430;
+    let mut options = OpenOptions::new();
+    let file = options.read(true).write(true).custom_flags(O_NONBLOCK | O_NOCTTY).open("/dev/ptmx").unwrap();
+    let (mut number, unlocked): (c_int, c_int) = (0, 0);
+    // SAFETY: the file is open, and the numbers are lent for the calls.
+    let failed = unsafe {
+        ioctl(file.as_raw_fd(), TIOCSPTLCK, &unlocked as *const c_int)
+            | ioctl(file.as_raw_fd(), TIOCGPTN, &mut number as *mut c_int)
+    };
+    assert_eq!(failed, 0);
+    (file, format!("/dev/pts/{number}").into())
+}
+
 #[cfg(test)]
 mod tests {
     use super::*;
     use std::net::TcpListener;
 
-    const TIOCSPTLCK: c_ulong = 0x4004_5431;
-    const TIOCGPTN: c_ulong = 0x8004_5430;
     const SOON: Duration = Duration::from_millis(500);
-
-    /// A pseudo terminal: one end, and the path of the other.
-    fn terminal() -> (File, PathBuf) {
-        let mut options = OpenOptions::new();
-        let file = options.read(true).write(true).custom_flags(O_NONBLOCK | O_NOCTTY).open("/dev/ptmx").unwrap();
-        let (mut number, unlocked): (c_int, c_int) = (0, 0);
-        // SAFETY: the file is open, and the numbers are lent for the calls.
-        let failed = unsafe {
-            ioctl(file.as_raw_fd(), TIOCSPTLCK, &unlocked as *const c_int)
-                | ioctl(file.as_raw_fd(), TIOCGPTN, &mut number as *mut c_int)
-        };
-        assert_eq!(failed, 0);
-        (file, format!("/dev/pts/{number}").into())
-    }
 
     /// A serial line's port that is open.
     fn line(path: &Path) -> Cable {
@@ -658,6 +711,56 @@ mod tests {
             let control = settings_of(cable.file().unwrap()).unwrap().control;
             assert_eq!((control & CBAUD, control & CSTOPB), (number, CSTOPB));
         }
+    }
+
+    #[test]
+    fn a_line_ignores_breaks_and_checks_its_parity() {
+        for (parity, checks) in [(Parity::None, 0), (Parity::Even, INPCK), (Parity::Odd, INPCK)] {
+            let (_device, path) = terminal();
+            let settings = SerialSettings { parity, ..SerialSettings::default() };
+            let mut cable = Cable::new(Port::Serial(path, settings));
+            assert!(cable.open(SOON));
+            assert_eq!(settings_of(cable.file().unwrap()).unwrap().input, IGNBRK | checks);
+        }
+    }
+
+    #[test]
+    fn a_line_that_is_named_has_the_usual_flow_control() {
+        for is_display in [false, true] {
+            let (_device, path) = terminal();
+            let port = Port::Line(path);
+            let mut cable = if is_display { Cable::without_flow(port) } else { Cable::new(port) };
+            assert!(cable.open(SOON));
+            let control = settings_of(cable.file().unwrap()).unwrap().control;
+            assert_eq!((control & CBAUD, control & CRTSCTS == 0), (0o15, is_display));
+            assert_eq!(cable.holds_back(), !is_display);
+        }
+        let settings = SerialSettings::default();
+        assert!(Cable::without_flow(Port::Serial("/dev/ttyS0".into(), settings)).holds_back());
+        let settings = SerialSettings { flow: Flow::None, ..settings };
+        assert!(!Cable::new(Port::Serial("/dev/ttyS0".into(), settings)).holds_back());
+        assert!(!Cable::new(Port::of("/dev/usb/lp0")).holds_back());
+    }
+
+    #[test]
+    fn what_a_line_holds_back_may_be_discarded() {
+        let (mut device, path) = terminal();
+        let mut cable = line(&path);
+        let sent = cable.write(&[b'x'; 16_384]).unwrap();
+        cable.discard();
+        // The line goes on, and what comes next isn't lost.
+        while cable.write(b"y").unwrap() == 0 {
+            std::thread::sleep(Duration::from_millis(1));
+        }
+        let (mut room, mut got, end) = ([0; 1024], Vec::new(), end_after(SOON * 20));
+        while !got.contains(&b'y') && Instant::now() < end {
+            match device.read(&mut room) {
+                Ok(count) => got.extend_from_slice(&room[..count]),
+                Err(_) => std::thread::sleep(Duration::from_millis(1)),
+            }
+        }
+        // The system moves up to 4,096 bytes to the other end at once.
+        assert!(sent > 4096 && got.ends_with(b"y") && got.len() <= 4097, "{} of {sent}", got.len());
     }
 
     #[test]

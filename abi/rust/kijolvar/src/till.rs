@@ -157,16 +157,15 @@ impl Inner {
         unsafe { kijolvar_answer(till, out, self.text.as_mut_ptr(), self.text.len(), needed) }
     }
 
-    /// Carries out lines: the text of their answers, once what they changed is in the file. The driver of a device goes
-    /// on with a spare that a line attaches before the next line.
+    /// Carries out lines: the text of their answers, once what they changed is in the file. What a line does to
+    /// drivers is done before the next line.
     pub(crate) fn carry_out(&mut self, lines: &[u8]) -> Result<String, Cause> {
         let (mut answers, mut rest) = (String::new(), lines);
         loop {
-            let (count, attached) = self.drives.first_attach(rest);
+            let (count, effect) = self.drives.first_effect(rest);
             let found = self.carry_out_lines(&rest[..count]);
-            // It may be attached also if there was no memory for the answer.
-            if let Some(place) = attached.filter(|_| found.as_ref().map_or(true, |text| text.ends_with("ok\n"))) {
-                self.drive_again(place);
+            if let Some(effect) = effect {
+                self.apply_effect(effect, &found);
             }
             let found = match found {
                 // Lines before these were carried out.
@@ -411,7 +410,7 @@ impl Drop for Inner {
 /// is_sync::<kijolvar::Till>();
 /// ```
 pub struct Till {
-    inner: RefCell<Inner>,
+    pub(crate) inner: RefCell<Inner>,
     number: u64,
 }
 
@@ -763,8 +762,8 @@ impl Till {
     /// end), E_OFFLINE, or E_FAILURE if the device gives no reason.
     ///
     /// Hardware that isn't there is no error: the device is off until [`Till::run_devices`] finds it. So that the till
-    /// knows how a printer is, the call waits for its first status, at most as long as an order may take. A display's
-    /// port may take as long to open. To look a host's name up may take longer ([`Port::Tcp`](crate::Port::Tcp)).
+    /// knows how a printer is, the call waits for its first status, at most for its timeout. A display's port may take
+    /// as long to open. To look a host's name up may take longer ([`Port::Tcp`](crate::Port::Tcp)).
     ///
     /// # Errors
     ///
@@ -781,10 +780,13 @@ impl Till {
     /// driver; printing may take longer, and looking a host's name up ([`Port::Tcp`](crate::Port::Tcp)). Returns
     /// whether anything was done.
     ///
+    /// Nobody else can use the till meanwhile. If several threads do, give it to an [`Actor`](crate::Actor), and call
+    /// [`Actor::run_devices`](crate::Actor::run_devices).
+    ///
     /// Output that was refused is tried again 100 ms later at the earliest, each time with an ErrorEvent.
     ///
     /// If a call fails, make it again: it keeps the inputs and the scans that it didn't get to, and those for which
-    /// there was no memory.
+    /// there was no memory. An input without an answer ([`Cause::NoAnswer`]) may be told twice.
     ///
     /// # Errors
     ///

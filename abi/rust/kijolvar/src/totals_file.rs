@@ -158,11 +158,12 @@ fn create_new(path: &Path, profile: &str) -> Result<LockedFile, Cause> {
     Ok(file)
 }
 
-/// A locked file without a name, of zero bytes, as long as a disk.
+/// A locked file without a name, of zero bytes, as long as a disk. They are written, so that the file has its room from
+/// now on, however full the file system gets.
 fn unnamed(folder: &Path) -> io::Result<LockedFile> {
     let file = OpenOptions::new().read(true).write(true).custom_flags(O_TMPFILE).mode(0o600).open(folder)?;
     let file = LockedFile::new(file)?;
-    file.set_len(DISK_LENGTH)?;
+    file.write_all_at(&vec![0; DISK_LENGTH as usize], 0)?;
     Ok(file)
 }
 

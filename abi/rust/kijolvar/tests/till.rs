@@ -4,13 +4,14 @@ use kijolvar::standard::{DisplayAttribute, ErrorLocus, ErrorReply, ExtendedCode,
 use kijolvar::standard::{PowerNotify, PowerStatus};
 use kijolvar::{check, files, migrate, StatusUpdate, Till, Totals, Value, Work, BUILT_PROFILE};
 use kijolvar::{Actor, Asked, CashDrawer, Cause, Error, Event, HardTotals, Order, PosPrinter, PrinterReply, Property};
-use kijolvar::{DisplaySettings, Driver, DriverTill, EscPosPrinter, EscPosSettings, Scan, SerialDisplay};
+use kijolvar::{DisplaySettings, Driver, DriverTill, EscPosPrinter, EscPosSettings, Port, Scan, SerialDisplay};
 use kijolvar::{Scanner, WedgeScanner, WireSettings};
-use std::io::{ErrorKind, Write};
+use std::io::{ErrorKind, Read, Write};
 use std::net::TcpListener;
+use std::os::unix::fs::MetadataExt;
 use std::panic::{catch_unwind, AssertUnwindSafe};
 use std::path::PathBuf;
-use std::sync::atomic::{AtomicU32, Ordering};
+use std::sync::atomic::{AtomicBool, AtomicU32, Ordering};
 use std::sync::mpsc::{channel, Sender};
 use std::sync::Arc;
 use std::thread::spawn;
@@ -119,6 +120,14 @@ fn a_forked_process_writes_nothing() {
     let totals = till.hard_totals("t1").unwrap().enabled().unwrap();
     assert!(system::is_so_forked(|| totals.create("DAY", 1, false).is_ok()));
     totals.create("DAY", 1, false).unwrap();
+}
+
+#[test]
+fn a_new_file_has_all_its_room() {
+    let place = Place::new("room");
+    drop(Till::open(BUILT_PROFILE, Totals::create(place.file())).unwrap());
+    let file = std::fs::metadata(place.file()).unwrap();
+    assert!(file.blocks() * 512 >= file.len(), "{} blocks of {} bytes", file.blocks(), file.len());
 }
 
 fn a_lock_ends_with_its_call_or_till() {
@@ -503,6 +512,113 @@ fn an_actor_serves_several_threads() {
     assert!(matches!(actor.run(|_| Ok(())).unwrap_err().cause(), Cause::ActorEnded));
 }
 
+#[test]
+fn an_actor_serves_its_devices_and_other_threads() {
+    let (till, count) = (till(), Arc::new(AtomicU32::new(0)));
+    till.drive("s1", Polled(Arc::clone(&count), Codes::of(&[]))).unwrap();
+    let (actor, thread) = Actor::start(till).unwrap();
+    let (looking, is_over) = (actor.clone(), Arc::new(AtomicBool::new(false)));
+    let looker = spawn({
+        let is_over = Arc::clone(&is_over);
+        move || {
+            let (mut found, mut longest) = (0, Duration::ZERO);
+            while !is_over.load(Ordering::Relaxed) {
+                let began = Instant::now();
+                found += u32::from(looking.run_devices(Duration::from_secs(1)).unwrap());
+                longest = longest.max(began.elapsed());
+            }
+            (found, longest)
+        }
+    });
+    let began = Instant::now();
+    for _ in 0..20 {
+        actor.run(|till| till.show("d1").map(|_| ())).unwrap();
+    }
+    assert!(began.elapsed() < Duration::from_secs(1), "{:?}", began.elapsed());
+    std::thread::sleep(Duration::from_millis(1200));
+    is_over.store(true, Ordering::Relaxed);
+    let (found, longest) = looker.join().unwrap();
+    // The device is on at first, and a call that finds nothing takes its time.
+    assert!(found <= 1 && longest >= Duration::from_secs(1), "{found} {longest:?}");
+    assert!(count.load(Ordering::Relaxed) >= 10, "{count:?}");
+    actor.run(|till| till.input_drawer("d1", true)).unwrap();
+    let inside = actor.clone();
+    let waits = actor.run(move |_| inside.run_devices(Duration::ZERO)).unwrap_err();
+    assert!(matches!(waits.cause(), Cause::InsideActor));
+    drop(actor);
+    thread.join().unwrap();
+}
+
+#[test]
+fn an_actor_finds_what_there_is_to_do() {
+    let till = till();
+    till.drive("s1", Codes::of(&["4006381"])).unwrap();
+    let (actor, thread) = Actor::start(till).unwrap();
+    let began = Instant::now();
+    assert!(actor.run_devices(Duration::from_secs(10)).unwrap());
+    assert!(began.elapsed() < Duration::from_secs(1));
+    drop(actor);
+    thread.join().unwrap();
+}
+
+/// Why work in a transaction ends.
+#[derive(Debug)]
+enum Stop {
+    OfItsOwn,
+    Refused(Error),
+}
+
+impl From<Error> for Stop {
+    fn from(error: Error) -> Stop {
+        Stop::Refused(error)
+    }
+}
+
+#[test]
+fn a_transaction_ends_in_any_case() {
+    let till = till();
+    let totals = till.hard_totals("t1").unwrap().enabled().unwrap();
+    let day = totals.create("DAY", 1, false).unwrap();
+    let is_open = || totals.begin_trans().map(|()| totals.rollback().unwrap()).is_err();
+    let number = || totals.read(day, 0, 1).unwrap()[0];
+    let before = totals.transaction(|totals| {
+        let before = totals.read(day, 0, 1)?;
+        totals.write(day, 0, [1])?;
+        Ok::<_, Error>(before)
+    });
+    assert_eq!((before.unwrap(), number(), is_open()), (vec![0], 1, false));
+    let refused = totals.transaction(|totals| {
+        totals.write(day, 0, [2])?;
+        totals.write(day, 9, [2])
+    });
+    assert_eq!((refused.unwrap_err().call(), number(), is_open()), ("write", 1, false));
+    let stopped = totals.transaction(|totals| {
+        totals.write(day, 0, [3])?;
+        Err::<(), _>(Stop::OfItsOwn)
+    });
+    assert!(matches!(stopped, Err(Stop::OfItsOwn)) && number() == 1 && !is_open());
+    let panicked = catch_unwind(AssertUnwindSafe(|| {
+        totals.transaction(|totals| -> Result<(), Error> {
+            totals.write(day, 0, [4])?;
+            panic!("on purpose")
+        })
+    }));
+    assert!(panicked.is_err() && number() == 1 && !is_open());
+    // Another control deletes the file meanwhile: the commit is refused.
+    let other = till.hard_totals("t1").unwrap().enabled().unwrap();
+    let uncommitted = totals.transaction(|totals| {
+        totals.write(day, 0, [5])?;
+        other.delete("DAY").map_err(Stop::Refused)
+    });
+    let Err(Stop::Refused(error)) = uncommitted else { panic!("{uncommitted:?}") };
+    assert_eq!((error.call(), error.code()), ("commitTrans", Some(ResultCode::NoExist)));
+    assert!(!is_open());
+    totals.begin_trans().unwrap();
+    let begun = totals.transaction(|_| -> Result<(), Error> { panic!("it isn't called") }).unwrap_err();
+    assert_eq!((begun.call(), begun.code()), ("beginTrans", Some(ResultCode::Illegal)));
+    totals.rollback().unwrap();
+}
+
 fn an_actor_may_get_no_thread() {
     let place = Place::new("actor");
     let till = Till::open(BUILT_PROFILE, Totals::create(place.file())).unwrap();
@@ -824,6 +940,77 @@ impl Driver for Paper {
     }
 }
 
+/// A printer that prints nothing, and counts how often its output was given up.
+struct GivenUp(Arc<AtomicU32>);
+
+impl Driver for GivenUp {
+    fn category(&self) -> Category {
+        Category::PosPrinter
+    }
+
+    fn given_up(&mut self) {
+        self.0.fetch_add(1, Ordering::Relaxed);
+    }
+}
+
+#[test]
+fn a_driver_knows_that_output_is_given_up() {
+    let (till, count) = (till(), Arc::new(AtomicU32::new(0)));
+    till.drive("r1", GivenUp(Arc::clone(&count))).unwrap();
+    let given_up = || count.swap(0, Ordering::Relaxed);
+    let printer = till.pos_printer("r1").unwrap().enabled().unwrap();
+    printer.clear_output().unwrap();
+    assert_eq!(given_up(), 1);
+    printer.set_async_mode(true).unwrap();
+    for (reply, wanted) in [(ErrorReply::Retry, 0), (ErrorReply::Clear, 1)] {
+        for is_at_once in [false, true] {
+            printer.print_normal(PrinterStation::Receipt, "a\n").unwrap();
+            assert!(matches!(till.work("r1").unwrap(), Work::Failed { .. }));
+            if is_at_once {
+                while printer.next_event_replied(reply).unwrap().is_some() {}
+            } else {
+                printer.pump(|_| Some(reply)).unwrap();
+            }
+            assert_eq!(given_up(), wanted, "{reply:?} {is_at_once}");
+        }
+    }
+    printer.release().unwrap();
+    assert!(printer.release().is_err() && printer.clear_output().is_err());
+    drop(printer);
+    till.pos_printer("r1").unwrap().into_key().discard(&till).unwrap();
+    assert_eq!(given_up(), 0);
+    let begun = "new r POSPrinter\nopen r r1\nclaim r 0\nset r DeviceEnabled true\n";
+    let lines = " call  r clearOutput \r\nrelease r\nrelease r\nclose r\nclose r\ncall r clearInput\ndeliver r clear\n";
+    let answers = "ok\nok\nok\nok\nok\nok\nerr 106\nok\nerr 101\nerr 101\nnone\n";
+    assert_eq!(till.carry_out(begun.to_string() + lines).unwrap(), answers);
+    assert_eq!(given_up(), 1);
+}
+
+#[test]
+fn a_port_that_is_closed_is_so_in_all_processes() {
+    let listener = TcpListener::bind("127.0.0.1:0").unwrap();
+    let till = till();
+    let port = format!("tcp:{}", listener.local_addr().unwrap());
+    till.drive("p1", SerialDisplay::open(port, DisplaySettings::default())).unwrap();
+    let (mut stream, _) = listener.accept().unwrap();
+    stream.set_read_timeout(Some(Duration::from_secs(5))).unwrap();
+    till.drive("s1", WedgeScanner::open(Port::Keys("/dev/ptmx".into()))).unwrap();
+    assert_eq!(system::grabs(), [1]);
+    let _lingering = system::Lingering::fork();
+    // A process that was forked closes nothing of this one.
+    assert!(system::is_so_forked(|| {
+        // SAFETY: the process ends before it would drop it again.
+        unsafe { drop(std::ptr::read(&till)) };
+        system::grabs().is_empty()
+    }));
+    till.line_display("p1").unwrap().enabled().unwrap().display_text("A", DisplayAttribute::Normal).unwrap();
+    drop(till);
+    let mut got = Vec::new();
+    stream.read_to_end(&mut got).expect("the connection ends");
+    assert!(got.contains(&b'A'));
+    assert_eq!(system::grabs(), [0]);
+}
+
 #[test]
 fn a_driven_printer_may_be_detached() {
     let till = till();
@@ -972,6 +1159,8 @@ mod system {
     ) -> c_int;
 
     /// Linux's numbers, on x86-64.
+    const SYS_IOCTL: c_long = 16;
+    const EVIOCGRAB: c_ulong = 0x4004_4590;
     const SYS_FLOCK: c_long = 73;
     const SYS_FSYNC: c_long = 74;
     const LOCK_UN: c_int = 8;
@@ -983,6 +1172,7 @@ mod system {
     thread_local! {
         static LINGERS: Cell<bool> = const { Cell::new(false) };
         static LINGERING: RefCell<Vec<c_int>> = const { RefCell::new(Vec::new()) };
+        static GRABS: RefCell<Vec<usize>> = const { RefCell::new(Vec::new()) };
         static SYNCS: Cell<u32> = const { Cell::new(0) };
         static SYNC_FAULT: Cell<c_int> = const { Cell::new(0) };
         static HAS_MEMORY: Cell<bool> = const { Cell::new(true) };
@@ -1013,36 +1203,71 @@ mod system {
         unsafe {
             let done = syscall(SYS_FLOCK, file, operation) as c_int;
             if done == 0 && operation & LOCK_UN == 0 && LINGERS.get() {
-                let child = fork();
-                if child == 0 {
-                    loop {
-                        pause();
-                    }
-                }
-                LINGERING.with_borrow_mut(|list| list.push(child));
+                linger();
             }
             done
         }
     }
 
-    /// Does something. From each lock of a file on, a process that was forked has the file too, as one has that is
-    /// about to run a program.
-    pub fn with_lingering<R>(does: impl FnOnce() -> R) -> R {
-        struct Lingering;
+    /// Forks a process that has all files of this one, until it is ended.
+    fn linger() {
+        // SAFETY: the forked process does nothing.
+        let child = unsafe { fork() };
+        if child == 0 {
+            loop {
+                // SAFETY: it takes nothing.
+                unsafe { pause() };
+            }
+        }
+        LINGERING.with_borrow_mut(|list| list.push(child));
+    }
 
-        impl Drop for Lingering {
-            fn drop(&mut self) {
-                LINGERS.set(false);
-                for child in LINGERING.take() {
-                    // SAFETY: this process has forked it, and nobody has waited for it.
-                    unsafe {
-                        kill(child, SIGKILL);
-                        waitpid(child, &mut 0, 0);
-                    }
+    /// The processes that were forked, which end with this.
+    pub struct Lingering;
+
+    impl Lingering {
+        /// Forks one, which has all files that are open now.
+        pub fn fork() -> Lingering {
+            linger();
+            Lingering
+        }
+    }
+
+    impl Drop for Lingering {
+        fn drop(&mut self) {
+            LINGERS.set(false);
+            for child in LINGERING.take() {
+                // SAFETY: this process has forked it, and nobody has waited for it.
+                unsafe {
+                    kill(child, SIGKILL);
+                    waitpid(child, &mut 0, 0);
                 }
             }
         }
+    }
 
+    /// Asks the driver of a file for something, and notes whether a keyboard is grabbed.
+    ///
+    /// # Safety
+    ///
+    /// As the system's.
+    #[no_mangle]
+    pub unsafe extern "C" fn ioctl(file: c_int, request: c_ulong, argument: *mut c_void) -> c_int {
+        if request == EVIOCGRAB {
+            GRABS.with_borrow_mut(|list| list.push(argument.addr()));
+        }
+        // SAFETY: the file and the argument are the caller's.
+        unsafe { syscall(SYS_IOCTL, file, request, argument) as c_int }
+    }
+
+    /// What was asked of keyboards since the last time: 1 grabs one, and 0 ends that.
+    pub fn grabs() -> Vec<usize> {
+        GRABS.take()
+    }
+
+    /// Does something. From each lock of a file on, a process that was forked has the file too, as one has that is
+    /// about to run a program.
+    pub fn with_lingering<R>(does: impl FnOnce() -> R) -> R {
         let _lingering = Lingering;
         LINGERS.set(true);
         does()

@@ -1,9 +1,9 @@
 //! A host in Rust for tests/native.py: a till whose devices have drivers. tests/native/host.c says which commands it
 //! reads, and how it answers them.
-use kijolvar::standard::{Category, PrinterStation};
+use kijolvar::standard::{Category, ErrorReply, PrinterStation};
 use kijolvar::{
-    Cause, DisplaySettings, Driver, DriverTill, Error, EscPosPrinter, EscPosSettings, Flow, Order, Port, PosPrinter,
-    Protocol, Scan, SerialDisplay, SerialSettings, Till, Totals, WedgeScanner,
+    Cause, DisplaySettings, Driver, DriverTill, Error, EscPosPrinter, EscPosSettings, Event, Flow, Order, Port,
+    PosPrinter, Protocol, Scan, SerialDisplay, SerialSettings, Till, Totals, WedgeScanner,
 };
 use std::io::{BufRead, Write};
 use std::sync::{Mutex, MutexGuard};
@@ -29,6 +29,17 @@ impl Words<'_> {
     fn time(&self, key: &str, usual: Duration) -> Duration {
         self.number(key).map_or(usual, |number| Duration::from_millis(number.into()))
     }
+
+    /// The port of a device, which may be a serial line whatever its name is.
+    fn port(&self) -> Port {
+        let Some(speed) = self.number("serial") else { return Port::of(self.0[1]) };
+        let flow = match self.value("flow") {
+            Some("rts-cts") => Flow::RtsCts,
+            Some("xon-xoff") => Flow::XonXoff,
+            _ => Flow::None,
+        };
+        Port::Serial(self.0[1].into(), SerialSettings { speed, flow, ..SerialSettings::default() })
+    }
 }
 
 fn open_printer(till: &Till, words: &Words) -> Result<String, Error> {
@@ -41,13 +52,7 @@ fn open_printer(till: &Till, words: &Words) -> Result<String, Error> {
         pause: words.time("pause", usual.pause),
         ..usual
     };
-    let port = match words.number("serial") {
-        Some(speed) => {
-            Port::Serial(words.0[1].into(), SerialSettings { speed, flow: Flow::None, ..SerialSettings::default() })
-        }
-        None => Port::of(words.0[1]),
-    };
-    let printer = EscPosPrinter::open(port, settings);
+    let printer = EscPosPrinter::open(words.port(), settings);
     if let Some(name) = words.value("drawer") {
         till.drive(name, printer.drawer())?;
     }
@@ -59,12 +64,12 @@ fn open_display(till: &Till, words: &Words) -> Result<String, Error> {
     let usual = DisplaySettings::default();
     let protocol = if words.has("escpos") { Protocol::EscPos } else { Protocol::Cd5220 };
     let (timeout, pause) = (words.time("timeout", usual.timeout), words.time("pause", usual.pause));
-    till.drive(words.0[0], SerialDisplay::open(words.0[1], DisplaySettings { protocol, timeout, pause }))?;
+    till.drive(words.0[0], SerialDisplay::open(words.port(), DisplaySettings { protocol, timeout, pause }))?;
     Ok("ok".to_string())
 }
 
 fn open_scanner(till: &Till, words: &Words) -> Result<String, Error> {
-    let port = if words.has("keys") { Port::Keys(words.0[1].into()) } else { Port::of(words.0[1]) };
+    let port = if words.has("keys") { Port::Keys(words.0[1].into()) } else { words.port() };
     let pause = words.time("pause", Duration::from_secs(1));
     till.drive(words.0[0], WedgeScanner::open(port).with_pause(pause))?;
     Ok("ok".to_string())
@@ -189,14 +194,30 @@ fn refuse_memory(_: &Words) -> String {
     "not understood".to_string()
 }
 
-/// Prints bytes by a typed call, over a control that the first one makes.
-fn print<'t>(till: &'t Till, printer: &mut Option<PosPrinter<'t>>, digits: &str) -> Result<String, Error> {
-    let bytes = bytes_of(digits);
+/// The control of typed calls, which the first one makes.
+fn control<'p, 't>(till: &'t Till, printer: &'p mut Option<PosPrinter<'t>>) -> Result<&'p PosPrinter<'t>, Error> {
     if printer.is_none() {
         *printer = Some(till.pos_printer("r1")?.enabled()?);
     }
-    printer.as_ref().unwrap().print_normal(PrinterStation::Receipt, &bytes)?;
+    Ok(printer.as_ref().unwrap())
+}
+
+/// Prints bytes by a typed call, or has them printed later.
+fn print(printer: &PosPrinter<'_>, digits: &str, is_later: bool) -> Result<String, Error> {
+    if is_later {
+        printer.set_async_mode(true)?;
+    }
+    printer.print_normal(PrinterStation::Receipt, bytes_of(digits))?;
     Ok("ok".to_string())
+}
+
+/// Delivers all events of a control, each with the reply ER_CLEAR: how many were ErrorEvents.
+fn reply(printer: &PosPrinter<'_>) -> Result<String, Error> {
+    let mut count = 0;
+    while let Some(event) = printer.next_event_replied(ErrorReply::Clear)? {
+        count += u32::from(matches!(event, Event::Error(_)));
+    }
+    Ok(count.to_string())
 }
 
 fn obey<'t>(till: &'t Till, printer: &mut Option<PosPrinter<'t>>, line: &str) -> Result<String, Error> {
@@ -222,7 +243,14 @@ fn obey<'t>(till: &'t Till, printer: &mut Option<PosPrinter<'t>>, line: &str) ->
             .driver_state(words.0[0])
             .map(|state| format!("{} {}", if state.is_online { "online" } else { "offline" }, state.late_orders)),
         "lines" => till.carry_out(rest.replace(';', "\n")).map(|answers| answers.replace('\n', ";")),
-        "print" => print(till, printer, rest),
+        "print" | "later" => print(control(till, printer)?, rest, verb == "later"),
+        "clear" => control(till, printer)?.clear_output().map(|()| "ok".to_string()),
+        "release" => control(till, printer)?.release().map(|()| "ok".to_string()),
+        "close" => {
+            *printer = None;
+            Ok("ok".to_string())
+        }
+        "reply" => reply(control(till, printer)?),
         "host" => till.host(rest).map(|()| "ok".to_string()),
         "tear" => till.tear_off(rest).map(|()| "ok".to_string()),
         "memory" => Ok(refuse_memory(&words)),

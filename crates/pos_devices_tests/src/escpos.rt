@@ -1,5 +1,5 @@
 //! The bytes of receipts, rows and replies: that the definitions are those of the devices.
-use crate::{
+use pos_escpos::{
     BytesFault, CutSettings, Cutter, DisplayProtocol, DrawerKick, DrawerPin, LineSettings,
     NowStatus, OrderStatus, PrinterReply, ReplyReader, SensorSettings, SentReceipt, blank_cells,
     display_start_bytes, drawer_inputs, job_bytes, printer_inputs, receipt_bytes, rows_bytes,

@@ -1,11 +1,13 @@
 //! What devices get for orders, and what is read of their replies: that the definitions are those of the devices.
-use crate::{AwaitedReply, JobEnd, WireFault, WireSettings, order_bytes, read_reply, reply_text};
+use crate::driven::text;
 use pos_escpos::{NowStatus, OrderStatus, PrinterReply};
-use pos_service::display_text::Attribute;
 use pos_service::{
     Bytes, Input, Kind, NoMemory, Order, PaperLevel, Peripheral, Reply, Signs, Snapshot, Taken,
 };
 use pos_sims::{PlainDisplay, PlainDrawer, PrintPreview, Roll, RollPrinter};
+use pos_wire::{
+    AwaitedReply, JobEnd, WireFault, WireSettings, order_bytes, read_reply, reply_text,
+};
 use std::alloc::Global;
 use std::test::Fail;
 
@@ -73,16 +75,6 @@ fn print(alloc: Global, bytes: &[u8]) -> Result<Order, NoMemory> {
     })
 }
 
-/// Returns a text in the second row.
-fn text(alloc: Global, bytes: &[u8]) -> Result<Order, NoMemory> {
-    Ok(Order::ShowText {
-        row: 1,
-        column: 0,
-        attribute: Attribute::Normal,
-        bytes: Bytes::from_slice(alloc, bytes)?,
-    })
-}
-
 #[test]
 fn a_printer_gets_what_its_order_adds(rt: HostRuntime) -> Result<(), Fail> {
     let alloc = rt.alloc();
@@ -127,8 +119,8 @@ fn a_display_gets_the_rows_that_change(rt: HostRuntime) -> Result<(), Fail> {
     let mut display = Silent {
         inner: PlainDisplay::new(alloc, 3, 4)?,
     };
-    let _ = display.ask(&text(alloc, b"Milk")?);
-    let order = text(alloc, b"\nTea")?;
+    let _ = display.ask(&text(alloc, 1, b"Milk")?);
+    let order = text(alloc, 1, b"\nTea")?;
     let bytes = order_bytes(alloc, &SETTINGS, false, JobEnd::Job(1), &display, &order)?;
     assert!(rt; bytes.as_slice() == b"\x1F$\x01\x03Tea ".as_slice());
     let bytes = order_bytes(alloc, &SETTINGS, true, JobEnd::Nothing, &display, &order)?;
