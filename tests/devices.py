@@ -674,7 +674,7 @@ def try_given_up():
             till.drive("r1", driver := EscPosPrinter(device.path, timeout=TIMEOUT, pause=PAUSE))
             shop.control.claim()
             shop.control.device_enabled = True
-            device.after(3, lambda: device.cover(True))
+            device.after_characters(3, lambda: device.cover(True))
             told(f"{name}: the order fails", (114, 201), raised(shop.control.print, TEXT))
             does(shop)
             device.cover(False)

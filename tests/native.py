@@ -607,8 +607,7 @@ def is_late(shop):
 
 def opens_cover_within(shop):
     """Opens the cover in the first line of the next order."""
-    shop.device.wait(lambda: shop.device.is_idle)
-    shop.device.after(10, lambda: shop.device.cover(True))
+    shop.device.after_characters(5, lambda: shop.device.cover(True))
 
 
 def try_given_up():

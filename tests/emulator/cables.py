@@ -9,6 +9,14 @@ import time
 import tty
 
 
+def count_unread(file):
+    """How many bytes have come to a file that nobody has read."""
+    try:
+        return int.from_bytes(fcntl.ioctl(file, termios.FIONREAD, bytes(4)), "little")
+    except OSError:
+        return 0
+
+
 class PtyCable:
     """A pseudo terminal. `path` is a symbolic link to it, which is there only while the device is on, as that of a USB
     printer. With `hangs_up` false it is a serial line: it stays when the device goes off, and nothing answers. With
@@ -45,8 +53,11 @@ class PtyCable:
         while self._slave is not None and time.monotonic() < end and quiet < 5:
             # What was written takes a moment until it counts as there to be read.
             time.sleep(0.001)
-            left = int.from_bytes(fcntl.ioctl(self._slave, termios.FIONREAD, bytes(4)), "little")
-            quiet = 0 if left else quiet + 1
+            quiet = 0 if count_unread(self._slave) else quiet + 1
+
+    def waiting(self):
+        """How many bytes the host has sent that weren't read."""
+        return 0 if self._master is None else count_unread(self._master)
 
     def files(self):
         """The files to wait for bytes of."""
@@ -110,6 +121,9 @@ class TcpCable:
         with contextlib.suppress(OSError, AttributeError):
             while self._host.recv(65536):
                 pass
+
+    def waiting(self):
+        return 0 if self._host is None else count_unread(self._host)
 
     def drop(self):
         """Ends the connection; the device goes on."""

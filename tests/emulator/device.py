@@ -123,9 +123,9 @@ class Device:
 
     @property
     def is_idle(self):
-        """Whether it has worked off all that it got."""
+        """Whether it has worked off all that it got, and nothing is on its cable that it would take."""
         with self.lock:
-            return not self._got
+            return not self._got and not (self.is_on and self.may_hear() and self.cable.waiting())
 
     def wait(self, condition, seconds=5.0):
         """Waits until a condition holds, and says whether it does."""

@@ -54,9 +54,16 @@ class Printer(Device):
         # Up to which place the host knows what is printed, and up to which the last acknowledgement was that was lost.
         self._known = self._lost = 0
         self.is_short = False
+        # How many characters it has put into lines, and what is to be done after how many.
+        self._characters, self._marks = 0, []
         self.forget()
 
     # What happens to it.
+
+    def after_characters(self, count, *actions):
+        """Does something once the printer has put so many more characters into a line. Commands don't count."""
+        with self.lock:
+            self._marks.append((self._characters + count, actions))
 
     def cover(self, is_open):
         """Opens or closes the cover. Nothing is printed while it is open; what the printer got stays."""
@@ -210,7 +217,7 @@ class Printer(Device):
             if command[0] >= 0x20:
                 if len(self._line) == self.columns:
                     self._ends_line()
-                self._line.append((command[0], self._is_bold))
+                self._puts(command[0])
         elif command[0] == ESC:
             self._obeys_escape(command)
         elif command[0] == GS:
@@ -247,6 +254,15 @@ class Printer(Device):
             self._acknowledges(bytes([paper if command[2] in (1, 0x31) else self.is_drawer_open]))
         elif not self.is_simple and command[1] == 0x28 and command[2] == 0x48 and command[3:7] == b"\x06\x00\x30\x30":
             self._acknowledges(b"\x37\x22" + command[7:11] + b"\0")
+
+    def _puts(self, character):
+        """Puts a character into the line, and does what was to be done then."""
+        self._line.append((character, self._is_bold))
+        self._characters += 1
+        due = [actions for count, actions in self._marks if count <= self._characters]
+        self._marks = [mark for mark in self._marks if mark[0] > self._characters]
+        for action in (action for actions in due for action in actions):
+            action()
 
     def _ends_line(self):
         characters = bytes(byte for byte, _ in self._line)
