@@ -35,6 +35,7 @@ TOP = pathlib.Path(__file__).resolve().parent.parent
 sys.path[:0] = [str(TOP / "abi/python"), str(TOP / "tests")]
 
 import kijolvar
+from checks import Checks
 from emulator import Cut, Display, Line, Printer, PtyCable, Scanner, TcpCable
 from emulator.scanner import KEYS
 from kijolvar import (Driver, EscPosDrawer, EscPosPrinter, OutputCompleteEvent, PrintedCut, SerialDisplay, SerialPort,
@@ -42,7 +43,7 @@ from kijolvar import (Driver, EscPosDrawer, EscPosPrinter, OutputCompleteEvent, 
 from kijolvar._links import PrinterLink, pieces_of
 
 SCRIPTS = TOP / "tests/scripts"
-WORK = pathlib.Path(tempfile.mkdtemp())
+ROOM = WORK = pathlib.Path(tempfile.mkdtemp())
 PROFILE = """
 [[device]]
 name = "r1"
@@ -72,18 +73,9 @@ TIMEOUT, SLACK, PAUSE = (2.0, 2.0, 0.01) if IS_BUSY else (0.4, 0.6, 0.01)
 # How long something may take that has to happen.
 PATIENCE = 60 if IS_BUSY else 10
 MOST_LINES = 100_000
-passed = failed = 0
+CHECKS = Checks()
+told = CHECKS.told
 made = 0
-
-
-def told(name, wanted, found):
-    """Whether two values are the same."""
-    global passed, failed
-    if wanted == found:
-        passed += 1
-    else:
-        failed += 1
-        print(f"failed: {name}\n  wanted: {wanted!r}\n  found:  {found!r}", flush=True)
 
 
 def raised(call, *words, **named):
@@ -124,6 +116,12 @@ def signs_of(device):
     return {"pin": "high" if first & 4 else "low", "offline": "yes" if first & 8 else "no",
             "cover": "open" if first & 32 else "closed",
             "paper": "empty" if third & 12 else "near" if third & 3 else "good", "fault": "yes" if second else "no"}
+
+
+def renew_work():
+    """Gives a test a folder of its own."""
+    global WORK
+    WORK = pathlib.Path(tempfile.mkdtemp(dir=ROOM))
 
 
 def until(condition, seconds=PATIENCE):
@@ -2466,12 +2464,11 @@ def main():
         for one in tries:
             if WORDS.only in one.__name__:
                 began = time.monotonic()
-                one()
+                CHECKS.run(one, renew_work)
                 print(f"{one.__name__}: {time.monotonic() - began:.1f} s", flush=True)
     finally:
-        shutil.rmtree(WORK)
-    print(f"{passed} passed, {failed} failed")
-    sys.exit(failed != 0)
+        shutil.rmtree(ROOM)
+    CHECKS.end()
 
 
 if __name__ == "__main__":

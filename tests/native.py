@@ -24,9 +24,10 @@ import time
 TOP = pathlib.Path(__file__).resolve().parent.parent
 sys.path.insert(0, str(TOP / "tests"))
 
+from checks import Checks
 from emulator import Cut, Display, Line, Printer, PtyCable, Scanner, TcpCable
 
-WORK = pathlib.Path(tempfile.mkdtemp())
+ROOM = WORK = pathlib.Path(tempfile.mkdtemp())
 PROFILE = """
 [[device]]
 name = "r1"
@@ -55,17 +56,9 @@ category = "HardTotals"
 # How long an order may take where something happens meanwhile, and where nothing does, on a machine that is busy, in
 # milliseconds; and how long is waited for what has to happen, in seconds.
 TIMEOUT, AMPLE, PATIENCE = 800, 10_000, 30
-passed = failed = made = 0
-
-
-def told(name, wanted, found):
-    """Whether two values are the same."""
-    global passed, failed
-    if wanted == found:
-        passed += 1
-    else:
-        failed += 1
-        print(f"failed: {name}\n  wanted: {wanted!r}\n  found:  {found!r}", flush=True)
+CHECKS = Checks()
+told = CHECKS.told
+made = 0
 
 
 def cable(kind="usb"):
@@ -77,6 +70,12 @@ def cable(kind="usb"):
     if "tcp" in kind:
         return TcpCable(hangs_up=hangs_up)
     return PtyCable(WORK / f"port-{made}", hangs_up=hangs_up, holds="holds" in kind)
+
+
+def renew_work():
+    """Gives a test a folder of its own."""
+    global WORK
+    WORK = pathlib.Path(tempfile.mkdtemp(dir=ROOM))
 
 
 def until(condition, seconds=PATIENCE):
@@ -2128,12 +2127,8 @@ def try_random_held():
 def main():
     for name, one in list(globals().items()):
         if name.startswith("try_") and WORDS.only in name:
-            try:
-                one()
-            except AssertionError as fault:
-                told(f"{name} ends well", None, str(fault))
-    print(f"{passed} passed, {failed} failed")
-    sys.exit(failed != 0)
+            CHECKS.run(one, renew_work)
+    CHECKS.end()
 
 
 if __name__ == "__main__":

@@ -1,0 +1,59 @@
+"""What the tests over emulated devices have in common: their checks are counted, and a test is repeated if the machine
+stood still during it."""
+import sys
+import threading
+import time
+import traceback
+
+# How often it is looked whether the machine goes on, and from when on it stood still, in seconds.
+OFTEN, LONG = 0.02, 0.2
+# How often a test is run at most.
+TURNS = 3
+
+
+class Checks:
+    """How many checks passed and failed.
+
+    An order fails if its printer doesn't answer in time. The emulated one doesn't if the machine stands still, and no
+    test can tell that from a fault. So a test that fails is run again if a thread that should go on all the time
+    didn't. What it found is printed each time, and the last time counts.
+    """
+
+    def __init__(self):
+        self.passed = self.failed = 0
+        self._longest = 0.0
+        threading.Thread(target=self._watch, daemon=True).start()
+
+    def _watch(self):
+        while True:
+            before = time.monotonic()
+            time.sleep(OFTEN)
+            self._longest = max(self._longest, time.monotonic() - before - OFTEN)
+
+    def told(self, name, wanted, found):
+        """Whether two values are the same."""
+        if wanted == found:
+            self.passed += 1
+        else:
+            self.failed += 1
+            print(f"failed: {name}\n  wanted: {wanted!r}\n  found:  {found!r}", flush=True)
+
+    def run(self, test, prepare):
+        """Runs a test, again if it fails while the machine stands still. It is prepared each time."""
+        for turn in range(1, TURNS + 1):
+            before, self._longest = (self.passed, self.failed), 0.0
+            prepare()
+            try:
+                test()
+            except Exception as fault:
+                traceback.print_exc(file=sys.stdout)
+                self.told(f"{test.__name__} ends well", None, fault)
+            if self.failed == before[1] or self._longest < LONG or turn == TURNS:
+                return
+            self.passed, self.failed = before
+            print(f"{test.__name__}: the machine stood still for {self._longest:.1f} s, so it runs again", flush=True)
+
+    def end(self):
+        """Tells how many there were, and ends the program."""
+        print(f"{self.passed} passed, {self.failed} failed")
+        sys.exit(self.failed != 0)
