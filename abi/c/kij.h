@@ -293,7 +293,7 @@ kij_result kij_new(kij_till *till, kij_category category, const char *name, kij_
 kij_result kij_start(kij_till *till, kij_category category, const char *device, int claiming, kij_control **control);
 
 /** Closes a control if it is open, and gives it back to its till, which may hand it out again. Don't use it afterwards.
- * One that can't be closed, as without memory, stays as it is, and isn't handed out. */
+ * One that can't be closed, as without memory, is closed by a later call on a control, and isn't handed out before. */
 void kij_discard(kij_control *control);
 
 /** Returns the control's name in lines of the text interface. It stays as long as the control. */

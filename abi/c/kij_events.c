@@ -87,7 +87,8 @@ kij_result kij_next_event(kij_control *control, kij_event *event) { return deliv
 static kij_control *control_of(kij_till *till, size_t number) {
     kij_control *control = till->first;
     while (control != NULL && control->number < number) control = control->next;
-    return control != NULL && control->number == number && !control->is_free ? control : NULL;
+    if (control == NULL || control->number != number) return NULL;
+    return control->is_free || control->is_unclosed ? NULL : control;
 }
 
 /* Finds the first control, from a number on, that has an event to deliver; null is none. */

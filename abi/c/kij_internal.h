@@ -33,6 +33,8 @@ struct kij_till {
     struct kij_drives *drives;
     /* Whether lines of an earlier call are held, since there was no memory to go on with them. */
     bool is_holding;
+    /* Whether a control was given back that couldn't be closed. */
+    bool has_unclosed;
 };
 
 /* A word of a line. All but verbs begin with the space before them. There is room behind it, so that a fixed number of
@@ -72,8 +74,10 @@ struct kij_control {
     kij_category category;
     /* The library's number of it. */
     size_t number;
-    /* Whether it was given back, and may be handed out again; and whether its name was chosen. */
+    /* Whether it was given back, and may be handed out again, or is to be closed first; and whether its name was chosen.
+     */
     bool is_free;
+    bool is_unclosed;
     bool is_named;
     kij_word name;
 };
@@ -162,6 +166,9 @@ int kij_internal_settled(kij_till *till, uint32_t code, size_t *needed);
 /* Ends lines of an earlier call that are held: their orders failed, and nobody wants the answer. Without memory some
    are held still. */
 void kij_internal_give_up(kij_till *till);
+
+/* Closes the controls that were given back and couldn't be closed, in a call that has begun. */
+void kij_internal_close_given_back(kij_till *till);
 
 /* Adds arguments to the line, which goes to `*at`: a code. Four that aren't bytes have room behind the words. */
 int kij_internal_add_arguments(kij_till *till, char **at, const kij_argument *arguments, size_t count);

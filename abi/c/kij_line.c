@@ -304,6 +304,7 @@ kij_result kij_internal_call(kij_control *control, kij_verb verb, const kij_word
     kij_till *till = control->till;
     kij_result result = kij_internal_result(kij_internal_enter(till), 0, control->category);
     if (result.code != KIJ_OK) return result;
+    if (till->has_unclosed) kij_internal_close_given_back(till);
     result.code = kij_internal_run(till, verb, &control->name, method, arguments, count);
     if (result.code == KIJ_OK) {
         char *text = till->text;

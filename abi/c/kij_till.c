@@ -258,6 +258,7 @@ kij_result kij_new(kij_till *till, kij_category category, const char *name, kij_
         return kij_internal_result(KIJ_BAD_ARGUMENT, 0, category);
     int code = kij_internal_enter(till);
     if (code != KIJ_OK) return kij_internal_result(code, 0, category);
+    if (till->has_unclosed) kij_internal_close_given_back(till);
     kij_result result = kij_internal_result(KIJ_OK, 0, category);
     kij_control *found = free_control(till, category, name == NULL ? NULL : &word);
     if (found == NULL) result = made_control(till, category, name == NULL ? NULL : &word, &found);
@@ -283,11 +284,28 @@ kij_result kij_start(kij_till *till, kij_category category, const char *device, 
     return result;
 }
 
+/* Whether a control is closed, by what closing it came to. */
+static bool is_closed(int code) { return code == KIJ_OK || code == KIJ_E_CLOSED || code == KIJ_NO_ANSWER; }
+
+void kij_internal_close_given_back(kij_till *till) {
+    char *value;
+    till->has_unclosed = false;
+    for (kij_control *control = till->first; control != NULL; control = control->next) {
+        if (!control->is_unclosed) continue;
+        int code = kij_internal_run(till, KIJ_VERB_CLOSE, &control->name, NULL, NULL, 0);
+        if (code == KIJ_OK) code = kij_internal_answer(till, control->category, &value).code;
+        control->is_free = is_closed(code);
+        control->is_unclosed = !control->is_free;
+        till->has_unclosed |= control->is_unclosed;
+    }
+}
+
 void kij_discard(kij_control *control) {
     if (control == NULL) return;
-    /* One that can't be closed, as without memory, is open and may be claimed still: nobody else may get it. */
-    int code = kij_control_close(control).code;
-    control->is_free = code == KIJ_OK || code == KIJ_E_CLOSED;
+    control->is_free = is_closed(kij_control_close(control).code);
+    /* One that can't be closed, as without memory, may be claimed still: nobody else gets it, and it is closed later. */
+    control->is_unclosed = !control->is_free;
+    control->till->has_unclosed |= control->is_unclosed;
 }
 
 const char *kij_name(const kij_control *control) { return control->name.text + 1; }

@@ -42,7 +42,7 @@ static int no_lines, no_line, no_report, no_scan, no_power, no_close;
    a display that nobody knows; and what was done. */
 static size_t cut_at, order_size = 5;
 static bool was_new;
-static int noted, scans, drives;
+static int noted, scans, drives, closed;
 /* An order of another device, which is the host's, or null. */
 static const char *others_order;
 
@@ -71,9 +71,12 @@ static const char *print_line(const char *line) {
         }
         is_off = true;
     }
-    if (strncmp(line, "close ", 6) == 0 && no_close > 0) {
-        no_close--;
-        return "memory";
+    if (strncmp(line, "close ", 6) == 0) {
+        if (no_close == 0) closed++;
+        else {
+            no_close--;
+            return "memory";
+        }
     }
     /* What is attached is simulated, until it is driven. */
     if (strncmp(line, "attach p1 ", 10) == 0) is_driven = false;
@@ -655,18 +658,23 @@ static void try_attached(void) {
     closes(&self);
 }
 
-/* A control that can't be closed isn't given to anybody else. */
+/* A control that can't be closed isn't given to anybody else, and is closed as soon as it can be. */
 static void try_discard(void) {
     shop self;
     kij_control *first, *second, *third;
     opens(&self, false);
     told("a control", KIJ_OK, kij_new(self.till, KIJ_LINE_DISPLAY, NULL, &first).code);
-    no_close = 1;
+    no_close = 2;
     kij_discard(first);
     told("another one", KIJ_OK, kij_new(self.till, KIJ_LINE_DISPLAY, NULL, &second).code);
     told("it isn't the first", false, first == second);
-    kij_discard(second);
+    told("it couldn't be closed", 0, no_close);
+    told("a call closes it", KIJ_OK, kij_control_claim(second, 0).code);
+    told("how many were closed", 1, closed);
     told("a third one", KIJ_OK, kij_new(self.till, KIJ_LINE_DISPLAY, NULL, &third).code);
+    told("it is the first", true, first == third);
+    kij_discard(second);
+    told("a fourth one", KIJ_OK, kij_new(self.till, KIJ_LINE_DISPLAY, NULL, &third).code);
     told("it is the second", true, second == third);
     closes(&self);
 }

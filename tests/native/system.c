@@ -545,6 +545,36 @@ static void try_room(const char *path, const char *other) {
     else printf("this file system doesn't say which room a file has\n");
 }
 
+/* A driver that gives a control back in a call, in which it can't be closed. */
+static bool gives_back(void *control, const kij_order *order) {
+    (void)order;
+    kij_discard((kij_control *)control);
+    return true;
+}
+
+/* A control that was given back while it couldn't be closed has no events any more, and keeps no device claimed. */
+static void try_given_back(void) {
+    kij_till *till = NULL;
+    kij_control *printer = NULL, *drawer = NULL;
+    kij_event event;
+    kij_driver driver;
+    memset(&driver, 0, sizeof driver);
+    driver.category = KIJ_CASH_DRAWER;
+    driver.carry_out = gives_back;
+    told("a till", KIJ_OK, kij_open(NULL, NULL, KIJ_EXISTING, &till).code);
+    told("a printer", KIJ_OK, kij_start(till, KIJ_POS_PRINTER, "r1", KIJ_CLAIMED, &printer).code);
+    told("a driver", KIJ_OK, kij_driver_open(till, "d1", &driver, printer).code);
+    told("a drawer", KIJ_OK, kij_start(till, KIJ_CASH_DRAWER, "d1", KIJ_UNCLAIMED, &drawer).code);
+    told("its order", KIJ_OK, kij_drawer_open(drawer).code);
+    told("the cover is opened", KIJ_OK, kij_input_cover(till, "r1", true).code);
+    do {
+        told("an event", KIJ_OK, kij_next_event_of_any(till, &event).code);
+        told("it isn't that of the printer", false, event.control == printer);
+    } while (event.kind != KIJ_NO_EVENT && failed == 0);
+    told("the printer again", KIJ_OK, kij_start(till, KIJ_POS_PRINTER, "r1", KIJ_CLAIMED, &printer).code);
+    kij_close(till);
+}
+
 /* A pipe that nobody writes is no file of totals, and isn't waited for. */
 static void try_pipe(const char *path) {
     size_t needed = 0;
@@ -581,6 +611,7 @@ int main(int count, char **words) {
     try_addresses();
     try_patience();
     try_empty();
+    try_given_back();
     try_totals(path);
     snprintf(forked, sizeof forked, "%s/totals-without-room", words[1]);
     try_disk_error(forked, &write_fault, ENOSPC);
