@@ -26,6 +26,9 @@
 /* How long a name isn't looked up again, in milliseconds. */
 static const int64_t rarely = 60000;
 
+/* The characters by which a serial line says that it can take more, and that it can't. */
+enum { XON = 0x11, XOFF = 0x13 };
+
 /* How often the other end of a connection is asked whether it is there while nothing is sent, in seconds, and how long
    it may take to acknowledge what was sent, in milliseconds. */
 enum { ASKED_EVERY = 10, ACKNOWLEDGED_WITHIN = 60000 };
@@ -110,7 +113,7 @@ static int set_up(int file, const kij_serial_settings *serial) {
     found.c_cc[VMIN] = 1;
     found.c_cc[VTIME] = 0;
     if (serial != NULL) {
-        found.c_cflag &= ~(tcflag_t)(CSIZE | PARENB | PARODD | CSTOPB | CRTSCTS);
+        found.c_cflag &= ~(tcflag_t)(CSIZE | PARENB | PARODD | CMSPAR | CSTOPB | CRTSCTS);
         found.c_cflag |= serial->bits == 8 ? CS8 : CS7;
         if (serial->parity != KIJ_PARITY_NONE) {
             found.c_cflag |= PARENB;
@@ -119,7 +122,12 @@ static int set_up(int file, const kij_serial_settings *serial) {
         if (serial->parity == KIJ_PARITY_ODD) found.c_cflag |= PARODD;
         if (serial->stops == 2) found.c_cflag |= CSTOPB;
         if (serial->flow == KIJ_FLOW_RTS_CTS) found.c_cflag |= CRTSCTS;
-        if (serial->flow == KIJ_FLOW_XON_XOFF) found.c_iflag |= IXON | IXOFF;
+        if (serial->flow == KIJ_FLOW_XON_XOFF) {
+            found.c_iflag |= IXON | IXOFF;
+            /* A program that had the line before may have left it others, or none. */
+            found.c_cc[VSTART] = XON;
+            found.c_cc[VSTOP] = XOFF;
+        }
         cfsetispeed(&found, speed_of(serial->speed));
         cfsetospeed(&found, speed_of(serial->speed));
     }

@@ -126,6 +126,27 @@ static void try_line_settings(void) {
     close(other);
 }
 
+/* A line with XON/XOFF has their characters, and no parity but its own, whatever another program has left. */
+static void try_left_settings(void) {
+    kij_port port;
+    struct termios found;
+    int other = open_line(&port), line = open(port.name, O_RDWR | O_NOCTTY | O_CLOEXEC);
+    kij_internal_port_close(&port);
+    told("what a program leaves", 0, tcgetattr(line, &found));
+    found.c_cc[VSTART] = found.c_cc[VSTOP] = 0;
+    found.c_cflag |= CMSPAR;
+    told("it is set", 0, tcsetattr(line, TCSANOW, &found));
+    port.serial.flow = KIJ_FLOW_XON_XOFF;
+    told("the line is opened again", true, kij_internal_port_open(&port, 100));
+    told("its settings then", 0, tcgetattr(line, &found));
+    told("XON", 0x11, found.c_cc[VSTART]);
+    told("XOFF", 0x13, found.c_cc[VSTOP]);
+    told("no parity is stuck", 0, (long)(found.c_cflag & CMSPAR));
+    kij_internal_port_close(&port);
+    close(line);
+    close(other);
+}
+
 /* A line whose adapter is pulled out hasn't sent its bytes. */
 static void try_lost_line(void) {
     kij_port port;
@@ -596,6 +617,7 @@ int main(int count, char **words) {
     }
     snprintf(path, sizeof path, "%s/system-totals", words[1]);
     try_line_settings();
+    try_left_settings();
     try_lost_line();
     try_closing();
     snprintf(forked, sizeof forked, "%s/forked-totals", words[1]);
