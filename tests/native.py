@@ -712,6 +712,24 @@ def try_given_up_typed():
              until(lambda: shop.host.ask("run 10") and shop.paper() == PRINTED * 2))
 
 
+def try_given_up_and_released():
+    """Output that failed, and is given up by the reply to its ErrorEvent, whose listener has released the control."""
+    with contextlib.ExitStack() as stack:
+        shop = Shop(stack, is_claimed=False, timeout=AMPLE)
+        told("output waits", "ok", shop.host.ask(f"later {TEXT.hex()}"))
+        opens_cover_within(shop)
+        told("it is tried", "true", shop.host.ask("run 0"))
+        released = shop.host.ask("drop")
+        if released == "not understood":
+            return
+        told("it fails, and is given up", "1", released)
+        shop.device.cover(False)
+        told("it comes out late", True, until(lambda: shop.host.ask("run 10") and shop.late() == "1"))
+        told("its control is closed", "ok", shop.host.ask("close"))
+        told("the same is a new order", "ok", shop.host.ask(f"print {TEXT.hex()}"))
+        told("it is on the paper twice", PRINTED * 2, shop.paper())
+
+
 def try_drawer():
     """The drawer on the printer's connector: its pulse, its sensor, and what the printer's trouble is for it."""
     for kind in ("usb", "asked"):

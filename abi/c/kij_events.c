@@ -123,15 +123,26 @@ kij_result kij_next_event_replied(kij_control *control, kij_reply reply, kij_eve
     return deliver(control, word_of(reply), event);
 }
 
+/* Gives up what printers didn't print, though their control has nothing left to clear. */
+static kij_result give_up(kij_till *till) {
+    int code = kij_internal_enter(till);
+    if (code == KIJ_OK) {
+        kij_internal_forget_orders(till);
+        kij_internal_leave(till);
+    }
+    return kij_internal_result(code, 0, KIJ_NO_CATEGORY);
+}
+
 /* The default reply leaves what is held or waits where it is, at EL_OUTPUT and EL_INPUT_DATA. So ER_CLEAR is
    clearOutput or clearInput after it. A control that was closed or released meanwhile has nothing left to clear. */
 kij_result kij_reply_to(const kij_event *event, kij_reply reply) {
     kij_result done = kij_internal_result(KIJ_OK, 0, KIJ_NO_CATEGORY);
     if (event == NULL) return kij_internal_result(KIJ_BAD_ARGUMENT, 0, KIJ_NO_CATEGORY);
     if (event->kind != KIJ_ERROR_EVENT || reply != KIJ_ER_CLEAR || event->locus == KIJ_EL_INPUT) return done;
-    kij_result result = event->locus == KIJ_EL_OUTPUT ? kij_printer_clear_output(event->control)
-                                                      : kij_scanner_clear_input(event->control);
+    bool is_output = event->locus == KIJ_EL_OUTPUT;
+    kij_result result = is_output ? kij_printer_clear_output(event->control) : kij_scanner_clear_input(event->control);
     bool is_gone = result.code == KIJ_E_CLOSED || result.code == KIJ_E_CLAIMED || result.code == KIJ_E_NOTCLAIMED;
+    if (is_gone && is_output) return give_up(event->control->till);
     return is_gone ? done : result;
 }
 

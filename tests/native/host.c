@@ -21,6 +21,7 @@
    release           it is released
    close             it is given back, and the next request makes another one
    reply             delivers the events of that control with the reply ER_CLEAR: how many of them were ErrorEvents
+   drop              delivers them, releases it at an ErrorEvent, and then replies ER_CLEAR: how many there were
    host DEVICE       kij_host
    order             kij_next_order: its device, or `none`
    tear DEVICE       kij_tear_off
@@ -305,6 +306,22 @@ static void reply(void) {
     answer(result, text);
 }
 
+/* A listener that releases the control whose output failed, and gives that up. */
+static kij_reply release_at_error(const kij_event *event, void *count) {
+    if (event->kind != KIJ_ERROR_EVENT) return KIJ_ER_DEFAULT;
+    ++*(int *)count;
+    (void)kij_control_release(event->control);
+    return KIJ_ER_CLEAR;
+}
+
+static void drop(void) {
+    char text[20];
+    int count = 0;
+    kij_result result = kij_pump(printer, release_at_error, &count);
+    snprintf(text, sizeof text, "%d", count);
+    answer(result, text);
+}
+
 static void order(void) {
     kij_order found;
     memset(&found, 0, sizeof found);
@@ -355,6 +372,7 @@ static void obey(char *line) {
     else if (strcmp(verb, "release") == 0) answer(kij_control_release(printer), "ok");
     else if (strcmp(verb, "close") == 0) puts(give_back());
     else if (strcmp(verb, "reply") == 0) reply();
+    else if (strcmp(verb, "drop") == 0) drop();
     else if (strcmp(verb, "host") == 0) answer(kij_host(till, word()), "ok");
     else if (strcmp(verb, "tear") == 0) answer(kij_tear_off(till, word()), "ok");
     else if (strcmp(verb, "attach") == 0) answer(attach(), "ok");
