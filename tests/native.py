@@ -730,6 +730,24 @@ def try_given_up_and_released():
         told("it is on the paper twice", PRINTED * 2, shop.paper())
 
 
+def try_behind_given_up():
+    """An order behind what a slow printer still prints of one that was given up has its timeout again with each line."""
+    lines = [b"Line %d" % number for number in range(20)]
+    with contextlib.ExitStack() as stack:
+        shop = Shop(stack, timeout=2500)
+        shop.device.slow(0.25)
+        opens_cover_within(shop)
+        told("a long order fails", "err 114 201", shop.print(b"\n".join(lines) + b"\n"))
+        told("it is given up", "ok", shop.host.line("call r clearOutput"))
+        shop.device.cover(False)
+        told("the printer goes on", True, shop.settle())
+        began = time.monotonic()
+        told("an order behind it", "ok", shop.print(b"Other\n"))
+        told("it takes longer than the timeout", True, time.monotonic() - began > 2.5)
+        told("all is printed", [*lines, b"Other"], [item[1] for item in shop.paper()])
+        told("the first one was late", "1", shop.late())
+
+
 def try_drawer():
     """The drawer on the printer's connector: its pulse, its sensor, and what the printer's trouble is for it."""
     for kind in ("usb", "asked"):

@@ -290,16 +290,15 @@ static void print(kij_link *link, const kij_parcel *parcel) {
         if (parcel->is_last && parcel->is_once) link->late++;
         return;
     }
-    if (parcel->to > job->done) {
-        job->done = parcel->to;
-        link->ends_at = kij_internal_now() + link->timeout;
-    }
+    if (parcel->to > job->done) job->done = parcel->to;
     if (parcel->is_last) job->is_done = true;
 }
 
 /* The parcel at this place is printed. Those before it are printed or lost, and nothing says which: any port may stay
-   while the printer is off, as that of a print server does. */
+   while the printer is off, as that of a print server does. The order that is out waits for each of them, also for those
+   of an order before it, so that it has the whole timeout again. */
 static void acknowledge(kij_link *link, size_t last) {
+    link->ends_at = kij_internal_now() + link->timeout;
     for (size_t left = last + 1; left > 0; left--) {
         kij_parcel parcel = link->due[0];
         kij_job *job = job_of(link, parcel.job);
