@@ -748,6 +748,38 @@ def try_behind_given_up():
         told("the first one was late", "1", shop.late())
 
 
+class FewAnswers(Printer):
+    """A printer that falls silent once it has acknowledged so many pieces."""
+
+    left = None
+
+    def _acknowledges(self, answer):
+        super()._acknowledges(answer)
+        self.left = None if self.left is None else self.left - 1
+        if self.left == 0:
+            self.hang()
+
+
+def try_late_answer():
+    """A printer that is asked, takes nothing while its cover is open, and then acknowledges what counts for nothing any
+    more: that isn't taken for a line that is sent again."""
+    with contextlib.ExitStack() as stack:
+        shop = Shop(stack, "asked holds", timeout=AMPLE, made=FewAnswers)
+        device, text = shop.device, b"One\nTwo\n"
+        device.after_characters(2, lambda: device.cover(True))
+        told("the cover is opened in a line", "err 111", shop.print(text))
+        device.slow(0.4)
+        # The line that had begun, and the same again.
+        device.left = 2
+        device.cover(False)
+        told("it isn't done before its last line is printed", "err", shop.print(text)[:3])
+        told("that wasn't printed", {b"One"}, {item.characters for item in device.receipt()})
+        device.slow(0)
+        device.hang(False)
+        told("it is done", True, until(lambda: shop.host.ask("run 10") and shop.print(text) == "ok"))
+        told("all is printed", {b"One", b"Two"}, {item[1] for item in shop.paper()})
+
+
 def try_drawer():
     """The drawer on the printer's connector: its pulse, its sensor, and what the printer's trouble is for it."""
     for kind in ("usb", "asked"):

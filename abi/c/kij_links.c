@@ -128,10 +128,10 @@ static size_t due_of(const kij_link *link, const kij_job *job) {
 
 static bool is_due(const kij_link *link, const kij_job *job) { return due_of(link, job) > 0; }
 
-/* Whether something of any order is due. */
+/* Whether something of any order is due, and counts. */
 static bool is_any_due(const kij_link *link) {
     for (size_t place = 0; place < link->due_count; place++)
-        if (link->due[place].job != 0) return true;
+        if (link->due[place].job != 0 && !link->due[place].is_torn) return true;
     return false;
 }
 
@@ -244,22 +244,30 @@ static void drop(kij_link *link) {
     }
 }
 
-/* What is due is lost. */
-static void lose_due(kij_link *link) {
+/* What is due counts for nothing. */
+static void tear_due(kij_link *link) {
     for (size_t place = 0; place < link->due_count; place++) {
         kij_job *job = job_of(link, link->due[place].job);
         if (job != NULL) job->is_torn = true;
+        link->due[place].is_torn = true;
     }
+}
+
+/* What is due is lost. */
+static void lose_due(kij_link *link) {
+    tear_due(link);
     link->due_count = 0;
 }
 
 /* The printer may have lost its power while its line held back the end of a piece, which it would print and acknowledge
-   as if it were whole. Nothing of what was sent counts any more, and the printer is asked whether it is there. */
+   as if it were whole. Nothing of what was sent counts any more, and the printer is asked whether it is there. Answers
+   without a number may come still, and mustn't count for what is sent next. */
 static void lose_sent(kij_link *link) {
     kij_internal_port_discard(&link->port);
     drop(link);
     link->out.size = link->out_sent = link->control_size = 0;
-    lose_due(link);
+    if (link->is_asked) tear_due(link);
+    else lose_due(link);
     link->was_silent = true;
     ask_now(link);
 }
