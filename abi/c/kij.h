@@ -265,8 +265,8 @@ kij_result kij_files(const char *path, char *text, size_t room, size_t *needed, 
  * Moves the totals in a file to layout 2, in place: their files stay, and may be more and longer from then on. A crash
  * at any moment leaves the files by one layout or the other, and you can move the file again.
  *
- * @return KIJ_MOVED, KIJ_DAMAGED, KIJ_UNFORMATTED, KIJ_TOO_SMALL, KIJ_NO_MEMORY, KIJ_WRONG_VERSION, KIJ_SYSTEM, or
- * KIJ_DISK_FAILED on failure
+ * @return KIJ_MOVED, KIJ_DAMAGED, KIJ_UNFORMATTED, KIJ_TOO_SMALL, KIJ_NO_MEMORY, KIJ_WRONG_VERSION, KIJ_DISK_FAILED, or
+ * KIJ_SYSTEM on failure, also with why the file couldn't be written
  */
 kij_result kij_migrate(const char *path);
 

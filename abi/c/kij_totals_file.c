@@ -78,11 +78,12 @@ static int open_over_file(kij_till *till, const uint8_t *profile, size_t size, b
     int why = kij_internal_read_file(till->file, till->errand, &length);
     if (why != 0) return why;
     uint32_t code = begin(profile, size, till->errand, length, &till->inner.at);
-    if (code == KIJOLVAR_OK && (code = kij_internal_settle(till)) != KIJOLVAR_OK) {
-        kijolvar_close(till->inner);
-        till->inner.at = NULL;
-    }
-    return -kij_internal_code_of(code);
+    if (code != KIJOLVAR_OK || kij_internal_settle(till) == KIJOLVAR_OK) return -kij_internal_code_of(code);
+    /* There is no till that could be asked why. */
+    why = errno;
+    kijolvar_close(till->inner);
+    till->inner.at = NULL;
+    return why;
 }
 
 /* What the library's code means to who opens a till. */

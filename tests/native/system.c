@@ -512,6 +512,12 @@ static void try_totals(const char *path) {
     write_fault = ENOSPC;
     open_totals("a full disk", path, KIJ_CREATE_NEW, KIJ_SYSTEM, ENOSPC);
     write_fault = 0;
+    open_totals("a file", path, KIJ_CREATE_NEW, KIJ_OK, 0);
+    write_fault = ENOSPC;
+    told("a move that the disk is too full for", ENOSPC, kij_migrate(path).extended);
+    write_fault = 0;
+    told("what couldn't be moved can be later", KIJ_OK, kij_migrate(path).code);
+    if (unlink(path) != 0) abort();
     is_partial = true;
     syncs = 0;
     open_totals("a file that is written in parts", path, KIJ_CREATE_NEW, KIJ_OK, 0);
