@@ -731,7 +731,7 @@ def try_given_up_and_released():
 
 
 def try_behind_given_up():
-    """An order behind what a slow printer still prints of one that was given up has its timeout again with each line."""
+    """An order behind one that was given up and is printed still: it has its timeout again with each of those lines."""
     lines = [b"Line %d" % number for number in range(20)]
     with contextlib.ExitStack() as stack:
         shop = Shop(stack, timeout=2500)

@@ -74,8 +74,7 @@ struct kij_control {
     kij_category category;
     /* The library's number of it. */
     size_t number;
-    /* Whether it was given back, and may be handed out again, or is to be closed first; and whether its name was chosen.
-     */
+    /* Whether it was given back and may be handed out again, or has to be closed first; whether its name was chosen. */
     bool is_free;
     bool is_unclosed;
     bool is_named;

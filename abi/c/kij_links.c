@@ -303,8 +303,8 @@ static void print(kij_link *link, const kij_parcel *parcel) {
 }
 
 /* The parcel at this place is printed. Those before it are printed or lost, and nothing says which: any port may stay
-   while the printer is off, as that of a print server does. The order that is out waits for each of them, also for those
-   of an order before it, so that it has the whole timeout again. */
+   while the printer is off, as that of a print server does. The order that is out waits for all of them, also for those
+   of an order before it, so it has the whole timeout again. */
 static void acknowledge(kij_link *link, size_t last) {
     link->ends_at = kij_internal_now() + link->timeout;
     for (size_t left = last + 1; left > 0; left--) {

@@ -303,7 +303,7 @@ void kij_internal_close_given_back(kij_till *till) {
 void kij_discard(kij_control *control) {
     if (control == NULL) return;
     control->is_free = is_closed(kij_control_close(control).code);
-    /* One that can't be closed, as without memory, may be claimed still: nobody else gets it, and it is closed later. */
+    /* One that can't be closed, as without memory, may be claimed still: it is closed later, and nobody gets it. */
     control->is_unclosed = !control->is_free;
     control->till->has_unclosed |= control->is_unclosed;
 }
