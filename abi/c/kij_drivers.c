@@ -1111,6 +1111,8 @@ static int open_port(kij_till *till, kij_drive *drive, const char *port, const k
     int code = drive->begun == NULL ? KIJ_NO_MEMORY : KIJ_OK;
     if (code == KIJ_OK) {
         kij_internal_port(&drive->port, name, serial, has_keys);
+        /* Without one of its bytes a code is another one. */
+        drive->port.keeps_faults = drive->category == KIJ_SCANNER;
         connect_port(drive, drive->timeout);
     }
     if (code == KIJ_OK && drive->category != KIJ_SCANNER) code = begin_drive(till, drive);

@@ -102,37 +102,43 @@ void kij_internal_port(kij_port *port, const char *name, const kij_serial_settin
     else port->kind = serial->is_serial || is_line_name(name) ? KIJ_PORT_SERIAL : KIJ_PORT_FILE;
 }
 
+/* Takes over how a serial line is set up. A byte whose parity is wrong is dropped, or reads as 0 where that is kept. As
+   a printer's answer a 0 would say that a line is printed, or that all is well. */
+static void take_settings(struct termios *found, const kij_port *port) {
+    const kij_serial_settings *serial = &port->serial;
+    found->c_cflag &= ~(tcflag_t)(CSIZE | PARENB | PARODD | CMSPAR | CSTOPB | CRTSCTS);
+    found->c_cflag |= serial->bits == 8 ? CS8 : CS7;
+    if (serial->parity != KIJ_PARITY_NONE) {
+        found->c_cflag |= PARENB;
+        found->c_iflag |= port->keeps_faults ? INPCK : INPCK | IGNPAR;
+    }
+    if (serial->parity == KIJ_PARITY_ODD) found->c_cflag |= PARODD;
+    if (serial->stops == 2) found->c_cflag |= CSTOPB;
+    if (serial->flow == KIJ_FLOW_RTS_CTS) found->c_cflag |= CRTSCTS;
+    if (serial->flow == KIJ_FLOW_XON_XOFF) {
+        found->c_iflag |= IXON | IXOFF;
+        /* A program that had the line before may have left it others, or none. */
+        found->c_cc[VSTART] = XON;
+        found->c_cc[VSTOP] = XOFF;
+    }
+    cfsetispeed(found, speed_of(serial->speed));
+    cfsetospeed(found, speed_of(serial->speed));
+}
+
 /* Sets up a terminal line, so that bytes pass as they are: 0 or errno. A break, as when a device is plugged in, is
-   ignored, and a byte whose parity is wrong reads as 0. */
-static int set_up(int file, const kij_serial_settings *serial) {
+   ignored. */
+static int set_up(int file, const kij_port *port) {
     struct termios found;
+    bool is_serial = port->kind == KIJ_PORT_SERIAL;
     if (tcgetattr(file, &found) != 0) return errno;
     found.c_iflag = IGNBRK;
     found.c_oflag = found.c_lflag = 0;
     found.c_cflag = (found.c_cflag & ~(tcflag_t)(CSIZE | PARENB)) | CS8 | CREAD | CLOCAL;
     found.c_cc[VMIN] = 1;
     found.c_cc[VTIME] = 0;
-    if (serial != NULL) {
-        found.c_cflag &= ~(tcflag_t)(CSIZE | PARENB | PARODD | CMSPAR | CSTOPB | CRTSCTS);
-        found.c_cflag |= serial->bits == 8 ? CS8 : CS7;
-        if (serial->parity != KIJ_PARITY_NONE) {
-            found.c_cflag |= PARENB;
-            found.c_iflag |= INPCK;
-        }
-        if (serial->parity == KIJ_PARITY_ODD) found.c_cflag |= PARODD;
-        if (serial->stops == 2) found.c_cflag |= CSTOPB;
-        if (serial->flow == KIJ_FLOW_RTS_CTS) found.c_cflag |= CRTSCTS;
-        if (serial->flow == KIJ_FLOW_XON_XOFF) {
-            found.c_iflag |= IXON | IXOFF;
-            /* A program that had the line before may have left it others, or none. */
-            found.c_cc[VSTART] = XON;
-            found.c_cc[VSTOP] = XOFF;
-        }
-        cfsetispeed(&found, speed_of(serial->speed));
-        cfsetospeed(&found, speed_of(serial->speed));
-    }
+    if (is_serial) take_settings(&found, port);
     if (tcsetattr(file, TCSANOW, &found) != 0) return errno;
-    return serial == NULL || tcflush(file, TCIOFLUSH) == 0 ? 0 : errno;
+    return !is_serial || tcflush(file, TCIOFLUSH) == 0 ? 0 : errno;
 }
 
 /* Sets up a device that was opened: 0 or errno. */
@@ -145,13 +151,12 @@ static int prepare(kij_port *port, int file) {
         if (S_ISCHR(found.stx_mode) && ioctl(file, EVIOCGRAB, 1) != 0 && errno != ENOTTY && errno != EINVAL)
             return errno;
         port->ends_empty = true;
-        return isatty(file) ? set_up(file, NULL) : 0;
+        return isatty(file) ? set_up(file, port) : 0;
     }
     if (S_ISREG(found.stx_mode)) return ENODEV;
     /* A printer on USB may send packets with nothing in them. */
     port->ends_empty = isatty(file) != 0;
-    if (!port->ends_empty) return 0;
-    return set_up(file, port->kind == KIJ_PORT_SERIAL ? &port->serial : NULL);
+    return port->ends_empty ? set_up(file, port) : 0;
 }
 
 /* Opens a device file: 0 or errno. */

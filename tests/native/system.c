@@ -104,7 +104,7 @@ static int open_line(kij_port *port) {
     return other;
 }
 
-/* A break is no byte, and one whose parity is wrong is a 0 byte, if a line has parity. */
+/* A break is no byte. One whose parity is wrong is none, too, or a 0 byte where that is kept, if a line has parity. */
 static void try_line_settings(void) {
     static char name[64];
     struct termios found;
@@ -112,17 +112,42 @@ static void try_line_settings(void) {
     int other = posix_openpt(O_RDWR | O_NOCTTY);
     serial.is_serial = true;
     if (other < 0 || grantpt(other) != 0 || unlockpt(other) != 0 || ptsname_r(other, name, sizeof name) != 0) abort();
-    for (int parity = KIJ_PARITY_NONE; parity <= KIJ_PARITY_ODD; parity++) {
+    for (int way = 0; way < 6; way++) {
         kij_port port;
-        serial.parity = (kij_parity)parity;
+        serial.parity = (kij_parity)(way % 3);
         kij_internal_port(&port, name, &serial, false);
+        port.keeps_faults = way >= 3;
         told("a line with this parity", true, kij_internal_port_open(&port, 100));
         told("its settings", 0, tcgetattr(port.file, &found));
         tcflag_t mask = IGNBRK | BRKINT | IGNPAR | PARMRK | INPCK | ISTRIP;
-        tcflag_t wanted = parity == KIJ_PARITY_NONE ? IGNBRK : IGNBRK | INPCK;
-        told("what it does with breaks and parity", (long)wanted, (long)(found.c_iflag & mask));
+        tcflag_t wanted = serial.parity == KIJ_PARITY_NONE ? 0 : way < 3 ? INPCK | IGNPAR : INPCK;
+        told("what it does with breaks and parity", (long)(IGNBRK | wanted), (long)(found.c_iflag & mask));
         kij_internal_port_close(&port);
     }
+    close(other);
+}
+
+/* What becomes of a disturbed byte: a scanner's code without one is another code, and a printer's answer must not turn
+   into another answer. */
+static void try_disturbed_bytes(void) {
+    static char name[64];
+    struct termios found;
+    kij_till *till = NULL;
+    kij_escpos_settings printer = KIJ_ESCPOS_SETTINGS;
+    kij_scanner_settings scanner = KIJ_SCANNER_SETTINGS;
+    int other = posix_openpt(O_RDWR | O_NOCTTY);
+    if (other < 0 || grantpt(other) != 0 || unlockpt(other) != 0 || ptsname_r(other, name, sizeof name) != 0) abort();
+    printer.serial.is_serial = scanner.serial.is_serial = true;
+    printer.serial.parity = scanner.serial.parity = KIJ_PARITY_EVEN;
+    printer.timeout = 1;
+    told("a till", KIJ_OK, kij_open(NULL, NULL, KIJ_EXISTING, &till).code);
+    told("a printer", KIJ_OK, kij_escpos_printer_open(till, "r1", name, &printer).code);
+    told("it is dropped", 0, tcgetattr(other, &found));
+    told("how", INPCK | IGNPAR, (long)(found.c_iflag & (INPCK | IGNPAR)));
+    told("a scanner", KIJ_OK, kij_wedge_scanner_open(till, "s1", name, &scanner).code);
+    told("it reads as 0", 0, tcgetattr(other, &found));
+    told("by what", INPCK, (long)(found.c_iflag & (INPCK | IGNPAR)));
+    kij_close(till);
     close(other);
 }
 
@@ -623,6 +648,7 @@ int main(int count, char **words) {
     }
     snprintf(path, sizeof path, "%s/system-totals", words[1]);
     try_line_settings();
+    try_disturbed_bytes();
     try_left_settings();
     try_lost_line();
     try_closing();
