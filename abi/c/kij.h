@@ -642,6 +642,8 @@ typedef struct kij_scanner_settings {
  * A serial line with flow control holds back what a printer without power doesn't take. After it has said nothing for 2
  * seconds, or for the timeout if that is shorter, an order over such a line fails. What it hasn't acknowledged by then
  * is sent again by a retry, once the printer answers, so that each line is whole on the paper; some may be there twice.
+ * With `is_asked` the next order waits first for an answer to what was sent before. If none comes for the timeout, it
+ * fails, and the one after it is sent.
  *
  * @param device   the name of a printer of the profile
  * @param port     /dev/usb/lp0, /dev/ttyUSB0, tcp:HOST or tcp:HOST:PORT (9100 if there is none). HOST had better be an
