@@ -1039,7 +1039,8 @@ def try_begun_late():
         time.sleep(0.1)
         told("nothing is printed", [], shop.paper())
         told("it is still on", True, shop.settle())
-        told("the second order again", "ok", shop.print(b"Second\n"))
+        # On a machine that is busy it may not have said twice by then that it can print.
+        told("the second order again", True, until(lambda: shop.print(b"Second\n") == "ok"))
         told("it is printed once", [("left", b"Second")], shop.paper())
         told("nothing was late", "0", shop.late())
 
