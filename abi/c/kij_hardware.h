@@ -307,6 +307,10 @@ bool kij_internal_port_holds_back(const kij_port *port);
 /* Drops what a port that holds back hasn't sent yet. */
 void kij_internal_port_discard(const kij_port *port);
 
+/* Lets a port send though its device has said that it can take no more (XOFF). The device may have lost its power since
+   then, or the line its XON: nothing would ever go out again. */
+void kij_internal_port_resume(const kij_port *port);
+
 /* Waits until bytes can be read, or written if that is asked, at most so many milliseconds. */
 void kij_internal_port_wait(const kij_port *port, bool is_writing, int64_t time, bool *can_read, bool *can_write);
 

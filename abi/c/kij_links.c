@@ -691,6 +691,7 @@ static bool look_after(kij_link *link) {
     bool is_late = link->was_asked && now - link->asked_at > link->timeout;
     watch(link);
     if (is_late && !may_wait) {
+        kij_internal_port_resume(&link->port);
         link->is_there = link->is_started = false;
         link->told_count = 0;
         memset(&link->signs, 0, sizeof link->signs);

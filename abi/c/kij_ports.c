@@ -354,6 +354,13 @@ void kij_internal_port_discard(const kij_port *port) {
     if (kij_internal_port_holds_back(port)) (void)tcflush(port->file, TCOFLUSH);
 }
 
+void kij_internal_port_resume(const kij_port *port) {
+    if (!kij_internal_port_holds_back(port) || port->serial.flow != KIJ_FLOW_XON_XOFF) return;
+    /* Linux goes on only from a stop of the same kind. */
+    (void)tcflow(port->file, TCOOFF);
+    (void)tcflow(port->file, TCOON);
+}
+
 void kij_internal_port_wait(const kij_port *port, bool is_writing, int64_t time, bool *can_read, bool *can_write) {
     struct pollfd waiting = {port->file, (short)(POLLIN | (is_writing ? POLLOUT : 0)), 0};
     bool is_ready = poll(&waiting, 1, (int)(time < 0 ? 0 : time)) > 0;
