@@ -2,7 +2,6 @@
    once the devices have done them, or haven't. */
 #include "kij_hardware.h"
 #include <errno.h>
-#include <poll.h>
 #include <stddef.h>
 #include <stdio.h>
 #include <stdlib.h>
@@ -299,7 +298,7 @@ static bool show(kij_till *till, kij_drive *drive) {
     while (sent < bytes->size) {
         int64_t left = end - kij_internal_now();
         if (left <= 0) break;
-        kij_internal_port_wait(port, true, left, &can_read, &can_write);
+        kij_internal_wait_typing(till, port, true, left, &can_read, &can_write);
         if (can_read && !kij_internal_port_read(port, drive->got, sizeof drive->got, &count)) return false;
         if (can_write && !kij_internal_port_write(port, bytes->bytes + sent, bytes->size - sent, &count)) return false;
         if (can_write) sent += count;
@@ -697,6 +696,41 @@ static int own_scans(kij_till *till, kij_drive *drive, bool *is_any) {
         *is_any |= code == KIJ_OK;
     }
     return code;
+}
+
+/* Whether key events of a device are to be taken: its keyboard gives some, and there is room for one. */
+static bool may_type(const kij_drive *drive) {
+    const kij_port *port = &drive->port;
+    bool has_room = drive->got_size + EVENT_SIZE <= sizeof drive->got;
+    return port->kind == KIJ_PORT_KEYS && has_room && !port->was_empty && kij_internal_port_is_open(port);
+}
+
+/* Takes key events. A keyboard that gives none is left alone: it may be lost, which is seen once its codes are told. */
+static void take_typed(kij_drive *drive) {
+    ssize_t found = read(drive->port.file, drive->got + drive->got_size, sizeof drive->got - drive->got_size);
+    if (found > 0) drive->got_size += (size_t)found;
+    else if (found == 0 || (errno != EAGAIN && errno != EINTR)) drive->port.was_empty = true;
+}
+
+void kij_internal_wait_typing(kij_till *till, const kij_port *port, bool is_writing, int64_t time, bool *can_read,
+                              bool *can_write) {
+    struct pollfd waiting[MOST_PORTS];
+    kij_drive *typing[MOST_PORTS];
+    int64_t left = time, end = kij_internal_now() + time;
+    do {
+        nfds_t count = 1;
+        waiting[0] = kij_internal_port_waiting(port, is_writing);
+        for (kij_drive *drive = till->drives->first; drive != NULL && count < MOST_PORTS; drive = drive->next) {
+            if (!may_type(drive)) continue;
+            waiting[count] = kij_internal_port_waiting(&drive->port, false);
+            typing[count++] = drive;
+        }
+        (void)poll(waiting, count, (int)left);
+        for (nfds_t place = 1; place < count; place++)
+            if (waiting[place].revents != 0) take_typed(typing[place]);
+        left = end - kij_internal_now();
+    } while (waiting[0].revents == 0 && left > 0);
+    kij_internal_port_is_ready(&waiting[0], can_read, can_write);
 }
 
 /* Reads what a scanner has sent: a code of enum kij_code. A control ignores codes from a failed scan on, so those that

@@ -3,6 +3,7 @@
 #define KIJ_HARDWARE_H
 
 #include "kij_internal.h"
+#include <poll.h>
 #include <sys/socket.h>
 
 /* A time so long before all others that no pause lasts from then on. */
@@ -105,6 +106,9 @@ typedef struct kij_signs {
 
 /* How many parcels may be due, how many of them an order may have, and how many bytes are read at once. */
 enum { KIJ_DUE_ROOM = 64, KIJ_DUE_OF_JOB = 32, KIJ_READ_ROOM = 1024, KIJ_CONTROL_ROOM = 128, KIJ_END_ROOM = 16 };
+
+/* How many bytes of a scanner or a display are kept: more than a hundred characters that a keyboard types. */
+enum { KIJ_GOT_ROOM = 15360 };
 
 /* The line to a printer, which acknowledges in order what it has printed. */
 typedef struct kij_link {
@@ -224,7 +228,7 @@ typedef struct kij_drive {
     bool has_failed;
     uint8_t *begun;
     size_t begun_size;
-    uint8_t got[64];
+    uint8_t got[KIJ_GOT_ROOM];
     size_t got_size;
     /* A driver of the caller's, if there is one: the last text of what has happened, how many there were, and the last
        code. */
@@ -311,7 +315,16 @@ void kij_internal_port_discard(const kij_port *port);
    then, or the line its XON: nothing would ever go out again. */
 void kij_internal_port_resume(const kij_port *port);
 
-/* Waits until bytes can be read, or written if that is asked, at most so many milliseconds. */
+/* Waits until bytes can be read, or written if that is asked, at most so many milliseconds. Meanwhile it takes what
+   keyboards type, of which the system keeps little. */
+void kij_internal_wait_typing(kij_till *till, const kij_port *port, bool is_writing, int64_t time, bool *can_read,
+                              bool *can_write);
+
+/* What is waited for at a port, and whether it has come. */
+struct pollfd kij_internal_port_waiting(const kij_port *port, bool is_writing);
+void kij_internal_port_is_ready(const struct pollfd *found, bool *can_read, bool *can_write);
+
+/* Waits for a port without the keyboards. */
 void kij_internal_port_wait(const kij_port *port, bool is_writing, int64_t time, bool *can_read, bool *can_write);
 
 /* Reads what has come, which may be nothing. False if the port was lost: it is closed then. */

@@ -626,8 +626,8 @@ static bool pump(kij_link *link, is_reached reached, const kij_job *job) {
         if (left <= 0) return true;
         ask_on(link);
         fill(link);
-        kij_internal_port_wait(&link->port, link->out_sent < link->out.size, least(left, often), &can_read,
-                               &can_write);
+        kij_internal_wait_typing(link->till, &link->port, link->out_sent < link->out.size, least(left, often),
+                                 &can_read, &can_write);
         if (can_read && !read_some(link, &is_any)) return false;
         if (can_write && !write_some(link)) return false;
         /* What has come was read before. */

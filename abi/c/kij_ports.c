@@ -141,6 +141,13 @@ static int set_up(int file, const kij_port *port) {
     return !is_serial || tcflush(file, TCIOFLUSH) == 0 ? 0 : errno;
 }
 
+/* Leaves the scan code of each key out of a keyboard's events, a third of them: Linux keeps few that nobody reads. */
+static void leave_out(int file) {
+    const uint8_t none[(MSC_CNT + 7) / 8] = {0};
+    struct input_mask mask = {.type = EV_MSC, .codes_size = sizeof none, .codes_ptr = (uintptr_t)none};
+    (void)ioctl(file, EVIOCSMASK, &mask);
+}
+
 /* Sets up a device that was opened: 0 or errno. */
 static int prepare(kij_port *port, int file) {
     /* fstat would need glibc 2.33. */
@@ -150,6 +157,7 @@ static int prepare(kij_port *port, int file) {
         /* A pipe or a terminal has no keys to keep from other programs. */
         if (S_ISCHR(found.stx_mode) && ioctl(file, EVIOCGRAB, 1) != 0 && errno != ENOTTY && errno != EINVAL)
             return errno;
+        leave_out(file);
         port->ends_empty = true;
         return isatty(file) ? set_up(file, port) : 0;
     }
@@ -361,11 +369,19 @@ void kij_internal_port_resume(const kij_port *port) {
     (void)tcflow(port->file, TCOON);
 }
 
+struct pollfd kij_internal_port_waiting(const kij_port *port, bool is_writing) {
+    return (struct pollfd){port->file, (short)(POLLIN | (is_writing ? POLLOUT : 0)), 0};
+}
+
+void kij_internal_port_is_ready(const struct pollfd *found, bool *can_read, bool *can_write) {
+    *can_read = (found->revents & (POLLIN | POLLHUP | POLLERR | POLLNVAL)) != 0;
+    *can_write = (found->revents & POLLOUT) != 0;
+}
+
 void kij_internal_port_wait(const kij_port *port, bool is_writing, int64_t time, bool *can_read, bool *can_write) {
-    struct pollfd waiting = {port->file, (short)(POLLIN | (is_writing ? POLLOUT : 0)), 0};
-    bool is_ready = poll(&waiting, 1, (int)(time < 0 ? 0 : time)) > 0;
-    *can_read = is_ready && (waiting.revents & (POLLIN | POLLHUP | POLLERR | POLLNVAL)) != 0;
-    *can_write = is_ready && (waiting.revents & POLLOUT) != 0;
+    struct pollfd waiting = kij_internal_port_waiting(port, is_writing);
+    (void)poll(&waiting, 1, (int)(time < 0 ? 0 : time));
+    kij_internal_port_is_ready(&waiting, can_read, can_write);
 }
 
 /* What reading or writing came to: false if the port was lost. */
