@@ -10,6 +10,7 @@ tcp:HOST:PORT. The last line is 'N passed, M failed'.
 import argparse
 import contextlib
 import ctypes
+import errno
 import gc
 import io
 import os
@@ -2041,6 +2042,15 @@ def second_answers(port):
         return [name_of(kijolvar.TcpPort("printer", port).open, seconds) for seconds in (0.3, 1.0)]
 
 
+def errno_of(call, *words):
+    """The system's number of what a call raises, or None."""
+    try:
+        call(*words)
+    except OSError as fault:
+        return fault.errno
+    return None
+
+
 def late(*_):
     raise InterruptedError("it takes too long")
 
@@ -2124,6 +2134,8 @@ def try_refusals():
     told("no such ports", ["ValueError"] * 7, [name_of(kijolvar.port_of, f"tcp:{name}") for name in (
         "", ":1", "::1", "a:b", "a:0", "a:65536", "[a:b]")])
     told("a name that no host has", "PortError", name_of(kijolvar.port_of("tcp:.a").open))
+    with mock.patch("socket.create_connection", side_effect=TimeoutError("timed out")):
+        told("a host that doesn't answer", errno.ETIMEDOUT, errno_of(kijolvar.port_of("tcp:192.0.2.1").open))
 
 
 # ---- random faults

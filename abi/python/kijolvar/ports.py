@@ -443,7 +443,8 @@ class TcpPort(Port):
                     made.setblocking(False)
                     return made.detach()
             except OSError as found:
-                fault = found
+                # One whose time is over has no number.
+                fault = found if found.errno is not None else TimeoutError(errno.ETIMEDOUT, "timed out")
         raise fault
 
 
