@@ -31,7 +31,7 @@ FAULTS = ["DamagedError", "DiskError", "DriverError", "Error", "ExchangeError", 
           "TillClosedError", "TooManyControlsError", "TooSmallError", "UnformattedError", "UposError"]
 # Classes of errors that are a kind of an error of Python's too.
 BASES = {"E_NOEXIST": ", LookupError"}
-# The function that makes a number of an argument, by the argument's name. Others are integers.
+# The function that makes a number of an argument that isn't one, by the argument's name. Others are integers.
 NUMBERS = {"handle": "handle_of"}
 
 
@@ -253,7 +253,14 @@ def signature(method):
 
 def number_of(name):
     """The expression for an argument that is a number."""
-    return f"{NUMBERS.get(name, 'integer')}({name})"
+    return name if name in NUMBERS else f"integer({name})"
+
+
+def made_numbers(method):
+    """The lines that make a number of an argument that may be something else. Most often it is a number."""
+    names = [argument["name"] for argument in method["arguments"] if argument["name"] in NUMBERS]
+    return [line for name in names for line in (f"        if type({name}) is not int:",
+                                                f"            {name} = {NUMBERS[name]}({name})")]
 
 
 def line_of(method):
@@ -293,7 +300,8 @@ def method_body(method):
     if method["line"] != "call":
         words = ", ".join(argument["name"] for argument in method["arguments"])
         return f"        {'return ' if method['word'] == 'claim' else ''}self._{method['word']}({words})"
-    return carried(line_of(method), method["snake"], method["returns"]["type"], None)
+    done = carried(line_of(method), method["snake"], method["returns"]["type"], None)
+    return "\n".join([*made_numbers(method), done])
 
 
 def method_code(method, names):

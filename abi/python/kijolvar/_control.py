@@ -53,9 +53,6 @@ def truth(value: bool) -> str:
 
 def handle_of(file: Handle) -> int:
     """An argument that is a file of totals, or its handle, as a line has it."""
-    # Most often it is a number.
-    if type(file) is int:
-        return file
     given: Any = file
     return index(getattr(given, "handle", given))
 

@@ -1200,7 +1200,9 @@ class HardTotals(StandardControl):
 
         UnifiedPOS 1.16, chapter Hard Totals.
         """
-        answer = self._carry_out(b"%bread %d %d %d" % (self._call, handle_of(handle), integer(offset), integer(count)))
+        if type(handle) is not int:
+            handle = handle_of(handle)
+        answer = self._carry_out(b"%bread %d %d %d" % (self._call, handle, integer(offset), integer(count)))
         if answer[0] != OK_BEGIN:
             raise self._refusal(answer, "read")
         return unhexlify(answer[3:-1]) if answer != OK_NO_BYTES else b""
@@ -1224,7 +1226,9 @@ class HardTotals(StandardControl):
 
         UnifiedPOS 1.16, chapter Hard Totals.
         """
-        answer = self._carry_out(f"{self._words}write {handle_of(handle)} {integer(offset)} {hexed(data)}".encode())
+        if type(handle) is not int:
+            handle = handle_of(handle)
+        answer = self._carry_out(f"{self._words}write {handle} {integer(offset)} {hexed(data)}".encode())
         if answer != OK:
             raise self._refusal(answer, "write")
 
@@ -1246,7 +1250,9 @@ class HardTotals(StandardControl):
 
         UnifiedPOS 1.16, chapter Hard Totals.
         """
-        answer = self._carry_out(b"%bsetAll %d %d" % (self._call, handle_of(handle), integer(value)))
+        if type(handle) is not int:
+            handle = handle_of(handle)
+        answer = self._carry_out(b"%bsetAll %d %d" % (self._call, handle, integer(value)))
         if answer != OK:
             raise self._refusal(answer, "set_all")
 
@@ -1268,7 +1274,9 @@ class HardTotals(StandardControl):
 
         UnifiedPOS 1.16, chapter Hard Totals.
         """
-        answer = self._carry_out(f"{self._words}rename {handle_of(handle)} {hexed(name)}".encode())
+        if type(handle) is not int:
+            handle = handle_of(handle)
+        answer = self._carry_out(f"{self._words}rename {handle} {hexed(name)}".encode())
         if answer != OK:
             raise self._refusal(answer, "rename")
 
@@ -1290,7 +1298,9 @@ class HardTotals(StandardControl):
 
         UnifiedPOS 1.16, chapter Hard Totals.
         """
-        answer = self._carry_out(b"%bclaimFile %d %d" % (self._call, handle_of(handle), integer(timeout)))
+        if type(handle) is not int:
+            handle = handle_of(handle)
+        answer = self._carry_out(b"%bclaimFile %d %d" % (self._call, handle, integer(timeout)))
         if answer != OK:
             raise self._refusal(answer, "claim_file")
 
@@ -1308,7 +1318,9 @@ class HardTotals(StandardControl):
 
         UnifiedPOS 1.16, chapter Hard Totals.
         """
-        answer = self._carry_out(b"%breleaseFile %d" % (self._call, handle_of(handle)))
+        if type(handle) is not int:
+            handle = handle_of(handle)
+        answer = self._carry_out(b"%breleaseFile %d" % (self._call, handle))
         if answer != OK:
             raise self._refusal(answer, "release_file")
 
