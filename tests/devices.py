@@ -1312,6 +1312,66 @@ def try_held_back():
         shop.same_paper("held back: the paper")
 
 
+class HearingPrinter(Printer):
+    """A printer whose line holds bytes back only while it has no power: it hears questions while it is offline."""
+
+    def may_hear(self):
+        return self.is_on
+
+
+def try_cause_behind_a_line():
+    """A printer that runs out of paper while it is off, and whose line has kept questions meanwhile. An answer to one of
+    them doesn't tell why it is offline."""
+    with contextlib.ExitStack() as stack:
+        shop = Shop(stack, "holds", made=HearingPrinter)
+        shop.begins()
+        device, link = shop.device, shop.driver.link
+        device.pull_plug()
+        with mock.patch.object(link, "_ask", wraps=link._ask) as asks:
+            told("questions that the line keeps", True, until(
+                lambda: shop.till.run_devices(0.01) is not None and asks.call_count > 2 and not shop.driver.is_online))
+        # The bit of the drawer's pin is that of an open cover in another answer.
+        device.drawer(True)
+        with device.lock:
+            device.lines_left, device.is_short = 0, True
+        list(shop.control.events())
+        device.plug_in()
+        told("it has no paper", True, until(lambda: shop.till.run_devices(0.01) is not None and shop.control.rec_empty))
+        told("an order then", (114, 203), raised(shop.control.print, TEXT))
+        told("its cover is closed", (False, [24]), (shop.control.cover_open, [
+            event.status for event in shop.control.events() if event.status < 2000]))
+        device.load(1000)
+        told("it prints with paper", True, until(
+            lambda: shop.till.run_devices(0.01) is not None and raised(shop.control.print, TEXT) is None))
+        told("each line is whole", [], not_whole(device, shop.till.device("r1").show().items))
+
+
+def try_status_before_an_answer():
+    """An automatic status that says that the printer is offline comes before the answer to a question: that answer isn't
+    taken for the cause."""
+    with contextlib.ExitStack() as stack:
+        shop = Shop(stack, made=HeldPrinter)
+        shop.begins()
+        list(shop.control.events())
+        shop.device.hold(True)
+        told("a question is out", True, until(
+            lambda: shop.till.run_devices(0.01) is not None and b"\x10\x04\1" in shop.device.held))
+        shop.device.garbage(b"\x1c\0\0\0")
+        told("it is offline", True, until(
+            lambda: shop.till.run_devices(0.01) is not None and shop.driver.link.signs.get("offline") == "yes"))
+        shop.till.run_devices()
+        # The bit of the drawer's pin is that of an open cover in the answer to another question.
+        shop.device.garbage(b"\x16")
+        shop.device.wait(lambda: not shop.device._sends)
+        until(lambda: shop.till.run_devices(0.01) and False, TIMEOUT / 4)
+        told("its cover is closed", False, shop.control.cover_open)
+        shop.device.hold(False)
+        told("it is online again", True, until(
+            lambda: shop.till.run_devices(0.01) is not None and shop.driver.link.signs.get("offline") == "no"))
+        told("its cover was never open", [], [event.status for event in shop.control.events()])
+        told("it prints", None, raised(shop.control.print, TEXT))
+
+
 def try_answer_from_before():
     """A late answer that comes while the line takes nothing isn't that of what is still to go out."""
     with contextlib.ExitStack() as stack:

@@ -186,6 +186,8 @@ class PrinterLink:
         self._tried_at = self._refreshed_at = self._heard_at = self._told_at = -1e9
         self._asked_at: float | None = None
         self._asked_what = _PRINTER
+        # Whether the printer is offline and isn't asked yet why, and until when answers to earlier questions may come.
+        self._is_unclear, self._late_until = False, -1e9
 
     @property
     def is_online(self) -> bool:
@@ -326,7 +328,7 @@ class PrinterLink:
         self._drop()
         self._outbox.clear()
         self._due.clear()
-        self._was_silent, self._asked_at = True, None
+        self._was_silent, self._asked_at, self._asked_what = True, None, _PRINTER
         self._ask_at_once()
 
     def _was_reset(self) -> bool:
@@ -390,6 +392,8 @@ class PrinterLink:
             if text:
                 self._answers()
                 self._hears(text, found[:used], asked)
+            elif self._is_unclear:
+                self._late_until = time.monotonic() + _APART
             del self._got[:used]
 
     def _answers(self) -> None:
@@ -412,10 +416,10 @@ class PrinterLink:
         if "cover" in signs:
             self._is_told(signs, [Told(data, asked)])
         self._asked_what = _PRINTER
-        if asked == _PRINTER and signs.get("offline") == "yes" and not self.is_stopped:
-            # It can't print, and may keep the question for its status until it can: ask why.
-            self._asked_what = _CAUSE
-            self._ask()
+        # One that can't print may keep the question for its status until it can.
+        self._is_unclear = (asked == _PRINTER and "cover" not in signs and signs.get("offline") == "yes"
+                            and not self.is_stopped)
+        self._asks_on()
         # One that is online again has sent the status that it was asked for, or has lost the question.
         self._is_refreshing = self._is_refreshing and "cover" not in signs and signs.get("offline") != "no"
 
@@ -423,6 +427,9 @@ class PrinterLink:
         """The printer answers, for the first time or again. It may have been off: then it tells no status by itself."""
         self._puts(self._start)
         self._is_there, self._was_silent = True, False
+        if self.port.holds_back:
+            # Its line may have kept questions while it was off.
+            self._late_until = time.monotonic() + _APART
 
     def _acknowledged(self, number: int) -> None:
         """The parcel with this number is printed, and those before it are printed or lost. Nothing of what is still to
@@ -469,7 +476,11 @@ class PrinterLink:
         return True
 
     def _asks_on(self) -> None:
-        """Asks what a printer doesn't say by itself."""
+        """Asks what a printer doesn't say by itself: why it is offline. An answer doesn't say what was asked, so those to
+        earlier questions have to come first."""
+        if self._is_unclear and self._asked_at is None and time.monotonic() >= self._late_until:
+            self._is_unclear, self._asked_what = False, _CAUSE
+            self._ask()
 
     def _writes(self) -> None:
         """Sends of the outbox what there is room for."""
@@ -514,6 +525,7 @@ class PrinterLink:
             self._receive()
             self._minds_silence()
             self._look_after(now)
+            self._asks_on()
             if self._outbox and self.port.ready(True, 0)[1]:
                 self._writes()
         except PortError:
@@ -542,7 +554,7 @@ class PrinterLink:
             return False
         is_silent = self._asked_at is not None and time.monotonic() - self._asked_at > self.timeout
         if is_silent:
-            self._is_there = False
+            self._is_there, self._asked_what = False, _PRINTER
             self._is_told({}, [])
         return is_silent
 
@@ -584,7 +596,7 @@ class PrinterLink:
         self._drop()
         self._outbox.clear()
         self._got.clear()
-        self._is_there = self._was_silent = self._is_refreshing = False
+        self._is_there = self._was_silent = self._is_refreshing = self._is_unclear = False
         self._is_told({}, [])
         self._asked_at, self._asked_what = None, _PRINTER
 
@@ -646,10 +658,6 @@ class AskedLink(PrinterLink):
     def _ask_at_once(self) -> None:
         self._questioned_at = -1e9
         self._ask()
-
-    def _look_after(self, now: float) -> None:
-        super()._look_after(now)
-        self._asks_on()
 
     def _takes(self, data: bytes) -> None:
         """Reads replies, each of which is a byte: to DLE EOT, or to GS r. One is forgotten before it counts, since it
