@@ -568,6 +568,54 @@ def try_cover_behind_a_line():
             told(f"{name}: each line is whole", (4, []), (len(items), not_whole(shop.device, items)))
 
 
+def try_silence_that_nobody_heard():
+    """A printer that has said nothing while nobody looked, on a cable that keeps what is sent: it has time to answer before
+    what is due counts as lost. The loop looks at its line twice, for it and for its drawer."""
+    with contextlib.ExitStack() as stack:
+        shop = Shop(stack, "holds")
+        link = shop.driver.link
+        shop.till.drive("d1", EscPosDrawer(shop.driver))
+        shop.begins()
+        shop.device.hang()
+        with mock.patch.object(link, "_minds_silence"):
+            told("an order that takes too long", (111, 0), raised(shop.control.print, TEXT))
+        stack.enter_context(mock.patch("kijolvar._links._SILENT", PATIENCE))
+        dropped = stack.enter_context(mock.patch.object(link.port, "discard", wraps=link.port.discard))
+        link.timeout, link._heard_at, link._began_at, link._asked_at = PATIENCE, -1e9, -1e9, None
+        shop.till.run_devices()
+        told("it is asked, and nothing counts as lost", (True, False), (link._asked_at is not None, dropped.called))
+        shop.device.hang(False)
+        told("the order again", None, raised(shop.control.print, TEXT))
+        shop.same_paper("silence that nobody heard: the paper")
+
+
+def try_power_that_nobody_saw():
+    """An order that is interrupted in a line. The printer is switched off and on while nobody looks, on a cable that keeps
+    the rest: it prints and acknowledges that, but the line isn't printed."""
+    def rings(*_):
+        raise LookupError("an interrupt")
+    before = signal.signal(signal.SIGUSR1, rings)
+    for kind in ("holds", "asked holds"):
+        with contextlib.ExitStack() as stack:
+            shop = Shop(stack, kind, timeout=PATIENCE)
+            device = shop.device
+            shop.begins()
+            device.ROOM = 8
+            device.after_characters(1, device.hang, lambda: os.kill(os.getpid(), signal.SIGUSR1))
+            told(f"an interrupt in a line, over {kind}", "LookupError", name_of(shop.control.print, TEXT))
+            # Nobody looks for long.
+            clock = types.SimpleNamespace(monotonic=lambda: time.monotonic() + PATIENCE, sleep=time.sleep)
+            stack.enter_context(mock.patch("kijolvar._links.time", clock))
+            device.pull_plug()
+            device.plug_in()
+            device.hang(False)
+            told(f"the end of the line is printed, over {kind}", True, until(lambda: len(device.receipt()) > 1))
+            told(f"the order again, over {kind}", True, until(
+                lambda: shop.till.run_devices(0.01) is not None and raised(shop.control.print, TEXT) is None))
+            told(f"each line is whole, over {kind}", [], not_whole(device, shop.till.device("r1").show().items))
+    signal.signal(signal.SIGUSR1, before)
+
+
 def try_lines_that_hold():
     """Which ports hold back what is sent, and that they drop it."""
     link = WORK / "a-line"

@@ -139,7 +139,8 @@ class PrinterLink:
 
     A line that holds back what is sent keeps a part of it while the printer is off, and gives it to the printer later: a
     tail that was kept would be acknowledged as the whole. So nothing of what is due counts any more once a printer on such
-    a line has said nothing for a time. One that has stopped may take nothing, and needn't say anything.
+    a line has said nothing for a time, or nobody has looked for so long since an order was interrupted. One that has
+    stopped may take nothing, and needn't say anything.
 
     An interrupt, which a signal's handler may raise between any two steps, costs at most what a lost acknowledgement
     costs. So each step stands for itself: what is to be acknowledged is noted before it may go out, and a reply is
@@ -181,9 +182,9 @@ class PrinterLink:
         self._due: deque[_Parcel] = deque()
         self._got = bytearray()
         self._is_there = self._was_silent = self._is_refreshing = False
-        # Whether bytes of the outbox may have gone out that are still in it.
-        self._is_unsure = False
-        self._tried_at = self._refreshed_at = self._heard_at = self._told_at = -1e9
+        # Whether bytes of the outbox may have gone out that are still in it, and whether an order has begun and hasn't ended.
+        self._is_unsure = self._is_interrupted = False
+        self._tried_at = self._refreshed_at = self._heard_at = self._told_at = self._looked_at = -1e9
         self._asked_at: float | None = None
         self._asked_what = _PRINTER
         # Whether the printer is offline and isn't asked yet why, and until when answers to earlier questions may come.
@@ -229,6 +230,7 @@ class PrinterLink:
         self._question = data[-self._end_size:]
         try:
             self._receive()
+            self._is_interrupted = True
             if self._failed is not None and self._failed.is_reported:
                 self._failed = None
             job = self._taken_up(data[:-self._end_size], is_once)
@@ -245,12 +247,14 @@ class PrinterLink:
             self._takes_as_sent()
             self._drop()
             raise
+        self._is_interrupted = False
         if job.is_done:
             self.lines += job.data.count(b"\n")
             job.told_at = wire, wire.reports
             return True
         self._drop()
         if not self.is_stopped:
+            self._minds_silence(is_over=True)
             self._was_silent = True
             self._ask()
             # Nobody may look for a long time, and a question that didn't go out isn't unanswered.
@@ -306,17 +310,22 @@ class PrinterLink:
             self._ask_at_once()
             self._pump(lambda: self._is_back() or self.is_stopped)
 
-    def _minds_silence(self) -> None:
+    def _minds_silence(self, is_over: bool = False) -> None:
         """Asks a printer whose line holds back what is sent, if it says nothing while something is due. If it doesn't
-        answer, what is due is lost."""
-        if not self._due or self.is_stopped or not self.port.holds_back:
+        answer in time, or the time of the order is over, what is due is lost."""
+        most, now = min(self.timeout, _SILENT), time.monotonic()
+        silence = now - max(self._heard_at, self._began_at)
+        if not self._is_held() or silence < most / 2:
             return
-        most = min(self.timeout, _SILENT)
-        silence = time.monotonic() - max(self._heard_at, self._began_at)
-        if silence >= most / 2 and self._asked_at is None:
-            self._ask()
-        elif silence >= most:
+        had_time = is_over or self._asked_at is not None and now - self._asked_at >= most / 2
+        if silence >= most and had_time:
             self._tears()
+        elif self._asked_at is None and not is_over:
+            self._ask()
+
+    def _is_held(self) -> bool:
+        """Whether something is due of which the line may keep a part. One that has stopped says that it goes on."""
+        return bool(self._due) and self.port.holds_back and not self.is_stopped
 
     def _tears(self) -> None:
         """The printer may have lost a part of what is due, and the line may have kept the rest: nothing of it counts any
@@ -452,9 +461,13 @@ class PrinterLink:
             self._outbox.append(_Parcel(data))
 
     def _receive(self) -> None:
-        """Reads what has come."""
+        """Reads what has come since the last time. If an order was interrupted, and nobody has looked for long since, a
+        printer whose line keeps a part of it may have been off meanwhile."""
+        if self._is_interrupted and self._is_held() and time.monotonic() - self._looked_at >= _SILENT:
+            self._tears()
         for data in self.port.waiting():
             self._takes(data)
+        self._looked_at = time.monotonic()
 
     def _pump(self, until: Callable[[], bool]) -> bool:
         """Sends and reads until something is so, and returns whether it was so in time."""
@@ -467,6 +480,7 @@ class PrinterLink:
             data = self.port.read_some() if can_read else b""
             if data:
                 self._takes(data)
+            self._looked_at = time.monotonic()
             # What has come while nobody looked comes first.
             self._minds_silence()
             if can_write:
