@@ -1420,6 +1420,27 @@ def try_status_before_an_answer():
         told("it prints", None, raised(shop.control.print, TEXT))
 
 
+def try_order_within_the_loop():
+    """A signal's handler that orders something of a printer while the loop is at it, or at its drawer."""
+    with contextlib.ExitStack() as stack:
+        till, device = stack.enter_context(opened()), stack.enter_context(Printer(cable()))
+        driver = EscPosPrinter(device.path, drawer="d1", timeout=TIMEOUT, pause=PAUSE)
+        till.drive("r1", driver)
+        control, drawer, found = stack.enter_context(till.printer("r1").in_use()), till.drawer("d1"), []
+        receive = driver.link._receive
+
+        def rings():
+            receive()
+            found.extend(name_of(use) for use in (drawer.open_drawer, lambda: control.print(TEXT)))
+        with mock.patch.object(driver.link, "_receive", rings):
+            told("the loop goes on", None, name_of(till.run_devices))
+        # It is at the printer, and at its drawer.
+        told("orders within the loop", ["InCallError"] * 4, found)
+        told("they have done nothing", ([], [], False), (device.receipt(), device.pulses, drawer.drawer_opened))
+        told("the same orders behind it", [None] * 2, [raised(control.print, TEXT), raised(drawer.open_drawer)])
+        same_paper("an order within the loop: the paper", device, till.device("r1").show().items)
+
+
 def try_answer_from_before():
     """A late answer that comes while the line takes nothing isn't that of what is still to go out."""
     with contextlib.ExitStack() as stack:

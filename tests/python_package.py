@@ -1330,6 +1330,23 @@ def try_faults_of_drivers():
         told("a fault of a later device in an earlier stage", "OSError", name_of(till.run_devices))
 
 
+def try_orders_in_polls():
+    """What a handler orders of a device while the loop is at it is refused; of another device it isn't."""
+    with opened(TWO_PRINTERS) as till:
+        parts = {name: Part() for name in ("r1", "r2")}
+        for name, part in parts.items():
+            till.drive(name, part)
+        printers, found = [till.printer(name) for name in parts], []
+        for printer in printers:
+            printer.claim()
+            printer.device_enabled = True
+        parts["r1"].first["poll"] = lambda: found.extend(name_of(printer.print, "A\n") for printer in printers)
+        told("a loop whose handler orders something", None, raised(till.run_devices))
+        told("what it orders", (["InCallError", None], [], ["print"]), (found, parts["r1"].did, parts["r2"].did))
+        parts["r1"].first.clear()
+        told("the same order behind it", (None, ["print"]), (raised(printers[0].print, "A\n"), parts["r1"].did))
+
+
 def try_closed_drivers():
     """A till closes each driver once, and only its own."""
     part, till = Part(), opened()
@@ -1663,7 +1680,8 @@ def main():
         for try_it in (try_scripts, try_threads, try_fork, try_closed, try_replies, try_events, try_listeners,
                        try_kept_listeners, try_claims,
                        try_misuse, try_many_controls, try_totals, try_files, try_handlers, try_closing_handlers, try_any_event,
-                       try_lines_without_memory, try_faults_of_drivers, try_closed_drivers, try_closed_in_a_round,
+                       try_lines_without_memory, try_faults_of_drivers, try_orders_in_polls, try_closed_drivers,
+                       try_closed_in_a_round,
                        try_profiles, try_library,
                        try_help, try_devices, try_order_bytes, try_reply_lines):
             try_it()

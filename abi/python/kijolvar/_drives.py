@@ -146,6 +146,8 @@ class Drives:
         drive = self._by_word.get(line[:line.find(b" ")])
         if drive is None:
             return False, b""
+        if is_called(drive.driver, "poll"):
+            raise InCallError("the devices' loop is at this device")
         driver, self._session.taken = drive.driver, drive.taken
         order = read_order(line.decode()) if driver.reads_orders else drive.order
         try:

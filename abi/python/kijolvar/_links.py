@@ -12,7 +12,8 @@ from dataclasses import dataclass
 from typing import TYPE_CHECKING
 
 from ._control import device_word
-from ._faults import NoDeviceError
+from ._faults import InCallError, NoDeviceError
+from ._session import is_called
 from ._wire import JOB_PAPER, Asked, WireSettings
 from .ports import Port, PortError, TcpPort
 
@@ -221,6 +222,9 @@ class PrinterLink:
         If an order failed and the next one is the same, only what wasn't printed is sent again, unless it was given up. An
         order that is done has failed, too, if an interrupt comes before its report. With is_once false it is sent whole.
         """
+        if is_called(self, "poll"):
+            # A signal's handler orders something by another driver of the line.
+            raise InCallError("the devices' loop is at this printer")
         self._began_at = time.monotonic()
         self._ends_at = self._began_at + self.timeout
         if not self.is_online:
