@@ -1177,6 +1177,25 @@ def try_memory():
         print(f"memory was refused at up to {refused} allocations, {unanswered} orders had no answer", flush=True)
 
 
+def try_lines_without_memory():
+    """Want of memory at each allocation of lines of which one orders something: if the call says that nothing was done,
+    nothing was."""
+    heap = ctypes.CDLL(os.fspath(LIBRARY))
+    if not hasattr(heap, "heap_refuses"):
+        return
+    codes, wrong = set(), []
+    for number in range(1, 60):
+        with opened() as till:
+            till.drive("d1", Own("CashDrawer"))
+            till.carry_out("new mine CashDrawer\nopen mine d1\nset mine DeviceEnabled true\n")
+            code = code_without_memory(heap, number, till.carry_out, "set mine FreezeEvents true\ncall mine openDrawer\n")
+            codes.add(code)
+            if code == kijolvar.KIJOLVAR_NO_MEMORY and till.carry_out("get mine FreezeEvents\n") != "ok false\n":
+                wrong.append(number)
+    told("what calls say without memory", {None, kijolvar.KIJOLVAR_NO_MEMORY, kijolvar.KIJOLVAR_CUT}, codes)
+    told("lines that were carried out, and that nothing was done is said", [], wrong)
+
+
 def code_without_memory(heap, number, call, *words):
     """The code of a call during which the allocation of this number and all behind it are refused; None if it is done."""
     heap.heap_refuses(ctypes.c_long(number))

@@ -1243,6 +1243,134 @@ def try_lines_without_memory():
     told("memory for all", (type(None), None, 3), refused_at(4))
 
 
+class Replaced:
+    """An export, in whose place a function answers while there is one: it gets the export and its words."""
+
+    def __init__(self, export):
+        self.export, self.instead = export, None
+
+    def __call__(self, *words):
+        return self.export(*words) if self.instead is None else self.instead(self.export, *words)
+
+
+def code_of(call, *words):
+    """The library's code of what a call raises, or None."""
+    return getattr(raised(call, *words), "library_code", None)
+
+
+def try_orders_without_memory():
+    """No memory for the report of an order: what was carried out before it, and by whose call."""
+    for is_done, text, wanted in ((True, "call mine openDrawer\n", kijolvar.KIJOLVAR_CUT),
+                                  (False, "call mine openDrawer\n", kijolvar.KIJOLVAR_NO_MEMORY),
+                                  (False, "set mine FreezeEvents true\ncall mine openDrawer\n", kijolvar.KIJOLVAR_CUT)):
+        with opened() as till:
+            part = Part()
+            part.carry_out = lambda order: is_done
+            till.drive("d1", part)
+            drawer = till.new_control(kijolvar.CashDrawer, "mine")
+            drawer.open("d1")
+            drawer.device_enabled = True
+            report = till._session._order_done = Replaced(till._session._order_done)
+            report.instead = lambda *_: kijolvar.KIJOLVAR_NO_MEMORY
+            told(f"no memory for the report of {text!r}, done: {is_done}", wanted, code_of(till.carry_out, text))
+            told("the next call does nothing then", kijolvar.KIJOLVAR_NO_MEMORY,
+                 code_of(till.carry_out, "set mine PowerNotify 1\n"))
+            report.instead = None
+            told("and is done with memory", (None, "ok 0\n"), (raised(lambda: drawer.state), till.carry_out(
+                "get mine PowerNotify\n")))
+
+
+def try_order_without_memory():
+    """No memory for a later order of several lines: the call says that lines were carried out."""
+    with opened() as till:
+        part, orders = Part(), []
+
+        def forgets(order):
+            orders.append(order.name)
+            if len(orders) == 2:
+                raise kijolvar.NoMemoryError(kijolvar.KIJOLVAR_NO_MEMORY)
+            return True
+        part.carry_out = forgets
+        till.drive("d1", part)
+        till.carry_out("new mine CashDrawer\nopen mine d1\nset mine DeviceEnabled true\n")
+        told("no memory for the second order", kijolvar.KIJOLVAR_CUT,
+             code_of(till.carry_out, "call mine openDrawer\ncall mine openDrawer\n"))
+        orders[:] = [""]
+        told("and for the first one", kijolvar.KIJOLVAR_NO_MEMORY, code_of(till.carry_out, "call mine openDrawer\n"))
+
+
+def try_scan_before_power():
+    """A scanner that is back, and no memory for that: its code comes once it is on for the till."""
+    class Back(Part):
+        is_online = True
+    with opened() as till:
+        part = Back()
+        till.drive("s1", part)
+        scanner = till.scanner("s1")
+        scanner.claim()
+        scanner.device_enabled = True
+        part.is_online = False
+        till.run_devices()
+        part.is_online, part.codes = True, [kijolvar.Scan(104, b"31", b"31")]
+        carry_out = till._session.carry_out
+
+        def forgets(lines):
+            if lines == b"input s1 power on\n":
+                raise kijolvar.NoMemoryError(kijolvar.KIJOLVAR_NO_MEMORY)
+            return carry_out(lines)
+        with mock.patch.object(till._session, "carry_out", forgets):
+            told("no memory for its power", "NoMemoryError", name_of(till.run_devices))
+        told("its code comes", (True, 1), (till.run_devices(), scanner.data_count))
+
+
+def try_lost_answers():
+    """A line whose answer is lost may be done: what it attaches is driven, and output that it clears is given up."""
+    attach = {"a device": lambda till: till.device("d1").attach(1), "a line": lambda till: till.carry_out("attach d1 1")}
+    for name, attaches in attach.items():
+        with opened() as till:
+            part, carry_out = Part(), till._carry_out
+            till.drive("d1", part)
+            till.device("d1").detach()
+
+            def loses(line):
+                carry_out(line)
+                raise kijolvar.NoMemoryError(kijolvar.KIJOLVAR_CUT)
+            with mock.patch.object(till, "_carry_out", loses):
+                told(f"a lost answer of {name} that attaches", kijolvar.KIJOLVAR_CUT, code_of(attaches, till))
+                told(f"one of {name} that does so again", kijolvar.KIJOLVAR_CUT, code_of(attaches, till))
+            told(f"what {name} has attached is driven", (None, ["openDrawer"]),
+                 (raised(till.drawer("d1").open_drawer), part.did))
+    with opened() as till:
+        till.drive("d1", Part())
+        till.device("d1").detach()
+        with mock.patch.object(till._session, "carry_out", side_effect=kijolvar.NoMemoryError(kijolvar.KIJOLVAR_NO_MEMORY)):
+            told("no memory for what an attached device says", None, name_of(till.device("d1").attach, 1))
+        told("which the loop says", ("NoMemoryError", None), (name_of(till.run_devices), name_of(till.run_devices)))
+    made = []
+
+    def carrier(library):
+        made.append(Replaced(session_carrier(library)))
+        return made[-1]
+
+    def loses_clears(export, *words):
+        code = export(*words)
+        return kijolvar.KIJOLVAR_CUT if b" clear" in words[2] else code
+    session_carrier = kijolvar._session.carrier
+    with mock.patch("kijolvar._session.carrier", carrier):
+        till = opened()
+    with till:
+        part = Part()
+        part.given_up = lambda: part.did.append("given up")
+        till.drive("r1", part)
+        printer = till.printer("r1")
+        printer.claim()
+        made[0].instead = loses_clears
+        told("a lost answer of a clear", (kijolvar.KIJOLVAR_CUT, ["given up"]), (code_of(printer.clear_output), part.did))
+        told("one of a line", (kijolvar.KIJOLVAR_CUT, ["given up"] * 2),
+             (code_of(till.carry_out, f"deliver {printer.name} clear\n"), part.did))
+        made[0].instead = None
+
+
 # ---- drivers
 
 PRINTER = '[[device]]\nname = "{}"\ncategory = "POSPrinter"\nchars = 42\nlines = 100\nnear = 2\n'
@@ -1680,8 +1808,9 @@ def main():
         for try_it in (try_scripts, try_threads, try_fork, try_closed, try_replies, try_events, try_listeners,
                        try_kept_listeners, try_claims,
                        try_misuse, try_many_controls, try_totals, try_files, try_handlers, try_closing_handlers, try_any_event,
-                       try_lines_without_memory, try_faults_of_drivers, try_orders_in_polls, try_closed_drivers,
-                       try_closed_in_a_round,
+                       try_lines_without_memory, try_orders_without_memory, try_order_without_memory,
+                       try_scan_before_power, try_lost_answers, try_faults_of_drivers, try_orders_in_polls,
+                       try_closed_drivers, try_closed_in_a_round,
                        try_profiles, try_library,
                        try_help, try_devices, try_order_bytes, try_reply_lines):
             try_it()

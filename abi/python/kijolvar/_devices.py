@@ -157,7 +157,7 @@ class Device:
         return f"<kijolvar.Device {self.name!r}>"
 
     def _answer(self, line: bytes) -> str:
-        answer = self._till._carry_out(line).decode().rstrip("\n")
+        answer = self._till._answer(line).decode().rstrip("\n")
         if answer == "bad device":
             raise NoDeviceError(KIJOLVAR_NO_DEVICE, f"there is no device {self.name!r}, or it has no peripheral")
         if answer == "memory":
@@ -242,7 +242,6 @@ class Device:
             ExchangeError: No spare has the number, or the device is unknown, has its peripheral, or is of another kind.
         """
         self._exchanged(b"attach %b %d" % (self._name, index(spare)))
-        self._till._drives.attached(self.name)
 
     def detach(self) -> None:
         """Detaches the device's peripheral, which ends.

@@ -9,7 +9,7 @@ from collections import deque
 from collections.abc import Callable
 from typing import TYPE_CHECKING
 
-from ._constants import EL_OUTPUT, KIJOLVAR_NO_MEMORY
+from ._constants import EL_OUTPUT, KIJOLVAR_CUT, KIJOLVAR_NO_MEMORY
 from ._control import device_word, undoing
 from ._devices import Device, Order, WorkFailed, read_order
 from ._faults import DriverError, InCallError, InputError, LineError, NoDeviceError, NoMemoryError, library_fault
@@ -127,17 +127,34 @@ class Drives:
             self._by_word.pop(drive.word, None)
             drive.driver.close()
 
-    def attached(self, name: str) -> None:
-        """Has the driver of a device, if it has one, go on with another peripheral that was attached. It is driven as the
-        one before was; the till takes it as switched on."""
-        drive = self._drives.get(name)
-        if drive is None:
+    def attach(self, name: str, line: bytes) -> bytes:
+        """Carries out a line that attaches a peripheral to a device, and returns the answer. If the device has a driver,
+        that goes on with it before another line can order something of it."""
+        is_done = False
+        try:
+            answer = self._till._carry_out(line)
+            is_done = answer == b"ok\n"
+        except NoMemoryError as fault:
+            # One whose answer is lost may be done.
+            is_done = fault.library_code == KIJOLVAR_CUT
+            raise
+        finally:
+            if is_done and name in self._drives:
+                self._attached(self._drives[name])
+        return answer
+
+    def _attached(self, drive: Drive) -> None:
+        """Has a driver go on with another peripheral. It is driven as the one before was; the till takes it as switched
+        on."""
+        try:
+            if drive.category != "Scanner":
+                self._session.drive(drive.word)
+        except NoDeviceError:
+            # Nothing is attached after all.
             return
-        if drive.category != "Scanner":
-            self._session.drive(drive.word)
         drive.is_on, drive.left = None, b""
         drive.driver.attached()
-        self.hand_in()
+        self._hand_in_behind()
 
     # Orders.
 
@@ -164,23 +181,21 @@ class Drives:
         """Is called once orders were carried out. It is most often all that there is to do."""
         for drive in list(self._by_word.values()):
             if not (drive.is_on and drive.driver.is_quiet and drive.orders < _KEPT_ORDERS):
-                try:
-                    self.hand_in()
-                except Exception as fault:
-                    # The order is done, and its call says so. The next `run` says what went wrong.
-                    self._fault = fault
+                self._hand_in_behind()
                 return
 
-    def gave_up(self, line: bytes, answer: bytes) -> None:
-        """A line was carried out. If it gives up what a printer's control has ordered, the printer's driver is told."""
+    def gave_up(self, line: bytes, answer: bytes | None) -> None:
+        """A line was carried out. If it gives up what a printer's control has ordered, the printer's driver is told. One
+        whose answer is lost was done."""
         words = line.partition(b"\n")[0].split()
-        if (*words[:1], *words[2:]) not in _GIVES_UP or not answer.startswith((b"ok\n", b"event ErrorEvent ")):
+        is_done = answer is None or answer.startswith((b"ok\n", b"event ErrorEvent "))
+        if (*words[:1], *words[2:]) not in _GIVES_UP or not is_done:
             return
         control = self._till._controls.get(words[1].decode())
         if control is not None:
             if control.category == "POSPrinter":
                 self.give_up(control.device)
-        elif words[0] == b"call" or answer.endswith(b" %d\n" % EL_OUTPUT):
+        elif words[0] == b"call" or answer is None or answer.endswith(b" %d\n" % EL_OUTPUT):
             # Lines made the control. Only a printer's has output.
             self.give_up()
 
@@ -200,6 +215,13 @@ class Drives:
         """Tells the till what has happened at the devices, and returns whether anything has. If something is refused, it
         tells the others first."""
         return not is_called(self, "hand_in") and self._each(self._hand_in)
+
+    def _hand_in_behind(self) -> None:
+        """The same behind something that is done, and whose call says so. The next `run` says what went wrong."""
+        try:
+            self.hand_in()
+        except Exception as fault:
+            self._fault = fault
 
     def _hand_in(self, drive: Drive) -> bool:
         if drive.orders >= _KEPT_ORDERS:
@@ -226,8 +248,9 @@ class Drives:
         return True
 
     def _tells_scans(self, drive: Drive) -> bool:
-        """Tells the codes that were read, each once, and returns whether there were any."""
-        if not drive.has_scans():
+        """Tells the codes that were read, each once, and returns whether there were any. One that isn't on for the till,
+        for want of memory, has none yet."""
+        if drive.left or not drive.has_scans():
             return False
         while drive.scans:
             scan = drive.scans.popleft()

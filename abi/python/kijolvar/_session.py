@@ -15,7 +15,7 @@ from typing import Any, BinaryIO, Concatenate, NoReturn, ParamSpec, TypeVar
 from ._constants import (KIJOLVAR_CUT, KIJOLVAR_DISK_FAILED, KIJOLVAR_DISK_LENGTH, KIJOLVAR_ERRANDS, KIJOLVAR_EVENT,
                          KIJOLVAR_NO_MEMORY, KIJOLVAR_NO_ORDER, KIJOLVAR_OK, KIJOLVAR_ORDER, KIJOLVAR_SHORT,
                          KIJOLVAR_SYNC, KIJOLVAR_UNDONE, KIJOLVAR_WAITS, KIJOLVAR_WRITE)
-from ._faults import NO_THREAD, library_fault
+from ._faults import NO_THREAD, NoMemoryError, library_fault
 from ._library import Raw, by_addresses, carrier, check
 from ._wire import RawSettings, Reply
 from .errors import InCallError, InOrderError, ThreadError, TillClosedError
@@ -31,6 +31,8 @@ _TRIES = 3
 _UNWRITTEN = ctypes.c_size_t(-1).value
 # The codes after which an answer has to be asked for.
 _UNANSWERED = KIJOLVAR_ERRANDS, KIJOLVAR_SHORT
+# The codes by which lines were carried out, with or without an answer.
+_CARRIED_OUT = KIJOLVAR_OK, KIJOLVAR_CUT
 # The outcomes of an order.
 _DONE, _NOT_DONE = 0, 1
 # What a till is doing: nothing, a call, or an order that a driver carries out for one.
@@ -141,8 +143,8 @@ class Session:
         self.taken: Callable[[bool, list[bytes]], object] | None = None
         #: Is called after lines whose orders were carried out so.
         self.served: Callable[[], object] | None = None
-        #: Is called with a line that may give up what a driven printer didn't print, and its answer.
-        self.given_up: Callable[[bytes, bytes], object] | None = None
+        #: Is called with a line that may give up what a driven printer didn't print, and its answer, unless that is lost.
+        self.given_up: Callable[[bytes, bytes | None], object] | None = None
         #: Is called once the till has ended, if it was closed while a call was under way.
         self.ended: Callable[[], object] | None = None
         # The device and the number of the file of totals, and whether the till has it no more.
@@ -375,8 +377,8 @@ class Session:
                 needed.value = _UNWRITTEN
                 code: int = export(*words)
                 line: bytes = words[2]
-                if b" clear" in line and not code and self.given_up is not None:
-                    self.given_up(line, room[:needed.value])
+                if b" clear" in line and code in _CARRIED_OUT and self.given_up is not None:
+                    self.given_up(line, None if code == KIJOLVAR_CUT else room[:needed.value])
                 return code
 
             call = watched
@@ -425,6 +427,7 @@ class Session:
                     self._is_holding = code != KIJOLVAR_OK
                     if not is_taken and report is not None and report[0] == _DONE:
                         self._unreported = report
+                    is_any_done |= any(parts) or is_taken and self._needed.value > 0
                     code = KIJOLVAR_CUT if is_any_done else KIJOLVAR_NO_MEMORY
                     break
             if code not in (KIJOLVAR_OK, KIJOLVAR_WAITS, KIJOLVAR_NO_MEMORY):
@@ -443,7 +446,13 @@ class Session:
             if code == KIJOLVAR_NO_MEMORY:
                 report = _NOT_DONE, b""
             elif report is None:
-                report = self._served() if is_wanted else self._refused()
+                try:
+                    report = self._served() if is_wanted else self._refused()
+                except NoMemoryError:
+                    if not (is_any_done or any(parts)):
+                        raise
+                    # Lines before this one were carried out.
+                    raise library_fault(KIJOLVAR_CUT) from None
             outcome, inputs = report
             is_told, is_any_done = True, is_any_done or outcome == _DONE
             room_at = self._room_at if room is self._room else ctypes.addressof(room)
@@ -508,9 +517,12 @@ class Session:
 
     def _give_up(self) -> None:
         """Ends lines of an earlier call that was interrupted, or for which memory ran out: an order that wasn't printed has
-        failed, and nobody wants the answer."""
+        failed, and nobody wants the answer. Without memory for that nothing of the new lines was done."""
         self._is_holding = False
-        self._told(self._answer_into(self._room), is_wanted=False)
+        try:
+            self._told(self._answer_into(self._room), is_wanted=False)
+        except NoMemoryError:
+            raise library_fault(KIJOLVAR_NO_MEMORY) from None
 
     @_as_call
     def number_of(self, control: bytes) -> int:

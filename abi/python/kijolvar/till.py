@@ -418,8 +418,7 @@ class Till:
         answers: list[str] = []
         try:
             for line in io.StringIO(lines, newline="\n"):
-                answers.append(self._carry_out(line.encode()).decode())
-                self._attaches(line.split(), answers[-1])
+                answers.append(self._answer(line.encode()).decode())
         except NoMemoryError:
             if not answers:
                 raise
@@ -427,11 +426,10 @@ class Till:
             raise library_fault(KIJOLVAR_CUT) from None
         return "".join(answers)
 
-    def _attaches(self, words: list[str], answer: str) -> None:
-        """A device to which a line has attached a peripheral goes on with its driver at once, before the next line can
-        order something of it."""
-        if words[:1] == ["attach"] and answer == "ok\n":
-            self._drives.attached(words[1])
+    def _answer(self, line: bytes) -> bytes:
+        """The answer to a line, which may attach a peripheral to a device."""
+        verb, *words = line.split(None, 2) or [b""]
+        return self._drives.attach(words[0].decode(), line) if verb == b"attach" and words else self._carry_out(line)
 
 
 def _ask_later(session: weakref.ref[Session], deed: Callable[[], Callable[[], None] | None]) -> None:
