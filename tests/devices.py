@@ -2137,6 +2137,34 @@ def try_ports_again():
                  (name_of(port.open), asked.call_count))
 
 
+def try_raising_handlers():
+    """A signal's handler that raises an error which the system has too: it isn't taken for one of the port."""
+    before = signal.getsignal(signal.SIGUSR1)
+    for fault in (TimeoutError, InterruptedError):
+        def rings(*_):
+            raise fault("the call takes too long")
+        signal.signal(signal.SIGUSR1, rings)
+        with contextlib.ExitStack() as stack:
+            till, device = stack.enter_context(opened()), stack.enter_context(Display(cable(), 2, 20))
+            till.drive("p1", driver := SerialDisplay(SerialPort(device.path, flow="none"), pause=PAUSE))
+            display = stack.enter_context(till.display("p1").in_use())
+            for name in ("fcntl.ioctl", "os.write", "os.read"):
+                def interrupted(*words, call=getattr(sys.modules[name.split(".")[0]], name.split(".")[1])):
+                    call(*words)
+                    signal.raise_signal(signal.SIGUSR1)
+                told(f"the display is there, before {name}", True, until(
+                    lambda: till.run_devices(0.01) is not None and raised(display.display_text, b"Before") is None))
+                if name == "os.read":
+                    device.garbage(b"x")
+                    device.wait(lambda: not device._sends)
+                with mock.patch(name, interrupted):
+                    told(f"{fault.__name__} in {name}", fault.__name__, name_of(display.display_text, b"Hi"))
+            told("the order again", True, until(
+                lambda: till.run_devices(0.01) is not None and raised(display.display_text, b"Hi") is None))
+        told("its port is closed", False, driver.port.is_open)
+    signal.signal(signal.SIGUSR1, before)
+
+
 def try_interrupted_openings():
     """An interrupt as a port is opened leaves no file open."""
     for name, call, kind in (("a keyboard", "fcntl.ioctl", kijolvar.drivers._KeyPort),

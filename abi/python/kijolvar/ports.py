@@ -166,8 +166,9 @@ class Port:
         Raises:
             PortError: The port was lost. It is closed then.
         """
+        file = self.fileno()
         try:
-            found = os.read(self.fileno(), _AT_ONCE)
+            found = os.read(file, _AT_ONCE)
         except OSError as fault:
             self._loses(fault)
             return b""
@@ -193,8 +194,9 @@ class Port:
         Raises:
             PortError: The port was lost. It is closed then.
         """
+        file = self.fileno()
         try:
-            return os.write(self.fileno(), data[:_AT_ONCE])
+            return os.write(file, data[:_AT_ONCE])
         except OSError as fault:
             self._loses(fault)
             return 0
@@ -227,7 +229,10 @@ class Port:
         return self.read_some() if self.ready(False, seconds)[0] else b""
 
     def _loses(self, fault: Exception) -> None:
-        """Closes the port and says so, unless the fault means only that there is nothing to do now."""
+        """Closes the port and says so, unless the fault means only that there is nothing to do now. What a signal's handler
+        has raised, behind the system's call, is none of the port's."""
+        if fault.__traceback__ is not None and fault.__traceback__.tb_next is not None:
+            raise fault
         if isinstance(fault, (BlockingIOError, InterruptedError)):
             return
         self.close()
@@ -245,14 +250,20 @@ class Port:
     def _line_drained(self, end: float) -> bool:
         """Looks how much waits in a line's driver, in place of waiting for it without an end. A file that was taken for a
         line may be none."""
+        while self._ends_empty and self._count_unsent():
+            if time.monotonic() >= end:
+                return False
+            time.sleep(0.001)
+        return True
+
+    def _count_unsent(self) -> int:
+        """How many bytes a terminal line hasn't sent yet."""
+        file, found = self.fileno(), bytes(4)
         try:
-            while self._ends_empty and _unsent(self.fileno()):
-                if time.monotonic() >= end:
-                    return False
-                time.sleep(0.001)
+            found = fcntl.ioctl(file, termios.TIOCOUTQ, found)
         except OSError as fault:
             self._loses(fault)
-        return True
+        return int.from_bytes(found, "little")
 
 
 # The ports of this process. One that is forked closes them, so that closing them here ends their connections.
