@@ -344,6 +344,28 @@ def try_reset_with_open_cover():
             told(f"{name}: each line is whole", [], missing(shop))
 
 
+def try_silent_behind_cover():
+    """A printer whose line holds bytes back falls silent after its cover is closed. What it may have printed isn't sent
+    to it again before it answers."""
+    with contextlib.ExitStack() as stack:
+        shop = Shop(stack, "holds", timeout=5000)
+        device = shop.device
+        device.ROOM = 8
+        device.after_characters(30, lambda: device.cover(True))
+        told("the cover is opened", "err 114 201", print_receipt(shop))
+        with device.lock:
+            device.cover(False)
+            device.mute()
+        told("it is closed", True, shop.settle())
+        told("a printer that says nothing else", "err", print_receipt(shop)[:3])
+        device.wait(lambda: device.is_idle)
+        printed = [item.characters for item in device.receipt()]
+        told("no line is printed twice", [], [line for line in RECEIPT if printed.count(line) > 1])
+        device.mute(False)
+        told("it answers: again", True, is_done_after_all(shop))
+        told("it answers: each line is whole", [], missing(shop))
+
+
 def try_ports_that_stay():
     """A port that stays open while the printer is off, and loses what is sent: a cable with a chip of its own, or a
     print server. What was lost is never told as printed, and a retry prints it."""

@@ -854,10 +854,11 @@ impl Link {
         Ok(())
     }
 
-    /// Sends the order, as far as it wasn't.
+    /// Sends the order, as far as it wasn't. The printer may have fallen silent since that was found out.
     fn post(&mut self, till: &mut DriverTill<'_>, is_once: bool) -> Result<(), Lost> {
         let (number, is_done) = (self.current(is_once).number, self.current(is_once).is_done);
-        if is_done || self.is_stopped() || self.is_due(number) || Instant::now() >= self.ends_at {
+        let is_hindered = self.is_stopped() || self.is_doubtful() || self.is_due(number);
+        if is_done || is_hindered || Instant::now() >= self.ends_at {
             return Ok(());
         }
         self.fill(Some(is_once));
@@ -867,9 +868,14 @@ impl Link {
         self.pump(till, Until::Printed, Some(is_once))
     }
 
-    /// Waits until a printer that was silent answers, since a line would hold an order back for it.
+    /// Whether a printer is silent for which a line would hold an order back.
+    fn is_doubtful(&self) -> bool {
+        self.cable.holds_back() && self.was_silent
+    }
+
+    /// Waits until such a printer answers.
     fn await_answer(&mut self, till: &mut DriverTill<'_>) -> Result<(), Lost> {
-        if !self.cable.holds_back() || !self.was_silent {
+        if !self.is_doubtful() {
             return Ok(());
         }
         // What was asked before may be lost.
