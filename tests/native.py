@@ -344,6 +344,30 @@ def try_reset_with_open_cover():
             told(f"{name}: each line is whole", [], missing(shop))
 
 
+def try_off_with_open_cover():
+    """A printer on a line with XON/XOFF is switched off while its cover is open, and on when it is closed: what it was
+    asked meanwhile is lost, and it is asked again."""
+    with contextlib.ExitStack() as stack:
+        shop = Shop(stack, "stays", "serial 115200 flow xon-xoff")
+        device = shop.device
+
+        def shows(answer):
+            return until(lambda: shop.host.ask("run 10") and shop.host.line("get r CoverOpen") == answer)
+        told("it is well", True, shop.settle())
+        device.cover(True)
+        told("its cover is open", True, shows("ok true"))
+        # It keeps what tells it to say how it is.
+        told("it is told to say how it is", True, until(lambda: shop.host.ask("run 10") and device._got))
+        device.pull_plug()
+        device.cover(False)
+        end = time.monotonic() + 2.5 * TIMEOUT / 1000
+        until(lambda: shop.host.ask("run 10") and time.monotonic() > end)
+        device.plug_in()
+        told("its cover is closed", True, shows("ok false"))
+        told("an order then", "ok", shop.print(b"Once\n"))
+        told("it is printed once", [("left", b"Once")], shop.paper())
+
+
 def try_silent_behind_cover():
     """A printer whose line holds bytes back falls silent after its cover is closed. What it may have printed isn't sent
     to it again before it answers."""

@@ -272,8 +272,9 @@ impl Link {
         }
     }
 
+    /// Whether nothing waits to go out, nor in a line that holds it back: a question behind it would only pile up.
     fn is_idle(&self) -> bool {
-        self.out_sent == self.out.len() && self.control.is_empty()
+        self.out_sent == self.out.len() && self.control.is_empty() && !self.cable.is_holding()
     }
 
     /// Puts a question of DLE EOT.
@@ -742,11 +743,12 @@ impl Link {
 
     /// Asks a printer that has said nothing for a time, and one that says that it can't print, for more. One on a
     /// network that doesn't answer is lost, unless something is due: the system might find that much later. One that
-    /// has stopped may take nothing over a line that holds it back, and is still there.
+    /// has stopped may take nothing over a line that holds it back, and is still there. It is asked again all the same,
+    /// since it may have been off meanwhile, where the question was lost.
     fn look_after(&mut self) -> Result<(), Lost> {
         let is_held = self.cable.holds_back() && self.is_stopped();
-        let is_late = !is_held && self.asked_at.is_some_and(|asked_at| asked_at.elapsed() > self.timeout);
-        if is_late {
+        let is_late = self.asked_at.is_some_and(|asked_at| asked_at.elapsed() > self.timeout);
+        if is_late && !is_held {
             self.is_there = false;
             self.told.clear();
             self.signs = Signs::default();

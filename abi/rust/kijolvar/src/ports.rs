@@ -402,6 +402,14 @@ impl Cable {
         }
     }
 
+    /// Whether something is in it that the device doesn't take.
+    pub(crate) fn is_holding(&self) -> bool {
+        let (true, Some(file)) = (self.holds_back(), self.file()) else { return false };
+        let mut left: c_int = 0;
+        // SAFETY: the file is open, and the number is lent for the call.
+        unsafe { ioctl(file, TIOCOUTQ, &mut left as *mut c_int) == 0 && left > 0 }
+    }
+
     pub(crate) fn is_open(&self) -> bool {
         self.stream.is_some()
     }

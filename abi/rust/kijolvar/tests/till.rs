@@ -5,7 +5,8 @@ use kijolvar::standard::{PowerNotify, PowerStatus};
 use kijolvar::{check, files, migrate, StatusUpdate, Till, Totals, Value, Work, BUILT_PROFILE};
 use kijolvar::{Actor, Asked, CashDrawer, Cause, Error, Event, HardTotals, Order, PosPrinter, PrinterReply, Property};
 use kijolvar::{DisplaySettings, Driver, DriverTill, EscPosPrinter, EscPosSettings, Port, Scan, SerialDisplay};
-use kijolvar::{Scanner, WedgeScanner, WireSettings};
+use kijolvar::{Scanner, SerialSettings, WedgeScanner, WireSettings};
+use std::fs::File;
 use std::io::{ErrorKind, Read, Write};
 use std::net::TcpListener;
 use std::os::unix::fs::MetadataExt;
@@ -1011,6 +1012,49 @@ fn a_port_that_is_closed_is_so_in_all_processes() {
     assert_eq!(system::grabs(), [0]);
 }
 
+/// How often a printer is asked whether it is there, by what has come over its line so far.
+fn questions(device: &mut File) -> usize {
+    let (mut room, mut found) = ([0; 4096], Vec::new());
+    while let Ok(count) = device.read(&mut room) {
+        found.extend_from_slice(&room[..count]);
+    }
+    found.windows(3).filter(|bytes| bytes == b"\x10\x04\x01").count()
+}
+
+#[test]
+fn questions_do_not_pile_up_in_a_line() {
+    for is_asked in [false, true] {
+        let (mut device, path) = system::terminal();
+        let till = till();
+        let settings = EscPosSettings { timeout: Duration::from_millis(50), is_asked, ..EscPosSettings::default() };
+        till.drive("r1", EscPosPrinter::open(Port::Serial(path, SerialSettings::default()), settings)).unwrap();
+        let mut runs = |time| {
+            let end = Instant::now() + Duration::from_millis(time);
+            while Instant::now() < end {
+                till.run_devices(Duration::from_millis(10)).unwrap();
+            }
+            questions(&mut device)
+        };
+        // The printer is off, which is asked again and again.
+        let (mut count, end) = (runs(0), Instant::now() + Duration::from_secs(10));
+        while count < 3 && Instant::now() < end {
+            count += runs(50);
+        }
+        assert!(count >= 3, "{count} {is_asked}");
+        // The line holds the last question back, which may be on its way to the other end still.
+        system::hold(3);
+        runs(100);
+        let count = runs(500);
+        assert!(count <= 1, "{count} {is_asked}");
+        system::hold(0);
+        let (mut count, end) = (0, Instant::now() + Duration::from_secs(10));
+        while count == 0 && Instant::now() < end {
+            count = runs(50);
+        }
+        assert!(count > 0, "{is_asked}");
+    }
+}
+
 #[test]
 fn a_driven_printer_may_be_detached() {
     let till = till();
@@ -1132,8 +1176,11 @@ fn a_till_without_drivers_waits() {
 mod system {
     use std::cell::{Cell, RefCell};
     use std::ffi::{c_char, c_int, c_long, c_uint, c_ulong, c_void, CString};
+    use std::fs::{File, OpenOptions};
+    use std::os::fd::AsRawFd;
     use std::os::unix::ffi::OsStrExt;
-    use std::path::Path;
+    use std::os::unix::fs::OpenOptionsExt;
+    use std::path::{Path, PathBuf};
 
     extern "C" {
         fn fork() -> c_int;
@@ -1161,6 +1208,11 @@ mod system {
     /// Linux's numbers, on x86-64.
     const SYS_IOCTL: c_long = 16;
     const EVIOCGRAB: c_ulong = 0x4004_4590;
+    const TIOCOUTQ: c_ulong = 0x5411;
+    const TIOCSPTLCK: c_ulong = 0x4004_5431;
+    const TIOCGPTN: c_ulong = 0x8004_5430;
+    const O_NONBLOCK: c_int = 0o4000;
+    const O_NOCTTY: c_int = 0o400;
     const SYS_FLOCK: c_long = 73;
     const SYS_FSYNC: c_long = 74;
     const LOCK_UN: c_int = 8;
@@ -1173,6 +1225,7 @@ mod system {
         static LINGERS: Cell<bool> = const { Cell::new(false) };
         static LINGERING: RefCell<Vec<c_int>> = const { RefCell::new(Vec::new()) };
         static GRABS: RefCell<Vec<usize>> = const { RefCell::new(Vec::new()) };
+        static HELD: Cell<c_int> = const { Cell::new(0) };
         static SYNCS: Cell<u32> = const { Cell::new(0) };
         static SYNC_FAULT: Cell<c_int> = const { Cell::new(0) };
         static HAS_MEMORY: Cell<bool> = const { Cell::new(true) };
@@ -1246,7 +1299,8 @@ mod system {
         }
     }
 
-    /// Asks the driver of a file for something, and notes whether a keyboard is grabbed.
+    /// Asks the driver of a file for something, and notes whether a keyboard is grabbed. A pseudo terminal doesn't say
+    /// how much it holds.
     ///
     /// # Safety
     ///
@@ -1256,8 +1310,32 @@ mod system {
         if request == EVIOCGRAB {
             GRABS.with_borrow_mut(|list| list.push(argument.addr()));
         }
+        if request == TIOCOUTQ && HELD.get() > 0 {
+            // SAFETY: the place is the caller's.
+            unsafe { *argument.cast() = HELD.get() };
+            return 0;
+        }
         // SAFETY: the file and the argument are the caller's.
         unsafe { syscall(SYS_IOCTL, file, request, argument) as c_int }
+    }
+
+    /// Makes each line hold so many bytes.
+    pub fn hold(count: c_int) {
+        HELD.set(count);
+    }
+
+    /// A pseudo terminal: one end, and the path of the other.
+    pub fn terminal() -> (File, PathBuf) {
+        let mut options = OpenOptions::new();
+        let file = options.read(true).write(true).custom_flags(O_NONBLOCK | O_NOCTTY).open("/dev/ptmx").unwrap();
+        let (mut number, mut unlocked): (c_int, c_int) = (0, 0);
+        // SAFETY: the file is open, and the numbers are lent for the calls.
+        let failed = unsafe {
+            ioctl(file.as_raw_fd(), TIOCSPTLCK, (&raw mut unlocked).cast())
+                | ioctl(file.as_raw_fd(), TIOCGPTN, (&raw mut number).cast())
+        };
+        assert_eq!(failed, 0);
+        (file, format!("/dev/pts/{number}").into())
     }
 
     /// What was asked of keyboards since the last time: 1 grabs one, and 0 ends that.
