@@ -1,12 +1,12 @@
 //! A till for several threads.
 use crate::error::{Cause, Error};
-use crate::ports::end_after;
+use crate::ports::{end_after, wait_for_any};
 use crate::till::Till;
 use std::sync::mpsc::{channel, Sender};
-use std::thread::{current, sleep, Builder, JoinHandle, ThreadId};
+use std::thread::{current, Builder, JoinHandle, ThreadId};
 use std::time::{Duration, Instant};
 
-/// How long the till is left to others between two looks at its devices.
+/// How long the till is left to others between two looks at its devices, unless one says something.
 const SLICE: Duration = Duration::from_millis(20);
 
 /// What the till's thread does next.
@@ -90,14 +90,17 @@ impl Actor {
     pub fn run_devices(&self, timeout: Duration) -> Result<bool, Error> {
         let end = end_after(timeout);
         loop {
-            if self.run(|till| till.run_devices(Duration::ZERO))? {
+            let (is_any, files) =
+                self.run(|till| Ok((till.run_devices(Duration::ZERO)?, till.inner.borrow().device_files())))?;
+            if is_any {
                 return Ok(true);
             }
             let left = end.saturating_duration_since(Instant::now());
             if left.is_zero() {
                 return Ok(false);
             }
-            sleep(left.min(SLICE));
+            // Another thread may have one of them closed meanwhile, which only ends the waiting.
+            wait_for_any(&files, left.min(SLICE));
         }
     }
 }

@@ -9,6 +9,7 @@ use crate::raw::*;
 use crate::standard::{library, Category};
 use crate::till::Inner;
 use std::collections::VecDeque;
+use std::os::fd::RawFd;
 use std::time::{Duration, Instant};
 
 /// How the hardware of a driven device is ([`Till::driver_state`](crate::Till::driver_state)).
@@ -543,10 +544,15 @@ impl Inner {
             if left.is_zero() {
                 return Ok(false);
             }
-            let mut files: Vec<_> = self.drives.list.iter().filter_map(|drive| drive.driver.file()).collect();
-            files.dedup();
-            wait_for_any(&files, left.min(Duration::from_millis(100)));
+            wait_for_any(&self.device_files(), left.min(Duration::from_millis(100)));
         }
+    }
+
+    /// The files at which something may come.
+    pub(crate) fn device_files(&self) -> Vec<RawFd> {
+        let mut files: Vec<_> = self.drives.list.iter().filter_map(|drive| drive.driver.file()).collect();
+        files.dedup();
+        files
     }
 
     /// Has drivers look at their devices, and takes over what was scanned.

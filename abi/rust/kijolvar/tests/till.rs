@@ -9,7 +9,9 @@ use kijolvar::{Scanner, SerialSettings, WedgeScanner, WireSettings};
 use std::fs::File;
 use std::io::{ErrorKind, Read, Write};
 use std::net::TcpListener;
+use std::os::fd::{AsRawFd, RawFd};
 use std::os::unix::fs::MetadataExt;
+use std::os::unix::net::UnixStream;
 use std::panic::{catch_unwind, AssertUnwindSafe};
 use std::path::PathBuf;
 use std::sync::atomic::{AtomicBool, AtomicU32, Ordering};
@@ -535,7 +537,8 @@ fn an_actor_serves_its_devices_and_other_threads() {
     for _ in 0..20 {
         actor.run(|till| till.show("d1").map(|_| ())).unwrap();
     }
-    assert!(began.elapsed() < Duration::from_secs(1), "{:?}", began.elapsed());
+    // If each waited for a whole call of the looker, they would take 20 seconds.
+    assert!(began.elapsed() < Duration::from_secs(10), "{:?}", began.elapsed());
     std::thread::sleep(Duration::from_millis(1200));
     is_over.store(true, Ordering::Relaxed);
     let (found, longest) = looker.join().unwrap();
@@ -556,8 +559,46 @@ fn an_actor_finds_what_there_is_to_do() {
     till.drive("s1", Codes::of(&["4006381"])).unwrap();
     let (actor, thread) = Actor::start(till).unwrap();
     let began = Instant::now();
+    assert!(actor.run_devices(Duration::from_secs(60)).unwrap());
+    assert!(began.elapsed() < Duration::from_secs(30));
+    drop(actor);
+    thread.join().unwrap();
+}
+
+/// A scanner at whose file something has come, and which finds its codes at the last of so many looks.
+struct Restless(UnixStream, u32, Codes);
+
+impl Driver for Restless {
+    fn category(&self) -> Category {
+        Category::Scanner
+    }
+
+    fn poll(&mut self, _: &mut DriverTill<'_>) {
+        self.1 -= 1;
+    }
+
+    fn scans(&mut self) -> Vec<Scan> {
+        if self.1 == 0 {
+            self.2.scans()
+        } else {
+            Vec::new()
+        }
+    }
+
+    fn file(&self) -> Option<RawFd> {
+        Some(self.0.as_raw_fd())
+    }
+}
+
+#[test]
+fn an_actor_looks_at_once_at_what_has_come() {
+    let till = till();
+    let (file, mut other) = UnixStream::pair().unwrap();
+    other.write_all(b"x").unwrap();
+    till.drive("s1", Restless(file, 1000, Codes::of(&["4006381"]))).unwrap();
+    let (actor, thread) = Actor::start(till).unwrap();
+    // A look each 20 ms would take twice as long.
     assert!(actor.run_devices(Duration::from_secs(10)).unwrap());
-    assert!(began.elapsed() < Duration::from_secs(1));
     drop(actor);
     thread.join().unwrap();
 }
