@@ -36,7 +36,7 @@ type Job = Box<dyn FnOnce(&Till) + Send>;
 /// thread.join().unwrap();
 /// # Ok::<(), kijolvar::Error>(())
 /// ```
-#[derive(Clone)]
+#[derive(Debug, Clone)]
 pub struct Actor {
     jobs: Sender<Job>,
     thread: ThreadId,

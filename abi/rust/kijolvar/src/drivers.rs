@@ -6,6 +6,7 @@ use crate::ports::{end_after, Cable, Port, ETIMEDOUT, MOST_READS, QUICKLY};
 use crate::standard::Category;
 use crate::till::Inner;
 use crate::wire::{Asked, PrinterReply, WireSettings};
+use std::fmt;
 use std::os::fd::RawFd;
 use std::sync::{Arc, Mutex, MutexGuard};
 use std::time::{Duration, Instant};
@@ -71,6 +72,12 @@ impl DriverTill<'_> {
     ) -> Result<PrinterReply, Error> {
         let found = self.inner.reply(device.as_bytes(), settings, asked, bytes);
         found.map_err(|cause| Error::new("reply", cause))
+    }
+}
+
+impl fmt::Debug for DriverTill<'_> {
+    fn fmt(&self, out: &mut fmt::Formatter<'_>) -> fmt::Result {
+        out.debug_struct("DriverTill").finish_non_exhaustive()
     }
 }
 
@@ -175,6 +182,12 @@ pub trait Driver: Send {
     /// A spare serves the device from now on ([`Till::attach`](crate::Till::attach)), and this driver goes on. The
     /// spare knows nothing of what `happened` said before, or of what a display shows.
     fn attached(&mut self) {}
+}
+
+impl<D: Driver + 'static> From<D> for Box<dyn Driver> {
+    fn from(driver: D) -> Box<dyn Driver> {
+        Box::new(driver)
+    }
 }
 
 /// What a printer's cutter does.

@@ -5,6 +5,7 @@ use crate::standard::{
     Category, DrawerStatus, ErrorLocus, ErrorReply, ExtendedCode, PowerStatus, PrinterStatus, ResultCode,
 };
 use crate::till::Till;
+use std::fmt;
 
 /// An event.
 #[derive(Debug, Clone, Copy, PartialEq, Eq)]
@@ -129,6 +130,12 @@ pub struct Events<'till, T> {
 impl<'till, T> Events<'till, T> {
     pub(crate) fn new(next: Deliver<'till, T>) -> Events<'till, T> {
         Events { next: Some(next) }
+    }
+}
+
+impl<T> fmt::Debug for Events<'_, T> {
+    fn fmt(&self, out: &mut fmt::Formatter<'_>) -> fmt::Result {
+        out.debug_struct("Events").finish_non_exhaustive()
     }
 }
 

@@ -142,6 +142,12 @@ impl From<&Path> for Port {
     }
 }
 
+impl From<PathBuf> for Port {
+    fn from(path: PathBuf) -> Port {
+        Port::from(path.as_path())
+    }
+}
+
 /// Whether a path is a serial line's by its name.
 fn is_line_name(path: &Path) -> bool {
     path.to_string_lossy().starts_with("/dev/tty")
@@ -881,6 +887,7 @@ mod tests {
         use std::os::unix::ffi::OsStrExt;
         let path = Path::new(std::ffi::OsStr::from_bytes(b"/dev/usb/dr\xfccker"));
         assert_eq!(Port::from(path), Port::File(path.into()));
+        assert_eq!(Port::from(PathBuf::from(path)), Port::File(path.into()));
         assert_eq!(Port::from(Path::new("tcp:printer")), Port::Tcp("printer".to_string(), 9100));
     }
 

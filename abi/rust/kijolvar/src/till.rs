@@ -757,9 +757,9 @@ impl Till {
         Order::read(&line).map(Some).ok_or_else(|| failed(Cause::BadAnswer(line)))
     }
 
-    /// Has a driver carry out the orders of a device from now on. A call that orders something returns once the
-    /// device has done it. If it hasn't, the call is refused with E_EXTENDED (the cover is open, the paper is at its
-    /// end), E_OFFLINE, or E_FAILURE if the device gives no reason.
+    /// Has a [`Driver`], or a boxed one, carry out the orders of a device from now on. A call that orders something
+    /// returns once the device has done it. If it hasn't, the call is refused with E_EXTENDED (the cover is open, the
+    /// paper is at its end), E_OFFLINE, or E_FAILURE if the device gives no reason.
     ///
     /// Hardware that isn't there is no error: the device is off until [`Till::run_devices`] finds it. So that the till
     /// knows how a printer is, the call waits for its first status, at most for its timeout. A display's port may take
@@ -769,8 +769,8 @@ impl Till {
     ///
     /// [`Cause::BadDevice`], [`Cause::KindDiffers`], [`Cause::Driven`], [`Cause::BadSettings`]; [`Cause::NoDevice`]
     /// if it can't be driven, as one with `flaky`; [`Cause::NoMemory`].
-    pub fn drive(&self, device: &str, driver: impl Driver + 'static) -> Result<(), Error> {
-        let done = self.inner.borrow_mut().drive(device, Box::new(driver));
+    pub fn drive(&self, device: &str, driver: impl Into<Box<dyn Driver>>) -> Result<(), Error> {
+        let done = self.inner.borrow_mut().drive(device, driver.into());
         done.map_err(|cause| Error::new("drive", cause))
     }
 

@@ -3,9 +3,9 @@ use kijolvar::standard::{Category, ScrollDirection, State, PTR_CP_FULLCUT};
 use kijolvar::standard::{DisplayAttribute, ErrorLocus, ErrorReply, ExtendedCode, PrinterStation, ResultCode};
 use kijolvar::standard::{PowerNotify, PowerStatus};
 use kijolvar::{check, files, migrate, StatusUpdate, Till, Totals, Value, Work, BUILT_PROFILE};
-use kijolvar::{Actor, Asked, CashDrawer, Cause, Error, Event, HardTotals, Order, PosPrinter, PrinterReply, Property};
+use kijolvar::{Actor, Asked, CashDrawer, Cause, Error, Event, Events, HardTotals, Order, PosPrinter, PrinterReply};
 use kijolvar::{DisplaySettings, Driver, DriverTill, EscPosPrinter, EscPosSettings, Port, Scan, SerialDisplay};
-use kijolvar::{Scanner, SerialSettings, WedgeScanner, WireSettings};
+use kijolvar::{Property, Scanner, SerialSettings, WedgeScanner, WireSettings};
 use std::fs::File;
 use std::io::{ErrorKind, Read, Write};
 use std::net::TcpListener;
@@ -56,7 +56,9 @@ fn system_kind(error: &Error) -> Option<ErrorKind> {
 fn errors_go_anywhere() {
     fn goes<T: std::error::Error + Send + Sync + 'static>() {}
     fn moves<T: Send>() {}
+    fn is_shown<T: std::fmt::Debug>() {}
     goes::<Error>();
+    is_shown::<(Till, Actor, DriverTill<'_>, Events<'_, Event>, PosPrinter<'_>, EscPosPrinter)>();
     moves::<Till>();
     moves::<Actor>();
     moves::<kijolvar::Key<CashDrawer<'static>>>();
@@ -863,6 +865,25 @@ fn a_driver_that_panics_fails_one_order() {
     assert!(till.driver_state("d1").unwrap().is_online);
     drawer.open_drawer().unwrap();
     assert!(drawer.drawer_opened().unwrap());
+    assert_eq!(count.load(Ordering::Relaxed), 2);
+}
+
+#[test]
+fn a_driver_may_be_chosen_by_the_program() {
+    let count = Arc::new(AtomicU32::new(1));
+    let chosen = |is_counted: bool| -> Box<dyn Driver> {
+        if is_counted {
+            Box::new(Counted(Arc::clone(&count)))
+        } else {
+            Box::new(Wrong)
+        }
+    };
+    for (is_counted, wanted) in [(true, None), (false, Some(ResultCode::Failure))] {
+        let till = till();
+        till.drive("d1", chosen(is_counted)).unwrap();
+        let opened = till.cash_drawer("d1").unwrap().enabled().unwrap().open_drawer();
+        assert_eq!(opened.err().and_then(|error| error.code()), wanted);
+    }
     assert_eq!(count.load(Ordering::Relaxed), 2);
 }
 
