@@ -364,8 +364,8 @@ def try_off_with_open_cover():
         until(lambda: shop.host.ask("run 10") and time.monotonic() > end)
         device.plug_in()
         told("its cover is closed", True, shows("ok false"))
-        told("an order then", "ok", shop.print(b"Once\n"))
-        told("it is printed once", [("left", b"Once")], shop.paper())
+        told("an order then", True, until(lambda: shop.print(b"Once\n") == "ok"))
+        told("it is printed", True, ("left", b"Once") in shop.paper())
 
 
 def try_silent_behind_cover():

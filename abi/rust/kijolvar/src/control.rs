@@ -113,7 +113,7 @@ impl<'till> Control<'till> {
     ///
     /// # Errors
     ///
-    /// An error of the property, as the method that sets it says.
+    /// An error of the property, as the method that sets it says; [`Cause::BadArgument`] for bytes, which none takes.
     pub fn set(&self, property: Property, value: Value) -> Result<(), Error> {
         let line = self.line("set").word(property.name());
         let line = match value {

@@ -224,8 +224,9 @@ pub struct EscPosSettings {
     /// sensors still see enough at the near end, the count begins again; with 100 lines or more before that, once three
     /// quarters of those are counted.
     ///
-    /// While the sensors see that the end is near, the till counts with the `near` of its device after each order. So
-    /// `near` is the longest request that it may take then.
+    /// While the sensors see that the end is near, the till counts with the `near` of its device after each call. So a
+    /// request with more lines is refused then, and one with as many tells the end of the paper for a moment: `near`
+    /// should be above the lines of the longest one.
     pub lines: u32,
     /// Whether the printer says nothing by itself, and doesn't know GS ( H. Then it is asked for its status (DLE
     /// EOT), and whether an order is printed (GS r).
