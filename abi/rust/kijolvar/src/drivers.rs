@@ -19,6 +19,8 @@ const MOST_LINES: u32 = 100_000;
 const LONG: u64 = 100;
 /// How long nothing is shown until a display gets all its rows again.
 const REST: Duration = Duration::from_secs(10);
+/// How long a scanner's port may take to open at first.
+const SCANNER_OPENS: Duration = Duration::from_secs(2);
 /// The longest code of a scanner, and the highest type (ScanDataType) that a till takes.
 const LONGEST_CODE: usize = 4096;
 const HIGHEST_KIND: u64 = 999;
@@ -549,7 +551,7 @@ impl Reopened {
 
     /// Opens the port, unless it is open or that was tried just now. Returns whether it was opened.
     fn open(&mut self, time: Duration) -> bool {
-        if self.cable.is_open() || !is_over(self.tried_at, self.pause) {
+        if self.cable.is_open() || !(self.cable.is_opening() || is_over(self.tried_at, self.pause)) {
             return false;
         }
         let is_open = self.cable.open(time);
@@ -861,6 +863,7 @@ impl Driver for WedgeScanner {
         if !self.port.cable.port.is_sound() || self.kind > HIGHEST_KIND {
             return Err(Error::new("drive", Cause::BadSettings));
         }
+        self.port.open(SCANNER_OPENS);
         self.poll(till);
         Ok(())
     }

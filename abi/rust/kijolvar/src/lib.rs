@@ -52,7 +52,8 @@
 //!
 //! A till may be moved to another thread, and is used by one thread at a time. An [`Actor`] has a till for several
 //! threads, of which one serves the drivers by [`Actor::run_devices`]. A call takes up to 128 KiB of the thread's
-//! stack. A profile is read on a thread of its own, which has as much as any profile takes.
+//! stack. A profile is read on a thread of its own, which has as much as any profile takes, and a TCP port is opened by
+//! one.
 
 mod actor;
 mod control;

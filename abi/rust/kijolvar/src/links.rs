@@ -781,7 +781,7 @@ impl Link {
     /// Reads what has come and sends what is left, without waiting. A port that was lost is opened again.
     pub(crate) fn poll(&mut self, till: &mut DriverTill<'_>) {
         if !self.cable.is_open() {
-            if is_over(self.tried_at, self.pause) {
+            if self.cable.is_opening() || is_over(self.tried_at, self.pause) {
                 self.connect(self.timeout.min(QUICKLY));
             }
         } else if self.look(till).is_err() {

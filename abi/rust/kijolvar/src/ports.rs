@@ -1,5 +1,5 @@
 //! The ports of devices: a file such as /dev/usb/lp0, a serial line such as /dev/ttyUSB0, a TCP port, or the key
-//! events of a keyboard. No call waits longer than it is told, but while a host is looked up.
+//! events of a keyboard. No call waits longer than it is told.
 use std::ffi::{c_int, c_short, c_ulong, c_void};
 use std::fs::{File, OpenOptions};
 use std::io::{self, ErrorKind, Read, Write};
@@ -7,6 +7,8 @@ use std::net::{Ipv6Addr, Shutdown, SocketAddr, TcpStream, ToSocketAddrs};
 use std::os::fd::{AsRawFd, RawFd};
 use std::os::unix::fs::{FileTypeExt, OpenOptionsExt};
 use std::path::{Path, PathBuf};
+use std::sync::mpsc::{channel, Receiver, RecvTimeoutError};
+use std::thread::Builder;
 use std::time::{Duration, Instant};
 
 /// The parity of a serial line.
@@ -67,9 +69,9 @@ pub enum Port {
     /// A TCP port: the host, and the number.
     ///
     /// A host's name is looked up when the port is opened, until that succeeds, and later if no address that was found
-    /// answers. After a look-up that succeeded or took long, the next one is a minute later. The system decides how
-    /// long it takes, whatever the timeout is: 10 seconds and more if no name server answers. An address in numbers,
-    /// such as 192.168.1.9, isn't looked up.
+    /// answers. After a look-up that succeeded or took long, the next one is a minute later. An address in numbers,
+    /// such as 192.168.1.9, isn't looked up. A thread looks the host up and connects to it, so that one that doesn't
+    /// answer keeps no other device waiting.
     Tcp(String, u16),
     /// The key events of a keyboard, which no other program gets meanwhile.
     Keys(PathBuf),
@@ -161,8 +163,11 @@ fn is_line_link(path: &Path) -> bool {
 /// How often is read at once what has come, so that it ends though the device sends on and on.
 pub(crate) const MOST_READS: usize = 16;
 
-/// How long a lost port may take to open while other devices wait.
-pub(crate) const QUICKLY: Duration = Duration::from_millis(250);
+/// How long other devices wait for a lost port to open. A keyboard that nobody reads drops what comes much later.
+pub(crate) const QUICKLY: Duration = Duration::from_millis(20);
+
+/// How long a host has to answer at least, though nobody waits for it so long.
+const ANSWERS: Duration = Duration::from_secs(1);
 
 /// Returns the instant at which a time that begins now is over.
 pub(crate) fn end_after(time: Duration) -> Instant {
@@ -354,8 +359,9 @@ pub(crate) struct Cable {
     was_empty: bool,
     /// Why it couldn't be opened or was lost the last time, as the system's number (errno).
     pub(crate) fault: Option<c_int>,
-    /// Those of a TCP port's host.
+    /// Those of a TCP port's host, and what a thread will say that opens the port.
     addresses: Addresses,
+    opening: Option<Opening>,
 }
 
 /// The port was lost. It is closed then.
@@ -374,6 +380,7 @@ impl Cable {
             was_empty: false,
             fault: None,
             addresses: Addresses::default(),
+            opening: None,
         }
     }
 
@@ -420,6 +427,11 @@ impl Cable {
         self.stream.is_some()
     }
 
+    /// Whether a thread opens the port, of which `open` will hear.
+    pub(crate) fn is_opening(&self) -> bool {
+        self.opening.is_some()
+    }
+
     pub(crate) fn file(&self) -> Option<RawFd> {
         match &self.stream {
             Some(Stream::File(file)) => Some(file.as_raw_fd()),
@@ -433,6 +445,25 @@ impl Cable {
         self.file().filter(|_| !self.was_empty)
     }
 
+    /// Opens a TCP port by a thread, for which the call that begins it waits at most so long. Later ones hear of it.
+    fn open_tcp(&mut self, host: String, port: u16, time: Duration) -> io::Result<TcpStream> {
+        let (opening, time) = match self.opening.take() {
+            Some(opening) => (opening, Duration::ZERO),
+            None => (begin_tcp(host, port, std::mem::take(&mut self.addresses), time.max(ANSWERS))?, time),
+        };
+        match opening.recv_timeout(time) {
+            Ok((addresses, stream)) => {
+                self.addresses = addresses;
+                set_up_tcp(stream?, self.is_patient)
+            }
+            Err(RecvTimeoutError::Timeout) => {
+                self.opening = Some(opening);
+                Err(ErrorKind::TimedOut.into())
+            }
+            Err(RecvTimeoutError::Disconnected) => Err(ErrorKind::HostUnreachable.into()),
+        }
+    }
+
     /// Opens the port, unless it is open. Returns whether it is.
     pub(crate) fn open(&mut self, time: Duration) -> bool {
         if self.stream.is_some() {
@@ -441,9 +472,8 @@ impl Cable {
         self.take_up_link();
         let opened = match &self.port {
             Port::Tcp(host, port) => {
-                let look_up = || (&host[..], *port).to_socket_addrs().map(Vec::from_iter);
-                let stream = self.addresses.connect(look_up, time);
-                stream.and_then(|stream| Ok((Stream::Tcp(set_up_tcp(stream, self.is_patient)?), true)))
+                let (host, port) = (host.clone(), *port);
+                self.open_tcp(host, port, time).map(|stream| (Stream::Tcp(stream), true))
             }
             Port::Keys(path) => open_keys(path).map(|file| (Stream::File(file), true)),
             Port::File(path) => open_file(path, None),
@@ -455,6 +485,8 @@ impl Cable {
                 (self.stream, self.ends_empty) = (Some(stream), ends_empty);
                 (self.process, self.was_empty) = (std::process::id(), false);
             }
+            // What a thread will say of it isn't known yet.
+            Err(_) if self.is_opening() && self.fault.is_some() => {}
             Err(fault) => self.fault = Some(number_of(&fault)),
         }
         self.stream.is_some()
@@ -607,8 +639,24 @@ fn open_keys(path: &Path) -> io::Result<File> {
     Ok(file)
 }
 
-/// How long a host isn't looked up again.
+/// What a thread says that has opened a TCP port: the addresses of its host, and the connection.
+type Opening = Receiver<(Addresses, io::Result<TcpStream>)>;
+
+/// Begins to open a TCP port, for which its host has so long.
+fn begin_tcp(host: String, port: u16, mut addresses: Addresses, time: Duration) -> io::Result<Opening> {
+    let (give, opening) = channel();
+    let opens = move || {
+        let look_up = || (&host[..], port).to_socket_addrs().map(Vec::from_iter);
+        let stream = addresses.connect(look_up, time);
+        // Who has given the port up has no use for it.
+        drop(give.send((addresses, stream)));
+    };
+    Builder::new().spawn(opens).map(|_| opening)
+}
+
+/// How long a host isn't looked up again, and from when on a look-up has taken long.
 const LOOKED_UP: Duration = Duration::from_secs(60);
+const SLOWLY: Duration = Duration::from_millis(250);
 
 /// The addresses of a host. They are kept, since looking it up may take long.
 #[derive(Debug, Default)]
@@ -631,8 +679,7 @@ impl Addresses {
         };
         let began = Instant::now();
         let found = look_up();
-        // One that takes long mustn't hold the till up again and again.
-        if found.is_ok() || !self.known.is_empty() || began.elapsed() > QUICKLY {
+        if found.is_ok() || !self.known.is_empty() || began.elapsed() > SLOWLY {
             self.looked_up_at = Some(Instant::now());
         }
         let found = found?;
@@ -823,7 +870,7 @@ mod tests {
         for addresses in [&mut quick, &mut slow] {
             assert!(addresses.connect(|| fails(Duration::ZERO), SOON).is_err() && addresses.looked_up_at.is_none());
         }
-        assert!(slow.connect(|| fails(QUICKLY + Duration::from_millis(10)), SOON).is_err());
+        assert!(slow.connect(|| fails(SLOWLY + Duration::from_millis(10)), SOON).is_err());
         let fault = slow.connect(|| panic!("it is looked up again"), SOON).unwrap_err();
         assert_eq!(number_of(&fault), EHOSTUNREACH);
     }
@@ -856,7 +903,7 @@ mod tests {
         let listener = TcpListener::bind("127.0.0.1:0").unwrap();
         let port = Port::Tcp("127.0.0.1".to_string(), listener.local_addr().unwrap().port());
         for (mut cable, wanted) in [(Cable::new(port.clone()), 60_000), (Cable::patient(port), 0)] {
-            assert!(cable.open(SOON));
+            assert!(cable.open(SOON * 20));
             let option = |name| {
                 let (mut value, mut size) = (-1, size_of::<c_int>() as u32);
                 // SAFETY: the socket is open, and the numbers are lent for the call.
@@ -910,9 +957,9 @@ mod tests {
         let listener = TcpListener::bind("127.0.0.1:0").unwrap();
         let number = listener.local_addr().unwrap().port();
         let mut cable = Cable::new(Port::Tcp("localhost".to_string(), number));
-        assert!(cable.open(SOON));
+        assert!(cable.open(SOON * 20));
         cable.close();
         cable.port = Port::Tcp("nowhere.invalid".to_string(), number);
-        assert!(cable.open(SOON));
+        assert!(cable.open(SOON * 20));
     }
 }

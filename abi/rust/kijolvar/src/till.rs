@@ -763,7 +763,7 @@ impl Till {
     ///
     /// Hardware that isn't there is no error: the device is off until [`Till::run_devices`] finds it. So that the till
     /// knows how a printer is, the call waits for its first status, at most for its timeout. A display's port may take
-    /// as long to open. To look a host's name up may take longer ([`Port::Tcp`](crate::Port::Tcp)).
+    /// as long to open, and a scanner's 2 seconds.
     ///
     /// # Errors
     ///
@@ -777,8 +777,7 @@ impl Till {
     /// Does what the driven devices need: tells the till what they say of themselves and what was scanned, opens lost
     /// ports again, and prints output that waits (AsyncMode), at most one request of each printer. Call it regularly,
     /// and then deliver events. It waits as long as this until there is something to do, also if no device has a
-    /// driver; printing may take longer, and looking a host's name up ([`Port::Tcp`](crate::Port::Tcp)). Returns
-    /// whether anything was done.
+    /// driver; printing may take longer. Returns whether anything was done.
     ///
     /// Nobody else can use the till meanwhile. If several threads do, give it to an [`Actor`](crate::Actor), and call
     /// [`Actor::run_devices`](crate::Actor::run_devices).

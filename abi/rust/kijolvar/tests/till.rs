@@ -1050,6 +1050,36 @@ fn a_driver_knows_that_output_is_given_up() {
 }
 
 #[test]
+fn a_host_that_says_nothing_keeps_no_other_device_waiting() {
+    let (silent, _queue) = system::silent();
+    let (till, port) = (till(), format!("tcp:{}", silent.local_addr().unwrap()));
+    let settings = DisplaySettings { timeout: Duration::from_millis(10), pause: Duration::ZERO, ..Default::default() };
+    till.drive("p1", SerialDisplay::open(port, settings)).unwrap();
+    let (mut looks, end) = (0, Instant::now() + Duration::from_secs(10));
+    while looks < 200 && Instant::now() < end {
+        till.run_devices(Duration::ZERO).unwrap();
+        looks += 1;
+    }
+    // If each waited for the host, these would take 50 seconds.
+    assert_eq!(looks, 200);
+    assert!(!till.driver_state("p1").unwrap().is_online);
+}
+
+#[test]
+fn a_port_that_opens_late_is_found() {
+    let listener = TcpListener::bind("127.0.0.1:0").unwrap();
+    let (till, port) = (till(), format!("tcp:{}", listener.local_addr().unwrap()));
+    // It isn't waited for at first, nor tried a second time.
+    let settings = DisplaySettings { timeout: Duration::ZERO, pause: Duration::MAX, ..Default::default() };
+    till.drive("p1", SerialDisplay::open(port, settings)).unwrap();
+    let end = Instant::now() + Duration::from_secs(10);
+    while !till.driver_state("p1").unwrap().is_online && Instant::now() < end {
+        till.run_devices(Duration::from_millis(10)).unwrap();
+    }
+    assert!(till.driver_state("p1").unwrap().is_online);
+}
+
+#[test]
 fn a_port_that_is_closed_is_so_in_all_processes() {
     let listener = TcpListener::bind("127.0.0.1:0").unwrap();
     let till = till();
@@ -1239,12 +1269,15 @@ mod system {
     use std::cell::{Cell, RefCell};
     use std::ffi::{c_char, c_int, c_long, c_uint, c_ulong, c_void, CString};
     use std::fs::{File, OpenOptions};
+    use std::net::{TcpListener, TcpStream};
     use std::os::fd::AsRawFd;
     use std::os::unix::ffi::OsStrExt;
     use std::os::unix::fs::OpenOptionsExt;
     use std::path::{Path, PathBuf};
+    use std::time::Duration;
 
     extern "C" {
+        fn listen(file: c_int, count: c_int) -> c_int;
         fn fork() -> c_int;
         fn waitpid(process: c_int, status: *mut c_int, options: c_int) -> c_int;
         fn kill(process: c_int, signal: c_int) -> c_int;
@@ -1384,6 +1417,18 @@ mod system {
     /// Makes each line hold so many bytes.
     pub fn hold(count: c_int) {
         HELD.set(count);
+    }
+
+    /// A TCP port that says nothing to who connects to it, since its queue is full.
+    pub fn silent() -> (TcpListener, Vec<TcpStream>) {
+        let (listener, mut queue) = (TcpListener::bind("127.0.0.1:0").unwrap(), Vec::new());
+        let address = listener.local_addr().unwrap();
+        // SAFETY: the socket is open.
+        assert_eq!(unsafe { listen(listener.as_raw_fd(), 0) }, 0);
+        while let Ok(stream) = TcpStream::connect_timeout(&address, Duration::from_millis(500)) {
+            queue.push(stream);
+        }
+        (listener, queue)
     }
 
     /// A pseudo terminal: one end, and the path of the other.
