@@ -890,9 +890,9 @@ mod tests {
             queue.push(stream);
         }
         let began = Instant::now();
-        let found = connect_to_any(&addresses, end_after(SOON * 2)).unwrap();
+        let found = connect_to_any(&addresses, end_after(SOON * 8)).unwrap();
         assert_eq!(found.peer_addr().unwrap(), addresses[1]);
-        assert!(began.elapsed() < SOON * 2);
+        assert!(began.elapsed() < SOON * 8);
     }
 
     #[test]
