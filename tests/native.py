@@ -655,6 +655,43 @@ def opens_cover_within(shop):
     shop.device.after_characters(5, lambda: shop.device.cover(True))
 
 
+class HearingPrinter(Printer):
+    """A printer whose line holds bytes back only while it has no power: it hears questions while it is offline."""
+
+    def may_hear(self):
+        return self.is_on
+
+
+def try_cause_behind_a_line():
+    """A printer that has no paper when it is switched on, and whose line has kept questions meanwhile. A late answer to
+    one of them doesn't tell why it is offline."""
+    for kind in ("holds", "asked holds"):
+        with contextlib.ExitStack() as stack:
+            shop = Shop(stack, kind, made=HearingPrinter)
+            device, ask = shop.device, shop.host.ask
+            told(f"an order over {kind}", "ok", shop.print(b"One\n"))
+            device.pull_plug()
+            # Each question that isn't answered in time is put again.
+            end = time.monotonic() + 4.5 * TIMEOUT / 1000
+            until(lambda: ask("run 10") and time.monotonic() > end)
+            told(f"it is off over {kind}", "offline 0", ask("state r1"))
+            # The bit of the drawer's pin is that of an open cover in another answer.
+            device.drawer(True)
+            with device.lock:
+                device.lines_left, device.is_short = 0, True
+            device.plug_in()
+            told(f"it has no paper over {kind}", True,
+                 until(lambda: ask("run 10") and shop.host.line("get r RecEmpty") == "ok true"))
+            told(f"its cover is closed over {kind}", "ok false", shop.host.line("get r CoverOpen"))
+            told(f"an order then over {kind}", "err 114 203", shop.print(TEXT))
+            events = []
+            while (event := shop.host.line("deliver r")) != "none":
+                events.append(event)
+            told(f"its cover was never open over {kind}", False, "event StatusUpdateEvent 11" in events)
+            device.load(1000)
+            told(f"it prints with paper over {kind}", True, until(lambda: ask("run 10") and shop.print(TEXT) == "ok"))
+
+
 def try_given_up():
     """An order that failed and was given up is a new one if it comes again. The first one is late."""
     again = ("claim r 0", "set r DeviceEnabled true")

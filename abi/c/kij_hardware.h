@@ -167,6 +167,9 @@ typedef struct kij_link {
     int64_t heard_at;
     int64_t tried_at;
     int64_t refreshed_at;
+    /* Whether it is offline and isn't asked yet why, and until when answers to earlier questions may come. */
+    bool is_unclear;
+    int64_t late_until;
     /* The question that was put last, and how many statuses had come when one that is offline was asked why. Of one
        that is asked: how many have no answer, whether late answers come, when one was put or such an answer came, and
        what was heard of 1, 2 and 4. */
@@ -307,6 +310,9 @@ void kij_internal_port_close(kij_port *port);
 
 /* Whether a port keeps what a device doesn't take, as one without power: a serial line with flow control. */
 bool kij_internal_port_holds_back(const kij_port *port);
+
+/* Whether something is in such a port that its device doesn't take. */
+bool kij_internal_port_is_holding(const kij_port *port);
 
 /* Drops what a port that holds back hasn't sent yet. */
 void kij_internal_port_discard(const kij_port *port);

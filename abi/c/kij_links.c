@@ -77,12 +77,15 @@ static void ask_for(kij_link *link, uint32_t question) {
     put_question(link, question);
 }
 
+/* Whether a question goes out at once. In a line that holds bytes back it would only wait with those before it. */
+static bool may_ask(const kij_link *link) { return is_idle(link) && !kij_internal_port_is_holding(&link->port); }
+
 /* Asks a printer that says nothing by itself how it is: the printer, why it is offline, the paper, one after another.
    It begins again if one isn't answered in time. */
 static void ask_on(kij_link *link) {
     int64_t time = link->unanswered > 0 ? link->timeout : often;
     if (link->has_late_answers) time = least(time, apart);
-    if (!link->is_asked || !is_idle(link) || kij_internal_now() - link->questioned_at < time) return;
+    if (!link->is_asked || !may_ask(link) || kij_internal_now() - link->questioned_at < time) return;
     /* The late answers that haven't come are lost. */
     if (link->has_late_answers) link->unanswered = 0;
     link->has_late_answers = false;
@@ -110,6 +113,13 @@ static bool has_question(const kij_link *link) { return link->is_asked ? link->u
 static void ask_now(kij_link *link) {
     if (link->is_asked) ask_for(link, ASKED_NOW);
     else ask(link);
+}
+
+/* Asks a printer that is offline why, once late answers have come. */
+static void ask_why(kij_link *link) {
+    if (!link->is_unclear || link->was_asked || !may_ask(link) || kij_internal_now() < link->late_until) return;
+    link->is_unclear = false;
+    ask_now(link);
 }
 
 /* ---- Jobs and parcels ---- */
@@ -272,14 +282,18 @@ static void lose_sent(kij_link *link) {
     ask_now(link);
 }
 
+/* When the question was put that is out. */
+static int64_t asked_last(const kij_link *link) { return link->is_asked ? link->questioned_at : link->asked_at; }
+
 /* Looks whether a printer says anything of an order, or answers, if its line holds bytes back. One that has stopped
    needn't: it may take nothing. */
 static void watch(kij_link *link) {
     int64_t most = least(link->timeout, silence);
     int64_t quiet = kij_internal_now() - greatest(link->heard_at, link->began_at);
     if (!kij_internal_port_holds_back(&link->port) || !is_any_due(link) || is_stopped(link)) return;
+    /* It has time to answer, also if nobody has looked for long. */
     if (quiet >= most / 2 && !has_question(link)) ask_now(link);
-    else if (quiet >= most) lose_sent(link);
+    else if (quiet >= most && kij_internal_now() - asked_last(link) >= most / 2) lose_sent(link);
 }
 
 /* Bytes of a parcel's order were lost. */
@@ -404,6 +418,8 @@ static void come_back(kij_link *link) {
     if (!link->is_started || link->port.kind == KIJ_PORT_SERIAL) put_start(link);
     link->is_there = true;
     link->is_started = link->was_silent = link->is_refreshing = false;
+    /* A line may have kept questions for it. */
+    if (kij_internal_port_holds_back(&link->port)) link->late_until = kij_internal_now() + apart;
 }
 
 /* The printer has answered something. */
@@ -463,10 +479,14 @@ static void take_reply(kij_link *link, const char *text, const kij_told *told) {
         link->told[0] = *told;
         link->told_count = 1;
         link->told_at = kij_internal_now();
-        link->is_refreshing = false;
+        link->is_refreshing = link->is_unclear = false;
         link->statuses++;
-    } else if (told->asked != ASKED_NOW || (says(line, "offline", "yes") && !has_said_offline(link))) {
+    } else if (told->asked != ASKED_NOW) {
         take_cause(link, line, told);
+    } else if (says(line, "offline", "yes") && !has_said_offline(link)) {
+        /* An answer doesn't say what was asked: one to an earlier question would be taken for the cause. */
+        link->is_unclear = kij_internal_now() < link->late_until;
+        if (!link->is_unclear) take_cause(link, line, told);
     } else if (is_stopped(link) && says(line, "offline", "no")) {
         /* It prints again, and hasn't said so: it was off, and has lost that it was asked. */
         put_refresh(link);
@@ -536,6 +556,8 @@ static bool take_first(kij_link *link) {
         take_reply(link, text, &told);
         return true;
     }
+    /* It is a late answer, and more may come. */
+    if (link->is_unclear) link->late_until = kij_internal_now() + apart;
     link->got_size -= used;
     memmove(link->got, link->got + used, link->got_size);
     return true;
@@ -625,6 +647,7 @@ static bool pump(kij_link *link, is_reached reached, const kij_job *job) {
         int64_t left = link->ends_at - kij_internal_now();
         if (left <= 0) return true;
         ask_on(link);
+        ask_why(link);
         fill(link);
         kij_internal_wait_typing(link->till, &link->port, link->out_sent < link->out.size, least(left, often),
                                  &can_read, &can_write);
@@ -643,6 +666,7 @@ static void forget(kij_link *link) {
     drop(link);
     link->out.size = link->out_sent = link->control_size = link->got_size = 0;
     link->is_there = link->is_started = link->was_silent = link->is_refreshing = link->was_asked = false;
+    link->is_unclear = false;
     link->told_count = 0;
     memset(&link->signs, 0, sizeof link->signs);
     if (!link->is_asked) return;
@@ -703,13 +727,14 @@ static bool look_after(kij_link *link) {
     /* After an order that failed it is asked at once. A question that is out stays, with its time: if each such order
        asked again, a printer that is off would never count as off. */
     bool is_heard = link->is_there && !link->was_silent && now - link->heard_at <= link->timeout;
-    if (!is_heard && (!link->was_asked || is_late) && is_idle(link)) ask(link);
-    if (is_stopped(link) && !link->is_refreshing && now - link->refreshed_at > link->pause && is_idle(link)) {
+    if (!is_heard && (!link->was_asked || is_late) && may_ask(link)) ask(link);
+    if (is_stopped(link) && !link->is_refreshing && now - link->refreshed_at > link->pause && may_ask(link)) {
         link->is_refreshing = true;
         link->refreshed_at = now;
         put_refresh(link);
     }
     ask_on(link);
+    ask_why(link);
     return true;
 }
 

@@ -358,6 +358,11 @@ bool kij_internal_port_holds_back(const kij_port *port) {
     return port->kind == KIJ_PORT_SERIAL && port->serial.flow != KIJ_FLOW_NONE;
 }
 
+bool kij_internal_port_is_holding(const kij_port *port) {
+    int left = 0;
+    return kij_internal_port_holds_back(port) && ioctl(port->file, TIOCOUTQ, &left) == 0 && left > 0;
+}
+
 void kij_internal_port_discard(const kij_port *port) {
     if (kij_internal_port_holds_back(port)) (void)tcflush(port->file, TCOFLUSH);
 }

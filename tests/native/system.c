@@ -30,8 +30,10 @@
 static int failed, lookups, lookup_fault, calls, read_fault, write_fault, sync_fault, syncs;
 static bool is_partial;
 static char looked_up[100];
-/* Whether keys are kept from other programs, or -1. */
-static int is_grabbed = -1;
+/* Whether keys are kept from other programs, or -1, and which type of their events is left out. */
+static int is_grabbed = -1, left_out = -1;
+/* How many bytes each line holds back. */
+static int held;
 
 int __real_getaddrinfo(const char *host, const char *service, const struct addrinfo *wanted, struct addrinfo **found);
 int __real_fsync(int file);
@@ -65,7 +67,11 @@ int __wrap_ioctl(int file, unsigned long request, ...) {
     if (request == EVIOCGRAB) is_grabbed = va_arg(arguments, int);
     else argument = va_arg(arguments, void *);
     va_end(arguments);
-    return request == EVIOCGRAB ? 0 : __real_ioctl(file, request, argument);
+    if (request == EVIOCSMASK) left_out = (int)((struct input_mask *)argument)->type;
+    /* A pseudo terminal doesn't say how much it holds. */
+    if (request == TIOCOUTQ && held > 0) *(int *)argument = held;
+    else if (request != EVIOCGRAB && request != EVIOCSMASK) return __real_ioctl(file, request, argument);
+    return 0;
 }
 
 /* How many of so many bytes are read or written: none, and errno, if there is a fault or a signal. */
@@ -172,6 +178,50 @@ static void try_left_settings(void) {
     close(other);
 }
 
+/* Runs a till so many milliseconds, and counts how often a printer is asked meanwhile whether it is there. */
+static int count_questions(kij_till *till, int other, int64_t time) {
+    char found[4096];
+    int count = 0;
+    int64_t end = kij_internal_now() + time;
+    while (kij_internal_now() < end) {
+        told("the devices run", KIJ_OK, kij_run_devices(till, 10, NULL).code);
+        ssize_t size = read(other, found, sizeof found);
+        for (ssize_t at = 0; at + 3 <= size; at++) count += memcmp(found + at, "\x10\x04\x01", 3) == 0;
+    }
+    return count;
+}
+
+/* Questions don't pile up in a line that holds them back. */
+static void try_held_questions(void) {
+    for (int is_asked = 0; is_asked < 2; is_asked++) {
+        kij_escpos_settings settings = KIJ_ESCPOS_SETTINGS;
+        kij_till *till = NULL;
+        kij_port port;
+        int other = open_line(&port), count = 0;
+        int64_t end = kij_internal_now() + 10000;
+        settings.timeout = 50;
+        settings.is_asked = is_asked != 0;
+        settings.serial.is_serial = true;
+        told("a line that others read", 0, fcntl(other, F_SETFL, O_NONBLOCK));
+        told("a till", KIJ_OK, kij_open(NULL, NULL, KIJ_EXISTING, &till).code);
+        told("a printer on a line", KIJ_OK, kij_escpos_printer_open(till, "r1", port.name, &settings).code);
+        while (count < 3 && kij_internal_now() < end) count += count_questions(till, other, 50);
+        told("it is off, and asked again and again", true, count >= 3);
+        held = 3;
+        /* One may be on its way. */
+        (void)count_questions(till, other, 100);
+        count = count_questions(till, other, 500);
+        told("a line that holds a question gets no other", true, count <= 1);
+        held = 0;
+        for (count = 0, end = kij_internal_now() + 10000; count == 0 && kij_internal_now() < end;)
+            count += count_questions(till, other, 50);
+        told("it is asked again", true, count > 0);
+        kij_close(till);
+        kij_internal_port_close(&port);
+        close(other);
+    }
+}
+
 /* A line whose adapter is pulled out hasn't sent its bytes. */
 static void try_lost_line(void) {
     kij_port port;
@@ -265,6 +315,7 @@ static void try_forked_keys(void) {
     kij_internal_port(&port, "/dev/null", &serial, true);
     told("keys are opened", true, kij_internal_port_open(&port, 100));
     told("no other program gets them", 1, is_grabbed);
+    told("their scan codes are left out", EV_MSC, left_out);
     fflush(stdout);
     pid_t closes = fork();
     if (closes == 0) {
@@ -650,6 +701,7 @@ int main(int count, char **words) {
     try_line_settings();
     try_disturbed_bytes();
     try_left_settings();
+    try_held_questions();
     try_lost_line();
     try_closing();
     snprintf(forked, sizeof forked, "%s/forked-totals", words[1]);
