@@ -243,13 +243,17 @@ impl StoppedCall {
         ];
         let (text, fuse) = self.fused((pass, fail), &lines)?;
         let begun = ["ok\nok\n", row.first.1, "err 111\n", printed.as_str()];
-        let begun = joined(self.alloc, &begun)?;
-        let before = look_text(self.alloc, BEFORE, row.first_found)?;
+        Ok((self.tell_behind(&text, &begun)?, fuse.into_inner()))
+    }
+
+    /// Which files a text tells of behind these texts.
+    fn tell_behind(&self, text: &[u8], begun: &[&str]) -> Result<Found, Fail> {
+        let begun = joined(self.alloc, begun)?;
+        let before = look_text(self.alloc, BEFORE, self.row.first_found)?;
         let before = joined(self.alloc, &[begun.as_str(), before.as_str()])?;
-        let after = look_text(self.alloc, row.after, row.first_found)?;
+        let after = look_text(self.alloc, self.row.after, self.row.first_found)?;
         let after = joined(self.alloc, &[begun.as_str(), after.as_str()])?;
-        let found = tell(&text, before.as_str(), after.as_str())?;
-        Ok((found, fuse.into_inner()))
+        tell(text, before.as_str(), after.as_str())
     }
 
     /// Stops the call over a disk that never works again, and enables the control anew in vain: the disk then.

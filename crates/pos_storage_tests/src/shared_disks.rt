@@ -52,3 +52,13 @@ pub fn bytes_of(alloc: Global, disk: &mut MemDisk) -> Result<Vec<u8>, Fail> {
 pub fn has(bytes: &[u8], at: usize, wanted: &[u8]) -> bool {
     bytes.get(at..).is_some_and(|rest| rest.starts_with(wanted))
 }
+
+// Whether such bytes are at each of these places.
+pub fn has_all(bytes: &[u8], wanted: &[(usize, &[u8])]) -> bool {
+    for (at, run) in wanted {
+        if !has(bytes, *at, run) {
+            return false;
+        }
+    }
+    true
+}

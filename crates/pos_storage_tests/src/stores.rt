@@ -1,5 +1,5 @@
 // The files of a store: on the disk, after a stop at each call of it, and after refused growths.
-use crate::shared_disks::{BODY, FORMATTED, GROUP, SECOND, THIRD, bytes_of, disk_of, has};
+use crate::shared_disks::{BODY, FORMATTED, GROUP, SECOND, THIRD, bytes_of, disk_of, has_all};
 use pos_dir::{DirectoryFault, Group, decode_group};
 use pos_disk::{Disk, DiskFault, Fill, FuseDisk, MemDisk};
 use pos_image::{ImageFault, Layout};
@@ -77,10 +77,14 @@ fn a_group_on_the_disk(rt: HostRuntime) -> Result<(), Fail> {
     apply(&mut store, &decode_group(alloc, &GROUP)?)?;
     assert!(rt; is_after(&store) == Ok(true));
     let bytes = bytes_of(alloc, &mut store.into_disk())?;
-    assert!(rt; has(&bytes, LOG, &[0xA5, 0, 0, 0, 24]) && has(&bytes, LOG + 5, &GROUP));
-    assert!(rt;
-        has(&bytes, LOG + 29, &[0]) && has(&bytes, 0, &FORMATTED) && has(&bytes, SECOND, &[0])
-    );
+    let runs = [
+        (LOG, [0xA5, 0, 0, 0, 24].as_slice()),
+        (LOG + 5, GROUP.as_slice()),
+        (LOG + 29, [0].as_slice()),
+        (0, FORMATTED.as_slice()),
+        (SECOND, [0].as_slice()),
+    ];
+    assert!(rt; has_all(&bytes, &runs));
     Ok(())
 }
 
@@ -91,23 +95,30 @@ const PASSES_THE_END: [u8; 17] = [0, 1, 4, 0, 0, 0, 0, 0, 1, 0, 0, 0, 4, 1, 2, 3
 
 const OVERWRITES: [u8; 17] = [0, 1, 4, 0, 0, 0, 0, 0, 0, 0, 0, 0, 4, 1, 2, 3, 4];
 
+// What a commit of the group with these bytes comes to.
+fn committed<D: Disk>(alloc: Global, store: &mut Store<D>, text: &[u8]) -> Result<(), StoreFault> {
+    let Ok(group) = decode_group(alloc, text) else {
+        return Err(StoreFault::NoMemory);
+    };
+    commit(store, &group)
+}
+
 // The disk works for the recovery and one commit alone, so a refusal hasn't called it.
 #[test]
 fn a_group_that_is_not_applicable(rt: HostRuntime) -> Result<(), Fail> {
     let alloc = rt.alloc();
     let mut store = Store::new(alloc, FuseDisk::new(fresh(alloc, &[])?, 11, 1));
-    let off = Err(StoreFault::Off);
-    assert!(rt; commit(&mut store, &decode_group(alloc, &CREATES)?) == off);
+    assert!(rt; committed(alloc, &mut store, &CREATES) == Err(StoreFault::Off));
     apply(&mut store, &decode_group(alloc, &GROUP)?)?;
     for (text, fault) in [
         (CREATES.as_slice(), DirectoryFault::Exists),
         (PASSES_THE_END.as_slice(), DirectoryFault::Range),
     ] {
-        let outcome = commit(&mut store, &decode_group(alloc, text)?);
-        assert!(rt; outcome == Err(StoreFault::Refused(fault)) && is_after(&store) == Ok(true));
+        assert!(rt; committed(alloc, &mut store, text) == Err(StoreFault::Refused(fault)));
+        assert!(rt; is_after(&store) == Ok(true));
     }
-    let outcome = commit(&mut store, &decode_group(alloc, &OVERWRITES)?);
-    assert!(rt; outcome == Err(StoreFault::Device) && store.mode() == Mode::Off);
+    assert!(rt; committed(alloc, &mut store, &OVERWRITES) == Err(StoreFault::Device));
+    assert!(rt; store.mode() == Mode::Off);
     Ok(())
 }
 
@@ -119,8 +130,13 @@ fn a_group_that_does_not_fit(rt: HostRuntime) -> Result<(), Fail> {
     assert!(rt; is_after(&store) == Ok(true));
     let head = [0xA5, 0, 0, 0, 0, 0, 0, 0, 2, 0, 0, 0, 12];
     let bytes = bytes_of(alloc, &mut store.into_disk())?;
-    assert!(rt; has(&bytes, SECOND, &head) && has(&bytes, SECOND + 13, &BODY));
-    assert!(rt; has(&bytes, SECOND + LOG, &[0]) && has(&bytes, LOG, &MADE));
+    let runs = [
+        (SECOND, head.as_slice()),
+        (SECOND + 13, BODY.as_slice()),
+        (SECOND + LOG, [0].as_slice()),
+        (LOG, MADE.as_slice()),
+    ];
+    assert!(rt; has_all(&bytes, &runs));
     Ok(())
 }
 
@@ -135,6 +151,13 @@ fn move_files<D: Disk>(store: &mut Store<D>) -> Result<(), StoreFault> {
     }
 }
 
+// Whether a store has the file of the two changes by layout 2, and can't be moved again.
+fn is_moved<D: Disk>(store: &mut Store<D>) -> bool {
+    is_after(store) == Ok(true)
+        && store.layout() == Layout::Layout2
+        && store.migrate() == Err(StoreFault::AlreadyLayout2)
+}
+
 #[test]
 fn files_that_are_moved(rt: HostRuntime) -> Result<(), Fail> {
     let alloc = rt.alloc();
@@ -142,13 +165,20 @@ fn files_that_are_moved(rt: HostRuntime) -> Result<(), Fail> {
     assert!(rt; store.migrate() == Err(StoreFault::Off));
     apply(&mut store, &decode_group(alloc, &GROUP)?)?;
     move_files(&mut store)?;
-    assert!(rt; is_after(&store) == Ok(true) && store.layout() == Layout::Layout2);
-    assert!(rt; store.migrate() == Err(StoreFault::AlreadyLayout2));
-    let head = [0xA5, 0, 0, 0, 0, 0, 0, 0, 1, 0, 0, 0, 12];
+    assert!(rt; is_moved(&mut store));
     let bytes = bytes_of(alloc, &mut store.into_disk())?;
-    assert!(rt; has(&bytes, THIRD, &head) && has(&bytes, THIRD + 13, &BODY));
-    assert!(rt; has(&bytes, THIRD + 81_920, &[0]) && has(&bytes, 0, &FORMATTED));
-    assert!(rt; has(&bytes, LOG, &[0xA5, 0, 0, 0, 24]) && has(&bytes, SECOND, &[0]));
+    let runs = [
+        (
+            THIRD,
+            [0xA5, 0, 0, 0, 0, 0, 0, 0, 1, 0, 0, 0, 12].as_slice(),
+        ),
+        (THIRD + 13, BODY.as_slice()),
+        (THIRD + 81_920, [0].as_slice()),
+        (0, FORMATTED.as_slice()),
+        (LOG, [0xA5, 0, 0, 0, 24].as_slice()),
+        (SECOND, [0].as_slice()),
+    ];
+    assert!(rt; has_all(&bytes, &runs));
     Ok(())
 }
 
