@@ -141,10 +141,11 @@ static int set_up(int file, const kij_port *port) {
     return !is_serial || tcflush(file, TCIOFLUSH) == 0 ? 0 : errno;
 }
 
-/* Leaves the scan code of each key out of a keyboard's events, a third of them: Linux keeps few that nobody reads. */
+/* Leaves the scan code of each key out of a keyboard's events, a third of them: Linux keeps few that nobody reads. It
+   takes masks in parts of 8 bytes. */
 static void leave_out(int file) {
-    const uint8_t none[(MSC_CNT + 7) / 8] = {0};
-    struct input_mask mask = {.type = EV_MSC, .codes_size = sizeof none, .codes_ptr = (uintptr_t)none};
+    const uint64_t none = 0;
+    struct input_mask mask = {.type = EV_MSC, .codes_size = sizeof none, .codes_ptr = (uintptr_t)&none};
     (void)ioctl(file, EVIOCSMASK, &mask);
 }
 

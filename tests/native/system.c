@@ -67,7 +67,9 @@ int __wrap_ioctl(int file, unsigned long request, ...) {
     if (request == EVIOCGRAB) is_grabbed = va_arg(arguments, int);
     else argument = va_arg(arguments, void *);
     va_end(arguments);
-    if (request == EVIOCSMASK) left_out = (int)((struct input_mask *)argument)->type;
+    /* Linux takes masks in parts of 8 bytes. */
+    struct input_mask *mask = (struct input_mask *)argument;
+    if (request == EVIOCSMASK) left_out = mask->codes_size % 8 == 0 ? (int)mask->type : -1;
     /* A pseudo terminal doesn't say how much it holds. */
     if (request == TIOCOUTQ && held > 0) *(int *)argument = held;
     else if (request != EVIOCGRAB && request != EVIOCSMASK) return __real_ioctl(file, request, argument);

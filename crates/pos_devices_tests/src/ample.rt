@@ -23,6 +23,15 @@ fn ample_memory_refuses_no_step(rt: HostRuntime) -> Result<(), Fail> {
     ];
     let scanner = scanner_steps(alloc)?;
     played_with(alloc, &mut PlainScanner::new(), &scanner, &events, true)?;
+    let printer = printer_steps(alloc)?;
+    let mut roll = RollPrinter::new(alloc, 8, 5, 2);
+    played_with(alloc, &mut roll, &printer, &EVENTS, true)?;
+    Ok(())
+}
+
+#[test]
+fn ample_memory_refuses_no_step_of_a_display(rt: HostRuntime) -> Result<(), Fail> {
+    let alloc = rt.alloc();
     let display = display_steps(alloc)?;
     played_with(
         alloc,
@@ -38,9 +47,6 @@ fn ample_memory_refuses_no_step(rt: HostRuntime) -> Result<(), Fail> {
         &[],
         true,
     )?;
-    let printer = printer_steps(alloc)?;
-    let mut roll = RollPrinter::new(alloc, 8, 5, 2);
-    played_with(alloc, &mut roll, &printer, &EVENTS, true)?;
     Ok(())
 }
 

@@ -407,6 +407,13 @@ fn changed_rows_have_their_bytes(rt: HostRuntime) -> Result<(), Fail> {
         let bytes = rows_bytes(alloc, protocol, before, after)?;
         assert!(rt; bytes.as_slice() == want);
     }
+    Ok(())
+}
+
+#[test]
+fn cells_that_are_no_rows_have_no_bytes(rt: HostRuntime) -> Result<(), Fail> {
+    let alloc = rt.alloc();
+    let blank = blank_cells(alloc, 3, 4)?;
     let short = cells_of(alloc, 3, 4, "Tea")?;
     let other = cells_of(alloc, 4, 3, "Tea     1.20")?;
     let control = cells_of(alloc, 3, 4, "Tea\t    1.20")?;

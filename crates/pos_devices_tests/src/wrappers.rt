@@ -64,6 +64,11 @@ fn calls_with_nothing_to_do_order_too(rt: HostRuntime) -> Result<(), Fail> {
     ];
     played(rt.alloc(), &mut display, &steps, &[])?;
     assert_eq!(rt; display.asks(), 2);
+    Ok(())
+}
+
+#[test]
+fn calls_with_nothing_to_print_order_nothing(rt: HostRuntime) -> Result<(), Fail> {
     let mut printer = Recorder::new(RollPrinter::new(rt.alloc(), 8, 5, 2));
     let steps = [
         Step::Asked(Call::CutPaper(0)),

@@ -102,12 +102,17 @@ fn a_claim_keeps_others_out(rt: HostRuntime) -> Result<(), Fail> {
     Ok(())
 }
 
+// Whether a write is buffered and rolled back.
+fn is_rolled_back<D: Disk>(totals: &mut Totals<D>) -> Result<bool, NoMemory> {
+    let is_begun = is_done(totals.begin_trans(0));
+    overwrite(totals)?;
+    Ok(is_begun && is_done(totals.rollback(0)) && !totals.in_transaction(0))
+}
+
 #[test]
 fn a_rollback_leaves_the_files(rt: HostRuntime) -> Result<(), Fail> {
     let mut totals = recovered_totals(rt.alloc())?;
-    assert!(rt; is_done(totals.begin_trans(0)));
-    overwrite(&mut totals)?;
-    assert!(rt; is_done(totals.rollback(0)) && !totals.in_transaction(0));
+    assert!(rt; is_rolled_back(&mut totals)?);
     let text = spell(rt.alloc(), &totals, 1)?;
     assert!(rt; text.as_slice() == BEFORE.as_slice());
     Ok(())
@@ -115,20 +120,25 @@ fn a_rollback_leaves_the_files(rt: HostRuntime) -> Result<(), Fail> {
 
 // Whether the calls of another control that use a file are refused, since the area is claimed.
 fn are_claimed<D: Disk>(totals: &mut Totals<D>) -> Result<bool, NoMemory> {
+    let found = is_refused(totals.find(1, b"A"), Code::Claimed);
     let named = is_refused(totals.find_by_index(1, 0)?, Code::Claimed);
     let read = is_refused(totals.read(1, 1, 0, 1)?, Code::Claimed);
     let written = is_refused(totals.write(1, 1, 1, &[8, 9])?, Code::Claimed);
-    Ok(named && read && written)
+    Ok(found && named && read && written)
+}
+
+// Whether what isn't refused for the claim of the area fails, since the totals are off.
+fn are_off<D: Disk>(totals: &mut Totals<D>) -> bool {
+    is_refused(totals.claim_file(1, 1, 0), Code::Failure)
+        && is_refused(totals.claim_file(1, 1, -2), Code::Failure)
+        && is_refused(totals.find(0, b"A"), Code::Failure)
 }
 
 #[test]
 fn a_foreign_area_comes_before_a_fault(rt: HostRuntime) -> Result<(), Fail> {
     let mut totals = over(rt.alloc(), disk_with_files(rt.alloc())?)?;
     assert!(rt; totals.claim_area(0).is_ok());
-    assert!(rt; is_refused(totals.find(1, b"A"), Code::Claimed));
     assert!(rt; are_claimed(&mut totals)?);
-    assert!(rt; is_refused(totals.claim_file(1, 1, 0), Code::Failure));
-    assert!(rt; is_refused(totals.claim_file(1, 1, -2), Code::Failure));
-    assert!(rt; is_refused(totals.find(0, b"A"), Code::Failure));
+    assert!(rt; are_off(&mut totals));
     Ok(())
 }

@@ -21,13 +21,17 @@ fn with_repeats(alloc: Global, totals: &mut Totals<MemDisk>, change: Change) -> 
     Ok(is_unchanged)
 }
 
+// Whether totals that are off have the whole of a change in the end, and nothing of it where a growth was refused.
+fn is_whole(alloc: Global, totals: &mut Totals<MemDisk>, change: Change) -> Result<bool, Fail> {
+    let first = if change == Change::Delete { 2 } else { 1 };
+    Ok(with_repeats(alloc, totals, change)? && is_after(alloc, totals, change, first)?)
+}
+
 #[test]
 fn a_refused_growth_changes_nothing(rt: HostRuntime) -> Result<(), Fail> {
     for change in CHANGES {
         let mut totals = over(rt.alloc(), disk_with_files(rt.alloc())?)?;
-        assert!(rt; with_repeats(rt.alloc(), &mut totals, change)?);
-        let first = if change == Change::Delete { 2 } else { 1 };
-        assert!(rt; is_after(rt.alloc(), &totals, change, first)?);
+        assert!(rt; is_whole(rt.alloc(), &mut totals, change)?);
     }
     Ok(())
 }
@@ -56,15 +60,19 @@ fn fill_up(totals: &mut Totals<MemDisk>, bytes: &[u8]) -> Result<Answer, Fail> {
     Ok(totals.read(0, 3, 0, size)?)
 }
 
-// Whether a third file of so many bytes may be written whole, and nothing is free then.
+// Whether a third file of these bytes may be written whole into totals that are off, and nothing is free then.
+fn is_filled(totals: &mut Totals<MemDisk>, bytes: &[u8]) -> Result<bool, Fail> {
+    totals.recover()?;
+    let read = fill_up(totals, bytes)?;
+    let is_read = matches!(&read, Answer::Done(Value::Bytes(it)) if it.as_slice() == bytes);
+    Ok(is_read && totals.is_ready() && totals.free() == 0)
+}
+
+// The same of a disk and a file of so many bytes.
 fn fills_up(alloc: Global, disk: MemDisk, size: usize) -> Result<bool, Fail> {
     let bytes = vec![in alloc; 7u8; size]?;
     let mut totals = over(alloc, disk)?;
-    totals.recover()?;
-    let read = fill_up(&mut totals, &bytes)?;
-    let is_read =
-        matches!(&read, Answer::Done(Value::Bytes(it)) if it.as_slice() == bytes.as_slice());
-    Ok(is_read && totals.is_ready() && totals.free() == 0)
+    is_filled(&mut totals, &bytes)
 }
 
 #[test]
