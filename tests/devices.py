@@ -530,6 +530,40 @@ def try_late_answer_behind_a_line():
         told("each line is whole", [], not_whole(shop.device, shop.till.device("r1").show().items))
 
 
+class FewAnswers(Printer):
+    """A printer that falls silent once it has acknowledged so many pieces."""
+
+    left = None
+
+    def _acknowledges(self, answer):
+        super()._acknowledges(answer)
+        self.left = None if self.left is None else self.left - 1
+        if self.left == 0:
+            self.hang()
+
+
+def try_late_answer_of_a_line():
+    """A printer that is asked, takes nothing while its cover is open, and much later acknowledges what counts for
+    nothing any more: that isn't taken for a line that is sent again."""
+    with contextlib.ExitStack() as stack:
+        shop = Shop(stack, "asked holds", timeout=4.0, made=FewAnswers)
+        device, text = shop.device, b"One\nTwo\n"
+        shop.begins()
+        device.after_characters(2, lambda: device.cover(True))
+        told("the cover is opened in a line", 111, raised(shop.control.print, text)[0])
+        device.slow(1.0)
+        # The line that had begun, and the same again.
+        device.left = 2
+        device.cover(False)
+        told("it isn't done before its last line is printed", True, raised(shop.control.print, text) is not None)
+        told("that wasn't printed", {b"Before", b"One"}, set(characters_of(device)))
+        device.slow(0)
+        device.hang(False)
+        told("it is done", True, until(
+            lambda: shop.till.run_devices(0.01) is not None and raised(shop.control.print, text) is None))
+        told("each line is whole", [], not_whole(device, shop.till.device("r1").show().items))
+
+
 def try_cover_behind_a_line():
     """A printer that takes nothing while its cover is open, on a cable that keeps what is sent."""
     for place, pause in ((6, 0), (35, 0), (35, 3.5 * TIMEOUT)):

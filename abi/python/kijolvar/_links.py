@@ -328,8 +328,10 @@ class PrinterLink:
             self._ask()
 
     def _is_held(self) -> bool:
-        """Whether something is due of which the line may keep a part. One that has stopped says that it goes on."""
-        return bool(self._due) and self.port.holds_back and not self.is_stopped
+        """Whether something of a job is due of which the line may keep a part. One that has stopped says that it goes
+        on."""
+        is_any = any(parcel.job is not None for parcel in self._due)
+        return is_any and self.port.holds_back and not self.is_stopped
 
     def _tears(self) -> None:
         """The printer may have lost a part of what is due, and the line may have kept the rest: nothing of it counts any
@@ -340,9 +342,13 @@ class PrinterLink:
         self.port.discard()
         self._drop()
         self._outbox.clear()
-        self._due.clear()
+        self._discounts_due()
         self._was_silent, self._asked_at, self._asked_what = True, None, _PRINTER
         self._ask_at_once()
+
+    def _discounts_due(self) -> None:
+        """No acknowledgement counts for what is due: those that still come have its numbers."""
+        self._due.clear()
 
     def _was_reset(self) -> bool:
         """Whether a printer that acknowledges something has lost its power since it stopped. It would have said first that
@@ -642,8 +648,6 @@ class AskedLink(PrinterLink):
         self._asked_last, self._unanswered, self._questioned_at = 1, 0, -1e9
         # Whether late answers come, as far as is known.
         self._is_late = False
-        # Whether what was due was lost since the printer has answered, and until when answers to that may come.
-        self._was_torn, self._answers_until = False, -1e9
         self._heard: dict[int, tuple[Told, dict[str, str]]] = {}
         self._rounds = 0
 
@@ -732,18 +736,11 @@ class AskedLink(PrinterLink):
         job.sent += 1
         self._send(job.pieces[job.sent - 1], job, job.sent)
 
-    def _is_back(self) -> bool:
-        """What the line has kept is answered a little after the printer is back. Such answers have no number."""
-        return super()._is_back() and time.monotonic() >= self._answers_until
-
-    def _tears(self) -> None:
-        super()._tears()
-        self._was_torn = True
-
-    def _comes_back(self) -> None:
-        super()._comes_back()
-        if self._was_torn:
-            self._was_torn, self._answers_until = False, time.monotonic() + _APART
+    def _discounts_due(self) -> None:
+        """What is due counts for nothing, but stays due. Its acknowledgements may still come, and mustn't count for what
+        is sent next."""
+        for parcel in self._due:
+            parcel.job = None
 
     def _gives_up(self) -> None:
         """Waits for acknowledgements that are late. They are lost if none comes for the whole time, although the printer
