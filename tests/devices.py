@@ -1766,6 +1766,19 @@ def try_flow():
                  flags_of(SerialPort(device.path, parity=parity, flow="none")))
 
 
+def try_disturbed_bytes():
+    """A byte that came with a wrong parity: a printer's or a display's is dropped, and a scanner's reads as 0."""
+    for made, wanted in ((EscPosPrinter, True), (SerialDisplay, True), (WedgeScanner, False)):
+        with Scanner(cable()) as device:
+            driver = made(SerialPort(device.path, parity="even"))
+            port = driver.link.port if made is EscPosPrinter else driver.port
+            port.open()
+            flags = termios.tcgetattr(port.fileno())[0]
+            told(f"{made.__name__}: parity counts, and a wrong byte is dropped", (True, wanted),
+                 (bool(flags & termios.INPCK), bool(flags & termios.IGNPAR)))
+            port.close()
+
+
 def try_disturbed_scans():
     """A 0 byte from a serial line is one that the line has disturbed: its code is a failed scan."""
     for port, wanted in ((SerialPort, ["ErrorEvent", "DataEvent"]), (kijolvar.FilePort, ["DataEvent"] * 2)):

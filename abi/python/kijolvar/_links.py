@@ -165,7 +165,7 @@ class PrinterLink:
 
     def __init__(self, port: Port, timeout: float, pause: float) -> None:
         self.port, self.timeout, self._pause = port, timeout, pause
-        port.is_patient = True
+        port.is_patient, port.keeps_faults = True, False
         # When the order that is out or the connection began, and until when something has to be acknowledged.
         self._began_at = self._ends_at = -1e9
         self.wires: list[Wire] = []

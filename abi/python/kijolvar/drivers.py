@@ -377,6 +377,7 @@ class SerialDisplay(Driver):
         if protocol not in _PROTOCOLS:
             raise ValueError(f"no such protocol: {protocol!r}")
         self.port, self._timeout, self._pause = port_of(port, flow="none"), timeout, pause
+        self.port.keeps_faults = False
         self._settings = WireSettings(protocol=_PROTOCOLS.index(protocol))
         self._till: Till | None = None
         self._tried_at = self._shown_at = -1e9

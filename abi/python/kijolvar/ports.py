@@ -51,9 +51,12 @@ class Port:
         name: The port's name.
         is_patient: Whether what was sent may wait for long, as at a printer whose cover is open. If not, a TCP port
             whose other end acknowledges nothing for a minute is lost.
+        keeps_faults: Whether a serial line with a parity gives 0 for a byte that came with a wrong one, which a scanner
+            needs. If not, such a byte is dropped: 0 may be a printer's answer that all is well.
     """
 
     is_patient = False
+    keeps_faults = True
 
     def __init__(self, name: str) -> None:
         self.name = name
@@ -340,7 +343,7 @@ class SerialPort(FilePort):
         stops: 1 or 2 stop bits.
         flow: How the device says that it can take no more: "rts-cts", "xon-xoff" or "none".
 
-    With a parity, a byte that came with a wrong one is read as 0.
+    With a parity, a byte that came with a wrong one is read as 0. One from a printer or a display is dropped.
 
     Raises:
         ValueError: No line has such a setting.
@@ -374,7 +377,8 @@ class SerialPort(FilePort):
         control |= termios.CSTOPB if self._stops == 2 else 0
         control |= termios.CRTSCTS if self._flow == "rts-cts" else 0
         found[0] |= termios.IXON | termios.IXOFF if self._flow == "xon-xoff" else 0
-        found[0] |= termios.INPCK if self._parity != "none" else 0
+        faults = termios.INPCK if self.keeps_faults else termios.INPCK | termios.IGNPAR
+        found[0] |= faults if self._parity != "none" else 0
         found[2], found[4], found[5] = control, self._speed, self._speed
         termios.tcsetattr(file, termios.TCSANOW, found)
         termios.tcflush(file, termios.TCIOFLUSH)
