@@ -793,6 +793,28 @@ def try_given_up():
             told(f"{name}: late orders", 1, shop.driver.late_orders)
 
 
+def try_given_up_and_released():
+    """Output that failed, and is given up by the reply to its ErrorEvent after its control was released or closed."""
+    for leaves in ("release", "close"):
+        with contextlib.ExitStack() as stack:
+            shop = Shop(stack)
+            shop.begins()
+            shop.control.async_mode = True
+            shop.device.after(20, lambda: shop.device.cover(True))
+            shop.control.print(TEXT)
+            shop.till.run_devices()
+            for event in shop.till.events():
+                if isinstance(event, kijolvar.ErrorEvent):
+                    getattr(shop.control, leaves)()
+                    event.reply(kijolvar.ER_CLEAR)
+            shop.device.cover(False)
+            told(f"{leaves}: it comes out late", True, until(
+                lambda: shop.till.run_devices(0.01) is not None and shop.driver.late_orders == 1))
+            other = stack.enter_context(shop.till.printer("r1").in_use())
+            told(f"{leaves}: the same is a new order", None, raised(other.print, TEXT))
+            told(f"{leaves}: it is on the paper twice", 7, len(shop.device.receipt()))
+
+
 def try_given_up_by_a_text():
     """A text that gives an order up and then has the same one."""
     with contextlib.ExitStack() as stack:
