@@ -1913,6 +1913,127 @@ def try_torn_scans():
     told("all but the end of Enter is dropped", [None, b"34"], keys.take(dropped + typed("")[-24:] + typed("34")))
 
 
+def types_all(keyboard, codes):
+    """Types codes, and returns whether all of it is read in time."""
+    for code in codes:
+        keyboard.types(code)
+    is_sent = keyboard.wait(lambda: not keyboard._sends, PATIENCE)
+    keyboard.cable.settle(PATIENCE if is_sent else 0)
+    return is_sent and keyboard.cable.unread() == 0
+
+
+class Typing(Shop):
+    """A shop with a keyboard beside the printer."""
+
+    def __init__(self, stack):
+        super().__init__(stack, timeout=4 * PATIENCE)
+        self.keyboard = stack.enter_context(Scanner(cable()))
+        self.reader = WedgeScanner(self.keyboard.path, keys=True, pause=PAUSE)
+        self.till.drive("s1", self.reader)
+        self.scanner = self.till.scanner("s1")
+        self.scanner.power_notify = kijolvar.PN_ENABLED
+        stack.enter_context(self.scanner.in_use())
+        list(self.scanner.events())
+
+    def told(self, count):
+        """What the till tells of the keyboard, until it has told so much: codes and changes of power."""
+        found = []
+
+        def is_told():
+            self.till.run_devices(0.01)
+            self.scanner.data_event_enabled = True
+            for event in self.scanner.events():
+                found.append(getattr(event, "status", None) or self.scanner.scan_data)
+                self.scanner.data_event_enabled = True
+            return len(found) >= count
+        until(is_told)
+        return found
+
+
+def try_typed_meanwhile():
+    """What a keyboard types while a call waits for a printer or a display is read, and told by the loop."""
+    codes = [b"%013d" % number for number in range(30)]
+    with contextlib.ExitStack() as stack:
+        shop, found = Typing(stack), []
+        shop.device.after_characters(2, lambda: found.append(types_all(shop.keyboard, codes[:20])))
+        told("an order meanwhile", None, raised(shop.control.print, TEXT))
+        told("all was read before it was done", [True], found)
+        told("nothing is told yet", 0, shop.scanner.data_count)
+        told("all codes come", codes[:20], shop.told(20))
+        shop.device.after_characters(2, lambda: [*map(shop.keyboard.types, codes), found.append(
+            until(lambda: shop.reader.typing_file() is None))])
+        told("more than the till keeps", (None, True), (raised(shop.control.print, TEXT), found[-1]))
+        told("all of those come", codes, shop.told(30))
+        shop.device.after_characters(2, lambda: [shop.keyboard.types(b"7"), shop.keyboard.pull_plug()])
+        told("an order as it is pulled out", None, raised(shop.control.print, TEXT))
+        told("that isn't told yet", True, shop.reader.is_online)
+        told("its code comes before its power", [b"7", 2004], shop.told(2))
+        shop.keyboard.plug_in()
+        told("it is back", [2001], shop.told(1))
+        told("an order beside it", None, raised(shop.control.print, TEXT))
+        shop.keyboard.types(b"8")
+        told("and types", [b"8"], shop.told(1))
+        shop.same_paper("typed meanwhile: the paper")
+    with contextlib.ExitStack() as stack:
+        shop, found = Typing(stack), []
+        line, end = os.openpty()
+        stack.callback(os.close, line)
+        stack.callback(os.close, end)
+        port = SerialPort(os.ttyname(end), flow="none")
+        shop.till.drive("p1", SerialDisplay(port, timeout=4 * PATIENCE))
+        display = stack.enter_context(shop.till.display("p1").in_use())
+        while port.ready(True, 0.5)[1]:
+            port.write_some(bytes(1000))
+
+        def types_first():
+            found.append(types_all(shop.keyboard, codes[:20]))
+            while select.select([line], [], [], 0.5)[0]:
+                os.read(line, 10_000)
+
+        def shows(name):
+            found.clear()
+            typing = threading.Thread(target=types_first)
+            typing.start()
+            told(f"a display {name}", None, raised(display.display_text, b"Bread"))
+            typing.join()
+            told(f"a display {name}: all was read before", ([True], codes[:20]), (found, shop.told(20)))
+        shows("whose line takes nothing yet")
+        with mock.patch.object(port, "_count_unsent", lambda: not found):
+            shows("whose line sends slowly")
+
+
+def try_typed_within_the_loop():
+    """An order while the loop reads a keyboard, as a signal's handler makes one: the codes stay in their order."""
+    with contextlib.ExitStack() as stack:
+        shop = Typing(stack)
+        takes, keyboard = shop.reader._reader.take, shop.keyboard
+
+        def types(code):
+            keyboard.types(code)
+            told("it is typed", True, until(lambda: not keyboard._sends and keyboard.cable.unread()))
+
+        def prints(data):
+            shop.reader._reader.take = takes
+            types(b"2")
+            told("an order within the loop", None, raised(shop.control.print, TEXT))
+            types(b"3")
+            return takes(data)
+        types(b"1")
+        shop.reader._reader.take = prints
+        told("the codes", [b"1", b"2", b"3"], shop.told(3))
+
+
+def try_scan_codes():
+    """The scan code of each key is left out of a keyboard's events. One that refuses that opens too."""
+    with Scanner(cable()) as device, mock.patch("fcntl.ioctl", side_effect=OSError(errno.EINVAL, "refused")) as asked:
+        port = kijolvar.drivers._KeyPort(device.path)
+        port.open()
+        told("what is asked of a keyboard", [(0x40044590, 1), (0x40104593, struct.pack("=IIQ", 4, 0, 0))],
+             [call.args[1:] for call in asked.call_args_list])
+        told("it is open", True, port.is_open)
+    port.close()
+
+
 class Forgetful:
     """Carries out lines, but answers `memory` to the first one that has a word, or raises what a signal's handler would."""
 

@@ -59,6 +59,10 @@ class PtyCable:
         """How many bytes the host has sent that weren't read."""
         return 0 if self._master is None else count_unread(self._master)
 
+    def unread(self):
+        """How many bytes the host hasn't read."""
+        return 0 if self._slave is None else count_unread(self._slave)
+
     def files(self):
         """The files to wait for bytes of."""
         return [] if self._master is None else [self._master]

@@ -6,7 +6,7 @@ import functools
 import select
 import time
 from collections import deque
-from collections.abc import Callable
+from collections.abc import Callable, Iterator
 from typing import TYPE_CHECKING
 
 from ._constants import EL_OUTPUT, KIJOLVAR_CUT, KIJOLVAR_NO_MEMORY
@@ -16,6 +16,7 @@ from ._faults import DriverError, InCallError, InputError, LineError, NoDeviceEr
 from ._questions import ProfileDevice
 from ._session import Session, is_called
 from .drivers import Driver, Scan
+from .ports import BESIDE
 
 if TYPE_CHECKING:
     from .till import Till
@@ -106,7 +107,8 @@ class Drives:
         """Has a driver carry out the orders of a device from now on."""
         drive = Drive(device, driver)
         try:
-            driver.begin(self._till, device)
+            with self._reading_keyboards():
+                driver.begin(self._till, device)
             if device.category != "Scanner":
                 self._session.keep_hosted()
                 self._session.drive(drive.word)
@@ -168,7 +170,9 @@ class Drives:
         driver, self._session.taken = drive.driver, drive.taken
         order = read_order(line.decode()) if driver.reads_orders else drive.order
         try:
-            if driver.is_online and driver.carry_out(order):
+            with self._reading_keyboards():
+                is_done = driver.is_online and driver.carry_out(order)
+            if is_done:
                 # Only a printer has paper that is taken away.
                 drive.orders += drive.category == "POSPrinter"
                 return True, b""
@@ -176,6 +180,19 @@ class Drives:
         finally:
             if self._session.is_closed:
                 self._close_again(drive)
+
+    @contextlib.contextmanager
+    def _reading_keyboards(self) -> Iterator[None]:
+        """Has keyboards read while a device is waited for, but for one that the loop is reading: what comes from it now
+        comes after that."""
+        drivers = [drive.driver for drive in list(self._drives.values()) if drive.category == "Scanner"]
+        before = BESIDE.keyboards
+        try:
+            BESIDE.keyboards = [driver for driver in drivers
+                                if driver.typing_file() is not None and not is_called(driver, "poll")]
+            yield
+        finally:
+            BESIDE.keyboards = before
 
     def served(self) -> None:
         """Is called once orders were carried out. It is most often all that there is to do."""

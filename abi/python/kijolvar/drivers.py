@@ -100,6 +100,15 @@ class Driver:
         """The file descriptors at which something may come."""
         return []
 
+    def typing_file(self) -> int | None:
+        """The file descriptor of a scanner that is a keyboard, if there is room for what it types. While an order waits
+        at a `Port` of another device, it is read too: the system keeps little of it."""
+        return None
+
+    def keep_typed(self) -> None:
+        """Reads what has come at `typing_file` (`Port.glance`), and keeps it for `poll`. An order of another device is
+        under way, which fails if this raises anything but PortError."""
+
     def attached(self) -> None:
         """The device has another peripheral now (`attach`), which shows nothing yet of what this driver has said before.
         The orders are the driver's again."""
@@ -478,6 +487,10 @@ _LONGEST, _HIGHEST_KIND = 4096, 999
 # Linux input events: the time, type, code and value.
 _EVENT = struct.Struct("@llHHi")
 _KEY, _DROPPED, _GRAB = 1, (0, 3), 0x40044590
+# Which codes of a type of events come: without any, the scan code of each key is left out, a third of the events.
+_SET_MASK, _NO_SCAN_CODES = 0x40104593, struct.pack("=IIQ", 4, 0, 0)
+# How many bytes of key events are kept until they are told.
+_MOST_TYPED = 680 * _EVENT.size
 _ENTER, _SHIFTS, _CONTROLS, _NUM_LOCK, _DOWN = (28, 96), (42, 54), (29, 97), 69, 1
 _KEYS: dict[int, str] = {57: "  ", 55: "**", 98: "//"}
 _KEYS.update(zip(range(2, 14), ["1!", "2@", "3#", "4$", "5%", "6^", "7&", "8*", "9(", "0)", "-_", "=+"]))
@@ -569,6 +582,8 @@ class _KeyPort(FilePort):
             except OSError as fault:
                 if fault.errno not in (errno.ENOTTY, errno.EINVAL):
                     raise
+            with contextlib.suppress(OSError):
+                fcntl.ioctl(file, _SET_MASK, _NO_SCAN_CODES)
 
 
 class WedgeScanner(Driver):
@@ -578,9 +593,9 @@ class WedgeScanner(Driver):
     code without it. Switch identifiers on at the scanner if you need ScanDataType.
 
     A keyboard wedge types as a keyboard of the layout US: characters, the keypad, and Ctrl and ] for GS. A code with
-    any other key is a failed scan: the scanner gets an ErrorEvent. So is one of which the system drops key events. While
-    a call waits for a printer, it keeps fewer of them than a code of 13 digits has. A code from a serial line with a
-    byte of 0 is a failed scan, too: the line has disturbed it.
+    any other key is a failed scan: the scanner gets an ErrorEvent. So is one of which the system drops key events: it
+    keeps about 16 characters that nobody reads. While a call waits for a printer or a display, the till reads about
+    170 more. A code from a serial line with a byte of 0 is a failed scan, too: the line has disturbed it.
 
     Args:
         device: /dev/input/.. for a keyboard wedge, whose keys no other program gets meanwhile. Any other name is that
@@ -603,7 +618,7 @@ class WedgeScanner(Driver):
             keys = not isinstance(device, Port) and os.fspath(device).startswith("/dev/input/")
         self.port: Port = _KeyPort(device) if keys and not isinstance(device, Port) else port_of(device)
         self._has_keys = keys
-        self._reader = self._new_reader()
+        self._reader, self._typed = self._new_reader(), bytearray()
         self._kind, self._pause, self._tried_at = kind, pause, -1e9
         # The codes that have come whole, and whether another one hasn't.
         self._found: deque[bytes] = deque()
@@ -625,14 +640,28 @@ class WedgeScanner(Driver):
             if time.monotonic() - self._tried_at < self._pause:
                 return
             self._reader = self._new_reader()
+        typed, self._typed = bytes(self._typed), bytearray()
+        self._read(typed)
         with contextlib.suppress(PortError):
             self._open()
             for data in self.port.waiting():
-                for code in self._reader.take(data):
-                    if code is None or self._is_disturbed(code):
-                        self._has_failed = True
-                    else:
-                        self._found.append(code)
+                self._read(data)
+
+    def _read(self, data: bytes) -> None:
+        """Finds the codes in what has come."""
+        for code in self._reader.take(data):
+            if code is None or self._is_disturbed(code):
+                self._has_failed = True
+            else:
+                self._found.append(code)
+
+    def typing_file(self) -> int | None:
+        has_room = self._has_keys and len(self._typed) + _EVENT.size <= _MOST_TYPED
+        files = self.port.files() if has_room else []
+        return files[0] if files else None
+
+    def keep_typed(self) -> None:
+        self._typed += self.port.glance(_MOST_TYPED - len(self._typed))
 
     def _is_disturbed(self, code: bytes) -> bool:
         """Whether a serial line has disturbed a code: the system gives a 0 byte in place of one that came wrong."""
@@ -671,3 +700,4 @@ class WedgeScanner(Driver):
 
     def close(self) -> None:
         self.port.close()
+        self._typed.clear()

@@ -14,10 +14,11 @@ import select
 import socket
 import stat
 import termios
+import threading
 import time
 import weakref
-from collections.abc import Iterator
-from typing import Any, Literal, Union
+from collections.abc import Iterator, Sequence
+from typing import Any, Literal, Protocol, Union
 
 from ._library import Path
 
@@ -42,6 +43,25 @@ _READABLE = select.POLLIN | select.POLLHUP | select.POLLERR | select.POLLNVAL
 
 class PortError(OSError):
     """A port can't be opened, or it was lost: the cable is out, or the device is off."""
+
+
+class Keyboard(Protocol):
+    """What is read while a call waits for another device, as the system keeps little of it: a driver."""
+
+    def typing_file(self) -> int | None:
+        """The file descriptor at which it types, if that is to be read."""
+
+    def keep_typed(self) -> None:
+        """Reads what has come there, and keeps it."""
+
+
+class _Beside(threading.local):
+    """The keyboards that are read while this thread waits for a port: those of the till whose order is out."""
+
+    keyboards: Sequence[Keyboard] = ()
+
+
+BESIDE = _Beside()
 
 
 class Port:
@@ -157,10 +177,11 @@ class Port:
         """
         if self._file is None:
             self.fileno()
-        found = self._waits[is_writing].poll(seconds * 1000 if seconds > 0 else 0)
-        if not found:
-            return False, False
-        flags = found[0][1]
+        if seconds > 0 and BESIDE.keyboards:
+            flags = _wait_beside(seconds, self._file, select.POLLIN | (select.POLLOUT if is_writing else 0))
+        else:
+            found = self._waits[is_writing].poll(seconds * 1000 if seconds > 0 else 0)
+            flags = found[0][1] if found else 0
         return flags & _READABLE != 0, flags & select.POLLOUT != 0
 
     def read_some(self) -> bytes:
@@ -178,6 +199,25 @@ class Port:
         self._was_empty = not found
         if not found and self._ends_empty:
             self._loses(PortError(errno.EPIPE, f"{self.name} was closed by the device"))
+        return found
+
+    def glance(self, most: int) -> bytes:
+        """Returns what has come, at most so many bytes. A port that was lost stays open, but has no `files` until it is
+        read again.
+
+        Raises:
+            PortError: The port isn't open.
+        """
+        file = self.fileno()
+        try:
+            found = os.read(file, most)
+        except OSError as fault:
+            if _is_of_handler(fault):
+                raise
+            if isinstance(fault, (BlockingIOError, InterruptedError)):
+                return b""
+            found = b""
+        self._was_empty = not found
         return found
 
     def waiting(self) -> Iterator[bytes]:
@@ -232,9 +272,8 @@ class Port:
         return self.read_some() if self.ready(False, seconds)[0] else b""
 
     def _loses(self, fault: Exception) -> None:
-        """Closes the port and says so, unless the fault means only that there is nothing to do now. What a signal's handler
-        has raised, behind the system's call, is none of the port's."""
-        if fault.__traceback__ is not None and fault.__traceback__.tb_next is not None:
+        """Closes the port and says so, unless the fault means only that there is nothing to do now."""
+        if _is_of_handler(fault):
             raise fault
         if isinstance(fault, (BlockingIOError, InterruptedError)):
             return
@@ -256,7 +295,7 @@ class Port:
         while self._ends_empty and self._count_unsent():
             if time.monotonic() >= end:
                 return False
-            time.sleep(0.001)
+            _wait_beside(0.001)
         return True
 
     def _count_unsent(self) -> int:
@@ -267,6 +306,32 @@ class Port:
         except OSError as fault:
             self._loses(fault)
         return int.from_bytes(found, "little")
+
+
+def _wait_beside(seconds: float, file: int | None = None, events: int = 0) -> int:
+    """Waits for a file, if there is one, and has keyboards read meanwhile. Returns what the file is ready for."""
+    end = time.monotonic() + seconds
+    while True:
+        waits, typing = select.poll(), dict[int, Keyboard]()
+        for keyboard in BESIDE.keyboards:
+            if (at := keyboard.typing_file()) is not None:
+                typing[at] = keyboard
+                waits.register(at, select.POLLIN)
+        if file is not None:
+            waits.register(file, events)
+        found = dict(waits.poll(max(end - time.monotonic(), 0) * 1000))
+        for at in typing.keys() & found.keys():
+            # One that is lost is seen once it is asked what it has read.
+            with contextlib.suppress(PortError):
+                typing[at].keep_typed()
+        flags = 0 if file is None else found.get(file, 0)
+        if flags or time.monotonic() >= end:
+            return flags
+
+
+def _is_of_handler(fault: Exception) -> bool:
+    """Whether a signal's handler has raised it, behind the system's call: it is none of the port's."""
+    return fault.__traceback__ is not None and fault.__traceback__.tb_next is not None
 
 
 # The ports of this process. One that is forked closes them, so that closing them here ends their connections.
