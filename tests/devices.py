@@ -700,6 +700,23 @@ def try_blinks():
         told("the printer is there, though nobody has looked for long", True, shop.driver.is_online)
 
 
+def try_behind_lost_lines():
+    """An order of which a line was lost while a slow printer has the rest: a retry has its timeout again with each line
+    that is acknowledged, though it counts for nothing."""
+    timeout, lines = 4 * TIMEOUT, [b"Line %02d" % number for number in range(14)]
+    with contextlib.ExitStack() as stack:
+        shop = Shop(stack, "tcp stays", timeout=timeout)
+        shop.begins()
+        shop.device.slow(timeout / 8)
+        # The first line has 11 bytes, the others have 8, and 11 ask for the acknowledgement of each.
+        shop.device.after(22, lambda: shop.device.blink(19))
+        told("a line is lost", (111, 0), raised(shop.control.print, b"\n".join(lines) + b"\n"))
+        began = time.monotonic()
+        told("the order again", None, raised(shop.control.print, b"\n".join(lines) + b"\n"))
+        told("it takes longer than the timeout", True, time.monotonic() - began > timeout)
+        told("each line is whole", [], not_whole(shop.device, shop.till.device("r1").show().items))
+
+
 def clears_output(shop):
     shop.control.clear_output()
 

@@ -452,8 +452,11 @@ class PrinterLink:
 
     def _acknowledged(self, number: int) -> None:
         """The parcel with this number is printed, and those before it are printed or lost. Nothing of what is still to
-        go out can be printed: an answer that comes for it is from before."""
+        go out can be printed: an answer that comes for it is from before. The order that is out waits for all of them,
+        also for those of an order before it, so it has the whole timeout again."""
         is_due = any(parcel.number == number and parcel not in self._outbox for parcel in self._due)
+        if is_due:
+            self._ends_at = time.monotonic() + self.timeout
         while is_due:
             parcel = self._due[0]
             job, is_due = parcel.job, parcel.number != number
@@ -461,7 +464,7 @@ class PrinterLink:
                 if is_due or job.is_torn:
                     job.is_torn = True
                 elif parcel.done > job.done:
-                    job.done, self._ends_at = parcel.done, time.monotonic() + self.timeout
+                    job.done = parcel.done
                     self.late += job.is_done and job.is_late(self._failed)
             self._due.popleft()
 
