@@ -650,6 +650,25 @@ def try_power_that_nobody_saw():
     signal.signal(signal.SIGUSR1, before)
 
 
+def try_lost_xon():
+    """A printer says that it can take no more (XOFF), and what says that it can is lost: it is found again."""
+    with contextlib.ExitStack() as stack:
+        till, device = stack.enter_context(opened()), stack.enter_context(Printer(cable("serial")))
+        port = SerialPort(device.path, 115200, flow="xon-xoff")
+        till.drive("r1", driver := EscPosPrinter(port, timeout=TIMEOUT, pause=PAUSE, lines=1000))
+        control = stack.enter_context(till.printer("r1").in_use())
+        told("a printer with XON/XOFF", True, driver.is_online)
+        device.garbage(b"\x13")
+        told("XOFF has come", True, until(lambda: not port.ready(True, 0)[1]))
+        told("an order of it", (111, 0), raised(control.print, b"A\n"))
+        told("nothing has gone out", [], device.receipt())
+        told("it is off", True, until(lambda: till.run_devices(0.01) is not None and not driver.is_online))
+        told("it is found again", True, until(lambda: till.run_devices(0.01) is not None and driver.is_online))
+        told("the order again", True, until(
+            lambda: till.run_devices(0.01) is not None and raised(control.print, b"A\n") is None))
+        told("it is printed once", [b"A"], characters_of(device))
+
+
 def try_lines_that_hold():
     """Which ports hold back what is sent, and that they drop it."""
     link = WORK / "a-line"

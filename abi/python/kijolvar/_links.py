@@ -575,12 +575,14 @@ class PrinterLink:
             self._refreshes(now)
 
     def _notes_silence(self) -> bool:
-        """A printer that hasn't answered for the timeout counts as off, also while orders are tried again and again.
-        Returns whether it hasn't. One that has stopped may take no question from a line that holds it back."""
+        """A printer that hasn't answered for the timeout counts as off, also while orders are tried again and again. By
+        then only questions wait in its line. Returns whether it hasn't. One that has stopped may take no question from
+        a line that holds it back."""
         if self.is_stopped and self.port.holds_back:
             return False
         is_silent = self._asked_at is not None and time.monotonic() - self._asked_at > self.timeout
         if is_silent:
+            self.port.resume()
             self._is_there, self._asked_what = False, _PRINTER
             self._is_told({}, [])
         return is_silent

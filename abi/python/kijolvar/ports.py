@@ -118,6 +118,10 @@ class Port:
             with contextlib.suppress(OSError, termios.error):
                 termios.tcflush(self._file, termios.TCOFLUSH)
 
+    def resume(self) -> None:
+        """Has a line send again though its device has said that it can take no more (XOFF). The device may have lost
+        its power since then, or the line its XON: nothing would ever go out again."""
+
     def fileno(self) -> int:
         """The file descriptor, for `select`.
 
@@ -365,6 +369,13 @@ class FilePort(Port):
     @property
     def holds_back(self) -> bool:
         return self._line is not None and self._line.holds_back
+
+    def resume(self) -> None:
+        if self._file is not None and self.is_line and self._flow == "xon-xoff":
+            with contextlib.suppress(termios.error):
+                # Linux goes on only from a stop of the same kind.
+                termios.tcflow(self._file, termios.TCOOFF)
+                termios.tcflow(self._file, termios.TCOON)
 
     def _opened(self, seconds: float) -> int:
         if self._may_be_line:
