@@ -1824,6 +1824,23 @@ def try_flow():
                  flags_of(SerialPort(device.path, parity=parity, flow="none")))
 
 
+def try_left_settings():
+    """A line with XON/XOFF has their characters, and no parity but its own, whatever another program has left."""
+    with Scanner(cable()) as device:
+        line = os.open(device.path, os.O_RDWR | os.O_NOCTTY)
+        stuck_parity, found = 0x40000000, termios.tcgetattr(line)
+        found[2] |= stuck_parity
+        found[6][termios.VSTART] = found[6][termios.VSTOP] = b"\0"
+        termios.tcsetattr(line, termios.TCSANOW, found)
+        port = SerialPort(device.path, flow="xon-xoff")
+        port.open()
+        found = termios.tcgetattr(line)
+        told("XON and XOFF", [b"\x11", b"\x13"], [found[6][place] for place in (termios.VSTART, termios.VSTOP)])
+        told("no parity is stuck", 0, found[2] & stuck_parity)
+        port.close()
+        os.close(line)
+
+
 def try_disturbed_bytes():
     """A byte that came with a wrong parity: a printer's or a display's is dropped, and a scanner's reads as 0."""
     for made, wanted in ((EscPosPrinter, True), (SerialDisplay, True), (WedgeScanner, False)):

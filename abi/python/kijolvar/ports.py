@@ -24,8 +24,12 @@ from ._library import Path
 
 Parity = Literal["none", "even", "odd"]
 Flow = Literal["none", "rts-cts", "xon-xoff"]
-# How a serial line's device says that it can take no more, if nothing else is said.
+# How a serial line's device says that it can take no more, if nothing else is said; and by which characters with
+# XON/XOFF it says that it can, and that it can't.
 _FLOW: Flow = "rts-cts"
+_XON, _XOFF = b"\x11", b"\x13"
+# A parity that is always 0 or 1 (CMSPAR), which `termios` doesn't name.
+_STUCK_PARITY = 0x40000000
 _AT_ONCE = 65_536
 # In how many parts is read what has come.
 _MOST_PARTS = 16
@@ -447,12 +451,16 @@ class SerialPort(FilePort):
 
     def _set_up(self, file: int) -> None:
         found = _raw(file)
-        control = found[2] & ~(termios.CSIZE | termios.PARENB | termios.PARODD | termios.CSTOPB | termios.CRTSCTS)
+        control = found[2] & ~(termios.CSIZE | termios.PARENB | termios.PARODD | _STUCK_PARITY | termios.CSTOPB
+                               | termios.CRTSCTS)
         control |= termios.CS8 if self._bits == 8 else termios.CS7
         control |= {"none": 0, "even": termios.PARENB, "odd": termios.PARENB | termios.PARODD}[self._parity]
         control |= termios.CSTOPB if self._stops == 2 else 0
         control |= termios.CRTSCTS if self._flow == "rts-cts" else 0
-        found[0] |= termios.IXON | termios.IXOFF if self._flow == "xon-xoff" else 0
+        if self._flow == "xon-xoff":
+            found[0] |= termios.IXON | termios.IXOFF
+            # A program that had the line before may have left it others, or none.
+            found[6][termios.VSTART], found[6][termios.VSTOP] = _XON, _XOFF
         faults = termios.INPCK if self.keeps_faults else termios.INPCK | termios.IGNPAR
         found[0] |= faults if self._parity != "none" else 0
         found[2], found[4], found[5] = control, self._speed, self._speed
