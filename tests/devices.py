@@ -2027,6 +2027,18 @@ def try_typed_meanwhile():
         shop.keyboard.types(b"8")
         told("and types", [b"8"], shop.told(1))
         shop.same_paper("typed meanwhile: the paper")
+        shop.till.drive("d1", own := Own("CashDrawer"))
+        port = kijolvar.FilePort(stack.enter_context(Scanner(cable())).path)
+        port.open()
+
+        def waits(order):
+            keyboard = shop.keyboard
+            keyboard.types(b"9")
+            return until(lambda: not (port.ready(False, 0.01)[0] or keyboard._sends or keyboard.cable.unread()))
+        own.carry_out = waits
+        told("an order of a driver of one's own", None, raised(shop.till.drawer("d1").open_drawer))
+        told("what is typed meanwhile", [b"9"], shop.told(1))
+        port.close()
     with contextlib.ExitStack() as stack:
         shop, found = Typing(stack), []
         line, end = os.openpty()

@@ -183,13 +183,13 @@ class Drives:
 
     @contextlib.contextmanager
     def _reading_keyboards(self) -> Iterator[None]:
-        """Has keyboards read while a device is waited for, but for one that the loop is reading: what comes from it now
-        comes after that."""
+        """Has keyboards read while a device is waited for, but for one that is being read already: what comes from it
+        now comes after that."""
         drivers = [drive.driver for drive in list(self._drives.values()) if drive.category == "Scanner"]
         before = BESIDE.keyboards
         try:
-            BESIDE.keyboards = [driver for driver in drivers
-                                if driver.typing_file() is not None and not is_called(driver, "poll")]
+            BESIDE.keyboards = [driver for driver in drivers if driver.typing_file() is not None
+                                and not is_called(driver, "poll", "keep_typed")]
             yield
         finally:
             BESIDE.keyboards = before
