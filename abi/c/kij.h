@@ -724,6 +724,9 @@ typedef struct kij_driver {
     bool (*scan)(void *context, kij_scan *scan);
     /** The file descriptor at which something may come, which `poll` reads; or -1. */
     int (*file)(void *context);
+    /** Reads what has come there, and keeps it for `scan`, while the till waits for a printer or a display: the system
+     * keeps little of a keyboard. It mustn't wait. The file descriptor if more may be read once it comes, or -1. */
+    int (*read_ahead)(void *context);
     /** A spare serves the device from now on (kij_attach), which knows nothing of what `happened` said before. */
     void (*attached)(void *context);
     /** The till is closed, by the process that opened it. */

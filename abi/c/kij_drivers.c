@@ -712,22 +712,25 @@ static void take_typed(kij_drive *drive) {
     else if (found == 0 || (errno != EAGAIN && errno != EINTR)) drive->port.was_empty = true;
 }
 
+/* Takes what a scanner has typed: the file where more may come, or -1. */
+static int read_ahead(kij_drive *drive) {
+    if (drive->is_own) return drive->own.read_ahead == NULL ? -1 : drive->own.read_ahead(drive->context);
+    if (may_type(drive)) take_typed(drive);
+    return may_type(drive) ? drive->port.file : -1;
+}
+
 void kij_internal_wait_typing(kij_till *till, const kij_port *port, bool is_writing, int64_t time, bool *can_read,
                               bool *can_write) {
     struct pollfd waiting[MOST_PORTS];
-    kij_drive *typing[MOST_PORTS];
     int64_t left = time, end = kij_internal_now() + time;
     do {
         nfds_t count = 1;
         waiting[0] = kij_internal_port_waiting(port, is_writing);
         for (kij_drive *drive = till->drives->first; drive != NULL && count < MOST_PORTS; drive = drive->next) {
-            if (!may_type(drive)) continue;
-            waiting[count] = kij_internal_port_waiting(&drive->port, false);
-            typing[count++] = drive;
+            int file = drive->category == KIJ_SCANNER ? read_ahead(drive) : -1;
+            if (file >= 0) waiting[count++] = (struct pollfd){file, POLLIN, 0};
         }
         (void)poll(waiting, count, (int)left);
-        for (nfds_t place = 1; place < count; place++)
-            if (waiting[place].revents != 0) take_typed(typing[place]);
         left = end - kij_internal_now();
     } while (waiting[0].revents == 0 && left > 0);
     kij_internal_port_is_ready(&waiting[0], can_read, can_write);

@@ -330,6 +330,40 @@ static void try_forked_keys(void) {
     told("others get them", 0, is_grabbed);
 }
 
+/* Reads a byte, without waiting, and counts it: the file where more may come. */
+static int read_byte(void *context) {
+    int *file = (int *)context;
+    char byte;
+    file[1] += read(file[0], &byte, 1) == 1;
+    return file[0];
+}
+
+/* A scanner of the caller's is read while a call waits for a printer. */
+static void try_read_ahead(void) {
+    kij_escpos_settings settings = KIJ_ESCPOS_SETTINGS;
+    kij_driver driver;
+    kij_till *till = NULL;
+    kij_port port;
+    int ways[2], typed[2], other = open_line(&port);
+    if (pipe(ways) != 0 || fcntl(ways[0], F_SETFL, O_NONBLOCK) != 0) abort();
+    typed[0] = ways[0];
+    typed[1] = 0;
+    memset(&driver, 0, sizeof driver);
+    driver.category = KIJ_SCANNER;
+    driver.read_ahead = read_byte;
+    settings.timeout = 100;
+    told("a till", KIJ_OK, kij_open(NULL, NULL, KIJ_EXISTING, &till).code);
+    told("a scanner", KIJ_OK, kij_driver_open(till, "s1", &driver, typed).code);
+    told("it has typed something", 5, write(ways[1], "12345", 5));
+    told("a silent printer", KIJ_OK, kij_escpos_printer_open(till, "r1", port.name, &settings).code);
+    told("all was read", 5, typed[1]);
+    kij_close(till);
+    kij_internal_port_close(&port);
+    close(ways[0]);
+    close(ways[1]);
+    close(other);
+}
+
 /* The till that opened a connection ends it, though a process that was forked has it too. Such a process doesn't. */
 static void try_forked_connection(void) {
     kij_till *till = NULL;
@@ -712,6 +746,7 @@ int main(int count, char **words) {
     try_forked_totals(forked);
     try_forked_connection();
     try_forked_keys();
+    try_read_ahead();
     try_hosts();
     try_names();
     try_endless();
