@@ -301,6 +301,24 @@ def try_end_held_back():
                 told(f"{name}: each line is whole", [], missing(shop))
 
 
+def try_end_that_nobody_saw():
+    """A printer is off for a while in a line, and back before anybody looks: the end of the line that it may have got and
+    acknowledged isn't told as the whole."""
+    for kind in ("holds", "asked holds"):
+        for place in (10, 60, 150):
+            name = f"off after {place} bytes while nobody looks, over {kind}"
+            with contextlib.ExitStack() as stack:
+                shop = Shop(stack, kind)
+                shop.device.ROOM = 8
+                shop.device.after(place, shop.device.pull_plug)
+                told(f"{name}: the answer", "err 111", print_receipt(shop))
+                shop.device.plug_in()
+                shop.device.wait(lambda: shop.device.is_idle)
+                time.sleep(0.1)
+                told(f"{name}: again", True, print_receipt(shop) == "ok" or is_done_after_all(shop))
+                told(f"{name}: each line is whole", [], missing(shop))
+
+
 def try_cover_over_line():
     """A printer whose cover is open takes nothing from a line with RTS/CTS, not even a question: its cover is known to
     be open all the time, and a retry prints once."""

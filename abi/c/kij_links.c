@@ -286,14 +286,15 @@ static void lose_sent(kij_link *link) {
 static int64_t asked_last(const kij_link *link) { return link->is_asked ? link->questioned_at : link->asked_at; }
 
 /* Looks whether a printer says anything of an order, or answers, if its line holds bytes back. One that has stopped
-   needn't: it may take nothing. */
-static void watch(kij_link *link) {
+   needn't: it may take nothing. It has time to answer, also if nobody has looked for long; at the end of an order that
+   time is over. */
+static void watch(kij_link *link, bool is_end) {
     int64_t most = least(link->timeout, silence);
     int64_t quiet = kij_internal_now() - greatest(link->heard_at, link->began_at);
     if (!kij_internal_port_holds_back(&link->port) || !is_any_due(link) || is_stopped(link)) return;
-    /* It has time to answer, also if nobody has looked for long. */
-    if (quiet >= most / 2 && !has_question(link)) ask_now(link);
-    else if (quiet >= most && kij_internal_now() - asked_last(link) >= most / 2) lose_sent(link);
+    bool had_time = is_end || (has_question(link) && kij_internal_now() - asked_last(link) >= most / 2);
+    if (quiet >= most && had_time) lose_sent(link);
+    else if (quiet >= most / 2 && !is_end && !has_question(link)) ask_now(link);
 }
 
 /* Bytes of a parcel's order were lost. */
@@ -654,7 +655,7 @@ static bool pump(kij_link *link, is_reached reached, const kij_job *job) {
         if (can_read && !read_some(link, &is_any)) return false;
         if (can_write && !write_some(link)) return false;
         /* What has come was read before. */
-        watch(link);
+        watch(link, false);
         if (can_read && !is_any && !can_write) kij_internal_sleep(least(left, often));
     }
     return true;
@@ -713,7 +714,7 @@ static bool look_after(kij_link *link) {
     int64_t now = kij_internal_now();
     bool may_wait = kij_internal_port_holds_back(&link->port) && is_stopped(link);
     bool is_late = link->was_asked && now - link->asked_at > link->timeout;
-    watch(link);
+    watch(link, false);
     if (is_late && !may_wait) {
         kij_internal_port_resume(&link->port);
         link->is_there = link->is_started = false;
@@ -863,6 +864,7 @@ bool kij_internal_link_carry_out(kij_link *link, const kijolvar_wire_settings *w
         return true;
     }
     drop(link);
+    watch(link, true);
     if (!is_stopped(link)) link->was_silent = true;
     return false;
 }
