@@ -479,6 +479,71 @@ def try_scan_between():
         told("the code", ["event DataEvent 0", "ok 313233"], shop.host.lines("deliver s", "get s ScanData"))
 
 
+def scanned(host, count):
+    """So many codes of a scanner that are told, or fewer if no more come."""
+    found = []
+
+    def is_all():
+        host.ask("run 10")
+        event, code = host.lines("set s DataEventEnabled true", "deliver s", "get s ScanData")[1:]
+        if event == "event DataEvent 0":
+            found.append(bytes.fromhex(code.split()[1]))
+        return len(found) == count
+    until(is_all, 5)
+    return found
+
+
+def processor_time(process):
+    """The seconds that a process has worked."""
+    words = pathlib.Path(f"/proc/{process}/stat").read_text().rpartition(")")[2].split()
+    return sum(map(int, words[11:13])) / os.sysconf("SC_CLK_TCK")
+
+
+def try_typing_between():
+    """What a keyboard types while a call waits for a printer is read meanwhile, since Linux keeps little of it, and is
+    told after the call. So it is if the keyboard is pulled out then."""
+    codes = [b"%02d" % number for number in range(1, 21)]
+    for is_pulled in (False, True):
+        name = "a keyboard that is pulled out" if is_pulled else "a keyboard"
+        with contextlib.ExitStack() as stack:
+            scanner = stack.enter_context(Scanner(cable()))
+            shop = Shop(stack, timeout=AMPLE)
+            told(name, "ok", shop.host.ask(f"scanner s1 {scanner.path} keys pause 10"))
+            shop.host.lines("new s Scanner", "open s s1", "claim s 0", "set s DeviceEnabled true")
+            is_waiting, worked = threading.Event(), []
+            shop.device.after_characters(1, shop.device.hang, is_waiting.set)
+
+            def types():
+                """It types once the call waits, and the printer goes on a second after that was read."""
+                is_waiting.wait(PATIENCE)
+                for code in codes:
+                    scanner.types(code)
+                scanner.wait(lambda: not scanner._sends)
+                scanner.cable.settle()
+                told(f"{name}: what it types is read", 0, scanner.cable.unread())
+                if is_pulled:
+                    scanner.pull_plug()
+                before = processor_time(shop.host.program.pid)
+                time.sleep(1)
+                worked.append(processor_time(shop.host.program.pid) - before)
+                shop.device.hang(False)
+            thread = threading.Thread(target=types)
+            thread.start()
+            told(f"{name}: an order", "ok", shop.print(TEXT))
+            thread.join()
+            told(f"{name}: the call only waits", True, worked[0] < 0.5)
+            told(f"{name}: its codes", codes, scanned(shop.host, len(codes)))
+            told(f"{name}: the paper", PRINTED, shop.paper())
+            if is_pulled:
+                told(f"{name}: it is off", True, until(
+                    lambda: shop.host.ask("run 10") and shop.host.ask("state s1") == "offline 0"))
+                scanner.plug_in()
+                told(f"{name}: it is on", True, until(
+                    lambda: shop.host.ask("run 10") and shop.host.ask("state s1") == "online 0"))
+            scanner.types(b"4006381")
+            told(f"{name}: the next code", [b"4006381"], scanned(shop.host, 1))
+
+
 def try_tear_off():
     """The till keeps the paper of at most 500 orders of a printer that has a driver, and what it prints stays right."""
     with contextlib.ExitStack() as stack:

@@ -2,7 +2,7 @@
 use crate::devices::Order;
 use crate::error::{Cause, Error};
 use crate::links::{is_over, Link, Told};
-use crate::ports::{end_after, Cable, Port, ETIMEDOUT, MOST_READS, QUICKLY};
+use crate::ports::{end_after, Cable, Port, Ready, ETIMEDOUT, MOST_READS, QUICKLY};
 use crate::standard::Category;
 use crate::till::Inner;
 use crate::wire::{Asked, PrinterReply, WireSettings};
@@ -24,6 +24,10 @@ const SCANNER_OPENS: Duration = Duration::from_secs(2);
 /// The longest code of a scanner, and the highest type (ScanDataType) that a till takes.
 const LONGEST_CODE: usize = 4096;
 const HIGHEST_KIND: u64 = 999;
+/// How long is waited between two looks at a file that may be ready all the time.
+const MOMENT: Duration = Duration::from_millis(1);
+/// How many bytes of key events are kept that nobody has asked for: more than a hundred characters.
+const MOST_TYPED: usize = 16_384;
 
 /// What a printer is asked behind the bytes of an order.
 #[derive(Debug, Clone, Copy, PartialEq, Eq)]
@@ -74,6 +78,30 @@ impl DriverTill<'_> {
     ) -> Result<PrinterReply, Error> {
         let found = self.inner.reply(device.as_bytes(), settings, asked, bytes);
         found.map_err(|cause| Error::new("reply", cause))
+    }
+
+    /// Waits for a device's port, at most so long. The drivers of other devices read ahead meanwhile.
+    pub(crate) fn wait(&mut self, cable: &Cable, is_writing: bool, time: Duration) -> Ready {
+        let end = end_after(time);
+        loop {
+            let files = self.inner.read_ahead();
+            let left = end.saturating_duration_since(Instant::now());
+            let ready = cable.wait_beside(is_writing, left, &files);
+            if ready.reading || ready.writing || left.is_zero() || !cable.is_open() {
+                return ready;
+            }
+            // A file that a driver doesn't read would be ready again at once.
+            std::thread::sleep(left.min(MOMENT));
+        }
+    }
+
+    /// Waits so long. The drivers of other devices read ahead meanwhile.
+    pub(crate) fn rest(&mut self, time: Duration) {
+        let end = end_after(time);
+        while Instant::now() < end {
+            self.inner.read_ahead();
+            std::thread::sleep(time.min(MOMENT));
+        }
     }
 }
 
@@ -164,6 +192,16 @@ pub trait Driver: Send {
 
     /// Returns the file descriptor at which something may come.
     fn file(&self) -> Option<RawFd> {
+        None
+    }
+
+    /// Reads what has come at `file`, and keeps it for `poll`, while the till waits for a printer or a display. It is
+    /// for what would be lost if nobody read it for long: Linux keeps little of what a keyboard types. Returns the file
+    /// descriptor if more may be read once it comes.
+    ///
+    /// It mustn't wait, and it mustn't lock what the driver of another device has locked while that carries out an
+    /// order.
+    fn read_ahead(&mut self) -> Option<RawFd> {
         None
     }
 
@@ -613,26 +651,26 @@ impl SerialDisplay {
         Ok(bytes)
     }
 
-    fn shows(&mut self, bytes: &[u8], end: Instant) -> bool {
+    fn shows(&mut self, till: &mut DriverTill<'_>, bytes: &[u8], end: Instant) -> bool {
         let mut sent = 0;
         while sent < bytes.len() {
             let left = end.saturating_duration_since(Instant::now());
             if left.is_zero() {
                 return false;
             }
-            let ready = self.port.cable.wait(true, left);
+            let ready = till.wait(&self.port.cable, true, left);
             let found = if ready.reading { self.port.read().len() } else { 0 };
             if ready.writing {
                 let Ok(count) = self.port.cable.write(&bytes[sent..]) else { return false };
                 sent += count;
             } else if ready.reading && found == 0 {
-                std::thread::sleep(Duration::from_millis(1));
+                till.rest(MOMENT);
             }
             if !self.port.cable.is_open() {
                 return false;
             }
         }
-        self.port.cable.is_drained(end)
+        self.port.cable.is_drained(end, || till.rest(MOMENT))
     }
 }
 
@@ -657,7 +695,7 @@ impl Driver for SerialDisplay {
         let end = end_after(self.timeout);
         self.port.read();
         let Ok(bytes) = self.bytes_of_order(till) else { return false };
-        let is_done = self.port.cable.is_open() && self.shows(&bytes, end);
+        let is_done = self.port.cable.is_open() && self.shows(till, &bytes, end);
         (self.is_new, self.ordered_at) = (!is_done, Some(Instant::now()));
         if !is_done && self.port.cable.is_open() {
             // The display has a part of it.
@@ -690,16 +728,20 @@ impl Driver for SerialDisplay {
 ///
 /// An AIM identifier in front of a code, such as `]E0`, says which type it has; ScanDataLabel is the code without it.
 ///
-/// Linux keeps about ten characters of a keyboard, and drops them if more come before the till reads. Such a scan has
-/// failed, as has a code of more than 4,096 bytes, or with a key that has no character, but NumLock: the scanner's
-/// control gets an ErrorEvent. So it does of a code with a 0 byte over a serial line, since a byte that was changed on
-/// its way reads as 0 if the line has a parity.
+/// Linux keeps about 16 characters of a keyboard, and drops them if more come before the till reads. The till reads in
+/// [`Till::run_devices`](crate::Till::run_devices), and while a call waits for a printer or a display: then it keeps
+/// more than a hundred characters.
+///
+/// A scan of which characters were dropped has failed, as has a code of more than 4,096 bytes, or with a key that has
+/// no character, but NumLock: the scanner's control gets an ErrorEvent. So it does of a code with a 0 byte over a
+/// serial line, since a byte that was changed on its way reads as 0 if the line has a parity.
 #[derive(Debug)]
 pub struct WedgeScanner {
     port: Reopened,
     kind: u64,
     begun: Vec<u8>,
-    /// What of a key event has come, and whether the shift and control keys are down.
+    /// The key events that were read ahead, the last one of which may be in parts; and whether the shift and control
+    /// keys are down.
     events: Vec<u8>,
     is_shifted: bool,
     is_control: bool,
@@ -905,6 +947,22 @@ impl Driver for WedgeScanner {
 
     fn file(&self) -> Option<RawFd> {
         self.port.cable.waits_at()
+    }
+
+    fn read_ahead(&mut self) -> Option<RawFd> {
+        if !matches!(self.port.cable.port, Port::Keys(_)) {
+            return None;
+        }
+        let file = self.port.cable.waits_at()?;
+        let mut room = [0; 1024];
+        while self.events.len() < MOST_TYPED {
+            let count = self.port.cable.read_ahead(&mut room);
+            if count == 0 {
+                return Some(file).filter(|_| self.port.cable.waits_at().is_some());
+            }
+            self.events.extend_from_slice(&room[..count]);
+        }
+        None
     }
 
     fn port_error(&self) -> Option<i32> {

@@ -9,6 +9,7 @@ use crate::raw::*;
 use crate::standard::{library, Category};
 use crate::till::Inner;
 use std::collections::VecDeque;
+use std::ops::Range;
 use std::os::fd::RawFd;
 use std::time::{Duration, Instant};
 
@@ -158,21 +159,35 @@ impl Report {
 }
 
 impl Inner {
-    /// Does something with the drives, which aren't in the till meanwhile. They come back even if a driver panics.
-    fn with_drives<R>(&mut self, deed: impl FnOnce(&mut Inner, &mut Vec<Drive>) -> R) -> R {
+    /// Does something with the drives at these places, which aren't in the till meanwhile. They come back even if a
+    /// driver panics.
+    fn with_drives<R>(&mut self, places: Range<usize>, deed: impl FnOnce(&mut Inner, &mut [Drive]) -> R) -> R {
         struct Lent<'i> {
             inner: &'i mut Inner,
+            first: usize,
             list: Vec<Drive>,
         }
 
         impl Drop for Lent<'_> {
             fn drop(&mut self) {
-                self.inner.drives.list = std::mem::take(&mut self.list);
+                self.inner.drives.list.splice(self.first..self.first, self.list.drain(..));
             }
         }
 
-        let mut lent = Lent { list: std::mem::take(&mut self.drives.list), inner: self };
+        let (first, list) = (places.start, self.drives.list.drain(places).collect());
+        let mut lent = Lent { inner: self, first, list };
         deed(lent.inner, &mut lent.list)
+    }
+
+    /// Does something with each drive.
+    fn for_each_drive(&mut self, mut deed: impl FnMut(&mut Inner, &mut Drive)) {
+        let all = 0..self.drives.list.len();
+        self.with_drives(all, |inner, list| list.iter_mut().for_each(|drive| deed(inner, drive)));
+    }
+
+    /// Has drivers read what nobody would keep, but the one that waits for its device: where more may come.
+    pub(crate) fn read_ahead(&mut self) -> Vec<RawFd> {
+        self.drives.list.iter_mut().filter_map(|drive| drive.driver.read_ahead()).collect()
     }
 
     /// The bytes of the order that is out.
@@ -316,10 +331,13 @@ impl Inner {
         self.drives.has_served = true;
         let Some(order) = Order::read(&line) else { return Ok(Report::not_done()) };
         let name = line.split(' ').next().unwrap_or("").to_string();
+        let Some(place) = self.drives.list.iter().position(|drive| drive.name == name) else {
+            return Ok(Report::not_done());
+        };
         // If a driver panics, the next call gives the lines up.
         self.drives.is_holding = true;
-        let report = self.with_drives(|inner, list| {
-            let Some(drive) = list.iter_mut().find(|drive| drive.name == name) else { return Report::not_done() };
+        let report = self.with_drives(place..place + 1, |inner, list| {
+            let drive = &mut list[0];
             if drive.driver.is_online() && drive.driver.carry_out(&mut DriverTill { inner }, &order) {
                 drive.orders += 1;
                 return Report { is_done: true, inputs: Vec::new() };
@@ -371,16 +389,14 @@ impl Inner {
         if !self.drives.inputs.is_empty() {
             return left;
         }
-        self.with_drives(|inner, list| {
-            for drive in list {
-                // One that is detached has no paper.
-                let is_long = drive.category == Category::PosPrinter && drive.orders >= KEPT_ORDERS;
-                if is_long && inner.tear_off(&drive.name).is_ok() {
-                    drive.orders = 0;
-                }
-                let inputs = drive.inputs(inner);
-                inner.drives.inputs.extend(inputs);
+        self.for_each_drive(|inner, drive| {
+            // One that is detached has no paper.
+            let is_long = drive.category == Category::PosPrinter && drive.orders >= KEPT_ORDERS;
+            if is_long && inner.tear_off(&drive.name).is_ok() {
+                drive.orders = 0;
             }
+            let inputs = drive.inputs(inner);
+            inner.drives.inputs.extend(inputs);
         });
         let found = self.hand_in_inputs();
         Ok(left? | found?)
@@ -519,7 +535,7 @@ impl Inner {
 
     /// A printer's control has given its output up. Which printer it is on isn't known.
     fn give_output_up(&mut self) {
-        self.with_drives(|_, list| list.iter_mut().for_each(|drive| drive.driver.given_up()));
+        self.for_each_drive(|_, drive| drive.driver.given_up());
     }
 
     pub(crate) fn driver_state(&self, device: &str) -> Result<DriverState, Cause> {
@@ -557,12 +573,10 @@ impl Inner {
 
     /// Has drivers look at their devices, and takes over what was scanned.
     fn poll(&mut self) {
-        self.with_drives(|inner, list| {
-            for drive in list {
-                drive.driver.poll(&mut DriverTill { inner });
-                let scans = drive.driver.scans().into_iter().map(|scan| (drive.name.clone(), scan));
-                inner.drives.scans.extend(scans);
-            }
+        self.for_each_drive(|inner, drive| {
+            drive.driver.poll(&mut DriverTill { inner });
+            let scans = drive.driver.scans().into_iter().map(|scan| (drive.name.clone(), scan));
+            inner.drives.scans.extend(scans);
         });
     }
 

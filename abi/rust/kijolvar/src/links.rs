@@ -630,13 +630,13 @@ impl Link {
             }
             self.ask_on();
             self.fill(posting);
-            let ready = self.cable.wait(self.out_sent < self.out.len(), left.min(OFTEN));
+            let ready = till.wait(&self.cable, self.out_sent < self.out.len(), left.min(OFTEN));
             let is_any = ready.reading && self.read_some(till)?;
             self.watch();
             if ready.writing {
                 self.write_some()?;
             } else if ready.reading && !is_any {
-                std::thread::sleep(left.min(OFTEN));
+                till.rest(left.min(OFTEN));
             }
         }
         Ok(())

@@ -197,6 +197,14 @@ struct Line {
     characters: [u8; 19],
 }
 
+/// Which codes of a type a keyboard's events have, as bits of so many bytes.
+#[repr(C)]
+struct InputMask {
+    kind: u32,
+    size: u32,
+    codes: u64,
+}
+
 extern "C" {
     fn poll(files: *mut Waiting, count: c_ulong, milliseconds: c_int) -> c_int;
     fn ioctl(file: c_int, request: c_ulong, ...) -> c_int;
@@ -216,6 +224,8 @@ const TCOFLUSH: c_int = 1;
 const TCIOFLUSH: c_int = 2;
 const TIOCOUTQ: c_ulong = 0x5411;
 const EVIOCGRAB: c_ulong = 0x4004_4590;
+const EVIOCSMASK: c_ulong = 0x4010_4593;
+const EV_MSC: u32 = 4;
 const SOL_SOCKET: c_int = 1;
 const SO_KEEPALIVE: c_int = 9;
 const IPPROTO_TCP: c_int = 6;
@@ -523,9 +533,14 @@ impl Cable {
 
     /// Waits until bytes can be read, or written if that is asked, at most so long.
     pub(crate) fn wait(&self, is_writing: bool, time: Duration) -> Ready {
+        self.wait_beside(is_writing, time, &[])
+    }
+
+    /// Waits for the port, or until something can be read at one of these files.
+    pub(crate) fn wait_beside(&self, is_writing: bool, time: Duration, files: &[RawFd]) -> Ready {
         let Some(file) = self.file() else { return Ready { reading: false, writing: false } };
-        let events = POLLIN | if is_writing { POLLOUT } else { 0 };
-        let mut waiting = [Waiting { file, events, found: 0 }];
+        let mut waiting = vec![Waiting { file, events: POLLIN | if is_writing { POLLOUT } else { 0 }, found: 0 }];
+        waiting.extend(files.iter().map(|file| Waiting { file: *file, events: POLLIN, found: 0 }));
         let found = if wait(&mut waiting, time) { waiting[0].found } else { 0 };
         Ready { reading: found & (POLLIN | POLLERR_HUP_NVAL) != 0, writing: found & POLLOUT != 0 }
     }
@@ -554,6 +569,18 @@ impl Cable {
         self.kept(done, true)
     }
 
+    /// Reads what has come at a port that isn't looked after now. One that gives nothing may be lost, which is seen
+    /// once it is looked after.
+    pub(crate) fn read_ahead(&mut self, room: &mut [u8]) -> usize {
+        let Some(Stream::File(file)) = &mut self.stream else { return 0 };
+        match file.read(room) {
+            Ok(count) if count > 0 => return count,
+            Err(fault) if matches!(fault.kind(), ErrorKind::WouldBlock | ErrorKind::Interrupted) => {}
+            _ => self.was_empty = true,
+        }
+        0
+    }
+
     /// Writes what there is room for.
     pub(crate) fn write(&mut self, bytes: &[u8]) -> Result<usize, Lost> {
         let done = match &mut self.stream {
@@ -565,8 +592,8 @@ impl Cable {
     }
 
     /// Returns whether all that was written has left this machine before a time, if the port is a serial line. Of other
-    /// ports only the system knows that.
-    pub(crate) fn is_drained(&mut self, end: Instant) -> bool {
+    /// ports only the system knows that. It rests between two looks.
+    pub(crate) fn is_drained(&mut self, end: Instant, mut rest: impl FnMut()) -> bool {
         let (Port::Serial(..) | Port::Line(_), Some(file)) = (&self.port, self.file()) else { return true };
         loop {
             let mut left: c_int = 0;
@@ -587,7 +614,7 @@ impl Cable {
             if Instant::now() >= end {
                 return false;
             }
-            std::thread::sleep(Duration::from_millis(1));
+            rest();
         }
     }
 }
@@ -636,7 +663,18 @@ fn open_keys(path: &Path) -> io::Result<File> {
             return Err(fault);
         }
     }
+    leave_scan_codes_out(file.as_raw_fd());
     Ok(file)
+}
+
+/// Leaves the scan code of each key out of a keyboard's events, a third of them: Linux keeps few that nobody reads. It
+/// takes the codes in words of the machine.
+fn leave_scan_codes_out(file: RawFd) {
+    let none = 0u64;
+    let codes = &none as *const u64 as u64;
+    let mask = InputMask { kind: EV_MSC, size: size_of::<u64>() as u32, codes };
+    // SAFETY: the file is open, and the mask and its codes are lent for the call. Other files than keyboards refuse it.
+    unsafe { ioctl(file, EVIOCSMASK, &mask as *const InputMask) };
 }
 
 /// What a thread says that has opened a TCP port: the addresses of its host, and the connection.
@@ -854,10 +892,10 @@ mod tests {
     fn a_lost_line_is_not_drained() {
         let (device, path) = terminal();
         let mut cable = line(&path);
-        assert!(cable.is_drained(end_after(SOON)));
+        assert!(cable.is_drained(end_after(SOON), || {}));
         cable.write(b"unsent").unwrap();
         drop(device);
-        assert!(!cable.is_drained(end_after(SOON)) && !cable.is_open());
+        assert!(!cable.is_drained(end_after(SOON), || {}) && !cable.is_open());
     }
 
     #[test]

@@ -1256,6 +1256,44 @@ fn a_call_prints_one_request_and_looks_at_scanners() {
     assert_eq!(scanner.events().map(Result::unwrap).collect::<Vec<_>>(), [Event::Data]);
 }
 
+/// A scanner whose bytes would be lost if nobody read them soon, and how many it has read.
+struct Hasty(UnixStream, Arc<AtomicU32>);
+
+impl Driver for Hasty {
+    fn category(&self) -> Category {
+        Category::Scanner
+    }
+
+    fn read_ahead(&mut self) -> Option<RawFd> {
+        let count = self.0.read(&mut [0; 16]).unwrap_or(0);
+        self.1.fetch_add(count as u32, Ordering::Relaxed);
+        Some(self.0.as_raw_fd())
+    }
+}
+
+#[test]
+fn a_driver_reads_ahead_while_another_device_is_waited_for() {
+    let (mut device, stream) = UnixStream::pair().unwrap();
+    stream.set_nonblocking(true).unwrap();
+    let (till, read) = (till(), Arc::new(AtomicU32::new(0)));
+    till.drive("s1", Hasty(stream, Arc::clone(&read))).unwrap();
+    let listener = TcpListener::bind("127.0.0.1:0").unwrap();
+    let port = format!("tcp:{}", listener.local_addr().unwrap());
+    let printer = spawn(move || {
+        let _stream = listener.accept().unwrap();
+        device.write_all(b"4006381").unwrap();
+        let began = Instant::now();
+        while read.load(Ordering::Relaxed) < 7 && began.elapsed() < Duration::from_secs(10) {
+            std::thread::sleep(Duration::from_millis(1));
+        }
+        read.load(Ordering::Relaxed)
+    });
+    // The call waits for the printer's first status, which never comes.
+    let settings = EscPosSettings { timeout: Duration::from_secs(60), ..EscPosSettings::default() };
+    till.drive("r1", EscPosPrinter::open(port, settings)).unwrap();
+    assert_eq!(printer.join().unwrap(), 7);
+}
+
 #[test]
 fn a_till_without_drivers_waits() {
     let (till, began, timeout) = (till(), Instant::now(), Duration::from_millis(30));
