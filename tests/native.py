@@ -906,9 +906,6 @@ def try_behind_given_up():
     lines = [b"Line %d" % number for number in range(20)]
     with contextlib.ExitStack() as stack:
         shop = Shop(stack, timeout=2500)
-        if is_crate(shop.host):
-            # It doesn't do that yet.
-            return
         shop.device.slow(0.25)
         opens_cover_within(shop)
         told("a long order fails", "err 114 201", shop.print(b"\n".join(lines) + b"\n"))

@@ -398,8 +398,10 @@ impl Link {
         }
     }
 
-    /// The parcel at this place is printed, and those before it are printed or lost.
+    /// The parcel at this place is printed, and those before it are printed or lost. The order that is out waits for
+    /// each of them, also for those of an order before it, so that it has its whole time again.
     fn acknowledge(&mut self, last: usize) {
+        self.ends_at = end_after(self.timeout);
         for place in 0..=last {
             let Some(parcel) = self.due.pop_front() else { return };
             if parcel.job == 0 {
@@ -413,16 +415,11 @@ impl Link {
         }
     }
 
-    /// What a parcel is of is printed. So the printer goes on, and the order has its whole time again.
+    /// What a parcel is of is printed.
     fn print(&mut self, parcel: &Parcel) {
-        let ends_at = end_after(self.timeout);
         if let Some(job) = self.job_of(parcel.job) {
-            let has_grown = parcel.to > job.done;
             job.done = job.done.max(parcel.to);
             job.is_done |= parcel.is_last;
-            if has_grown {
-                self.ends_at = ends_at;
-            }
         } else if parcel.is_last && parcel.is_once {
             self.late += 1;
         }
