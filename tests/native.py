@@ -885,10 +885,7 @@ def try_given_up_and_released():
         told("output waits", "ok", shop.host.ask(f"later {TEXT.hex()}"))
         opens_cover_within(shop)
         told("it is tried", "true", shop.host.ask("run 0"))
-        released = shop.host.ask("drop")
-        if released == "not understood":
-            return
-        told("it fails, and is given up", "1", released)
+        told("it fails, and is given up", "1", shop.host.ask("drop"))
         shop.device.cover(False)
         told("it comes out late", True, until(lambda: shop.host.ask("run 10") and shop.late() == "1"))
         told("its control is closed", "ok", shop.host.ask("close"))

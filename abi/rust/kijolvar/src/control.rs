@@ -183,14 +183,17 @@ impl<'till> Control<'till> {
             (ErrorReply::Clear, ErrorLocus::InputData) => "clearInput",
             _ => return Ok(()),
         };
-        match self.ask("reply_to", &self.line("call").word(method)) {
-            Ok(_) => Ok(()),
-            // A control that was closed or released meanwhile has nothing left to clear.
-            Err(error) => match error.code() {
-                Some(ResultCode::Closed | ResultCode::Claimed | ResultCode::NotClaimed) => Ok(()),
-                _ => Err(error),
-            },
+        let Err(refusal) = self.ask("reply_to", &self.line("call").word(method)) else { return Ok(()) };
+        let is_gone = matches!(refusal.code(), Some(ResultCode::Closed | ResultCode::Claimed | ResultCode::NotClaimed));
+        if !is_gone {
+            return Err(refusal);
         }
+        // A control that was closed or released meanwhile has nothing left to clear. What printers didn't print is
+        // given up all the same.
+        if error.locus == ErrorLocus::Output {
+            self.till.inner.borrow_mut().give_output_up();
+        }
+        Ok(())
     }
 
     /// Passes each event of the control to a listener, in order, until none is left. The listener's reply counts for an

@@ -534,7 +534,7 @@ impl Inner {
     }
 
     /// A printer's control has given its output up. Which printer it is on isn't known.
-    fn give_output_up(&mut self) {
+    pub(crate) fn give_output_up(&mut self) {
         self.for_each_drive(|_, drive| drive.driver.given_up());
     }
 

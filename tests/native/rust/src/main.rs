@@ -220,6 +220,21 @@ fn reply(printer: &PosPrinter<'_>) -> Result<String, Error> {
     Ok(count.to_string())
 }
 
+/// Delivers them to a listener that releases the control at an ErrorEvent, and then gives the output up: how many there
+/// were.
+fn release_at_error(printer: &PosPrinter<'_>) -> Result<String, Error> {
+    let mut count = 0;
+    printer.pump(|event| {
+        let is_error = matches!(event, Event::Error(_));
+        if is_error {
+            count += 1;
+            printer.release().expect("a control that is claimed");
+        }
+        is_error.then_some(ErrorReply::Clear)
+    })?;
+    Ok(count.to_string())
+}
+
 fn obey<'t>(till: &'t Till, printer: &mut Option<PosPrinter<'t>>, line: &str) -> Result<String, Error> {
     let (verb, rest) = line.split_once(' ').unwrap_or((line, ""));
     let words = Words(rest.split(' ').filter(|word| !word.is_empty()).collect());
@@ -251,6 +266,7 @@ fn obey<'t>(till: &'t Till, printer: &mut Option<PosPrinter<'t>>, line: &str) ->
             Ok("ok".to_string())
         }
         "reply" => reply(control(till, printer)?),
+        "drop" => release_at_error(control(till, printer)?),
         "host" => till.host(rest).map(|()| "ok".to_string()),
         "tear" => till.tear_off(rest).map(|()| "ok".to_string()),
         "memory" => Ok(refuse_memory(&words)),
