@@ -239,6 +239,7 @@ const EPIPE: c_int = 32;
 pub(crate) const ETIMEDOUT: c_int = 110;
 const EHOSTUNREACH: c_int = 113;
 const IGNBRK: u32 = 0o1;
+const IGNPAR: u32 = 0o4;
 const INPCK: u32 = 0o20;
 const IXON: u32 = 0o2000;
 const IXOFF: u32 = 0o10000;
@@ -275,8 +276,9 @@ fn settings_of(file: RawFd) -> io::Result<Line> {
     Ok(line)
 }
 
-/// Sets up a terminal line, so that bytes pass as they are. A break is no byte, and a byte with a wrong parity is 0.
-fn set_up(file: RawFd, settings: Option<&SerialSettings>) -> io::Result<()> {
+/// Sets up a terminal line, so that bytes pass as they are. A break is no byte. Nor is one with a wrong parity, or it
+/// is 0 if it is kept: as a printer's answer a 0 would say that a line is printed, or that all is well.
+fn set_up(file: RawFd, settings: Option<&SerialSettings>, keeps_faults: bool) -> io::Result<()> {
     let mut line = settings_of(file)?;
     (line.input, line.output, line.local) = (IGNBRK, 0, 0);
     line.control = line.control & !(CSIZE | PARENB) | CS8 | CREAD | CLOCAL;
@@ -293,7 +295,11 @@ fn set_up(file: RawFd, settings: Option<&SerialSettings>) -> io::Result<()> {
         };
         line.control |= if settings.stops == 2 { CSTOPB } else { 0 };
         line.control |= if settings.flow == Flow::RtsCts { CRTSCTS } else { 0 };
-        line.input |= if settings.parity == Parity::None { 0 } else { INPCK };
+        line.input |= match settings.parity {
+            Parity::None => 0,
+            _ if keeps_faults => INPCK,
+            _ => INPCK | IGNPAR,
+        };
         line.input |= if settings.flow == Flow::XonXoff { IXON | IXOFF } else { 0 };
     }
     // SAFETY: the file is open, and the line is lent for the call.
@@ -361,6 +367,8 @@ pub(crate) struct Cable {
     usual: SerialSettings,
     /// Whether what was sent may wait for long, as at a printer whose cover is open.
     is_patient: bool,
+    /// Whether a byte of a serial line whose parity is wrong is 0. Otherwise it is dropped.
+    keeps_faults: bool,
     /// What is open, and the process that opened it.
     stream: Option<Stream>,
     process: u32,
@@ -384,6 +392,7 @@ impl Cable {
             port,
             usual: SerialSettings::default(),
             is_patient: false,
+            keeps_faults: false,
             stream: None,
             process: 0,
             ends_empty: true,
@@ -398,6 +407,13 @@ impl Cable {
     pub(crate) fn patient(port: Port) -> Cable {
         let mut cable = Cable::new(port);
         cable.is_patient = true;
+        cable
+    }
+
+    /// A port of a scanner: without one of its bytes a code is another one.
+    pub(crate) fn of_scanner(port: Port) -> Cable {
+        let mut cable = Cable::new(port);
+        cable.keeps_faults = true;
         cable
     }
 
@@ -486,9 +502,9 @@ impl Cable {
                 self.open_tcp(host, port, time).map(|stream| (Stream::Tcp(stream), true))
             }
             Port::Keys(path) => open_keys(path).map(|file| (Stream::File(file), true)),
-            Port::File(path) => open_file(path, None),
-            Port::Line(path) => open_file(path, Some(&self.usual)),
-            Port::Serial(path, settings) => open_file(path, Some(settings)),
+            Port::File(path) => open_file(path, None, false),
+            Port::Line(path) => open_file(path, Some(&self.usual), self.keeps_faults),
+            Port::Serial(path, settings) => open_file(path, Some(settings), self.keeps_faults),
         };
         match opened {
             Ok((stream, ends_empty)) => {
@@ -636,7 +652,7 @@ fn number_of(fault: &io::Error) -> c_int {
 }
 
 /// Opens a device file, and says whether reading no bytes means that it is lost.
-fn open_file(path: &Path, settings: Option<&SerialSettings>) -> io::Result<(Stream, bool)> {
+fn open_file(path: &Path, settings: Option<&SerialSettings>, keeps_faults: bool) -> io::Result<(Stream, bool)> {
     let file = OpenOptions::new().read(true).write(true).custom_flags(O_NONBLOCK | O_NOCTTY).open(path)?;
     if file.metadata()?.is_file() {
         return Err(io::Error::from_raw_os_error(ENODEV));
@@ -644,7 +660,7 @@ fn open_file(path: &Path, settings: Option<&SerialSettings>) -> io::Result<(Stre
     // A printer on USB may send packets with nothing in them.
     let ends_empty = is_line(&file);
     if ends_empty {
-        set_up(file.as_raw_fd(), settings)?;
+        set_up(file.as_raw_fd(), settings, keeps_faults)?;
     }
     Ok((Stream::File(file), ends_empty))
 }
@@ -653,7 +669,7 @@ fn open_file(path: &Path, settings: Option<&SerialSettings>) -> io::Result<(Stre
 fn open_keys(path: &Path) -> io::Result<File> {
     let file = OpenOptions::new().read(true).custom_flags(O_NONBLOCK | O_NOCTTY).open(path)?;
     if is_line(&file) {
-        set_up(file.as_raw_fd(), None)?;
+        set_up(file.as_raw_fd(), None, false)?;
     }
     // SAFETY: the file is open.
     if file.metadata()?.file_type().is_char_device() && unsafe { ioctl(file.as_raw_fd(), EVIOCGRAB, 1 as c_int) } != 0 {
@@ -789,6 +805,8 @@ pub(crate) fn terminal() -> (File, PathBuf) {
 #[cfg(test)]
 mod tests {
     use super::*;
+    use crate::{DisplaySettings, Driver, EscPosPrinter, EscPosSettings, SerialDisplay, WedgeScanner};
+    use crate::{Till, Totals, BUILT_PROFILE};
     use std::net::TcpListener;
 
     const SOON: Duration = Duration::from_millis(500);
@@ -812,14 +830,27 @@ mod tests {
         }
     }
 
+    /// What a line does with breaks and wrong parities once a device is driven over it.
+    fn input_of<D: Into<Box<dyn Driver>>>(device: &str, parity: Parity, open: impl FnOnce(Port) -> D) -> u32 {
+        let (device_end, path) = terminal();
+        let settings = SerialSettings { parity, flow: Flow::None, ..SerialSettings::default() };
+        let till = Till::open(BUILT_PROFILE, Totals::Memory).unwrap();
+        till.drive(device, open(Port::Serial(path, settings))).unwrap();
+        settings_of(device_end.as_raw_fd()).unwrap().input
+    }
+
     #[test]
     fn a_line_ignores_breaks_and_checks_its_parity() {
-        for (parity, checks) in [(Parity::None, 0), (Parity::Even, INPCK), (Parity::Odd, INPCK)] {
-            let (_device, path) = terminal();
-            let settings = SerialSettings { parity, ..SerialSettings::default() };
-            let mut cable = Cable::new(Port::Serial(path, settings));
-            assert!(cable.open(SOON));
-            assert_eq!(settings_of(cable.file().unwrap()).unwrap().input, IGNBRK | checks);
+        for (parity, dropped, kept) in
+            [(Parity::None, 0, 0), (Parity::Even, INPCK | IGNPAR, INPCK), (Parity::Odd, INPCK | IGNPAR, INPCK)]
+        {
+            let printer = EscPosSettings { timeout: Duration::from_millis(1), ..EscPosSettings::default() };
+            let found = [
+                input_of("r1", parity, |port| EscPosPrinter::open(port, printer)),
+                input_of("p1", parity, |port| SerialDisplay::open(port, DisplaySettings::default())),
+                input_of("s1", parity, WedgeScanner::open),
+            ];
+            assert_eq!(found, [dropped, dropped, kept].map(|checks| IGNBRK | checks));
         }
     }
 
