@@ -252,9 +252,14 @@ const CREAD: u32 = 0o200;
 const PARENB: u32 = 0o400;
 const PARODD: u32 = 0o1000;
 const CLOCAL: u32 = 0o4000;
+const CMSPAR: u32 = 0o10_000_000_000;
 const CRTSCTS: u32 = 0o20_000_000_000;
 const VTIME: usize = 5;
 const VMIN: usize = 6;
+const VSTART: usize = 8;
+const VSTOP: usize = 9;
+const XON: u8 = 0x11;
+const XOFF: u8 = 0x13;
 
 /// The number by which a speed is set.
 fn speed_of(speed: u32) -> Option<u32> {
@@ -285,7 +290,7 @@ fn set_up(file: RawFd, settings: Option<&SerialSettings>, keeps_faults: bool) ->
     (line.characters[VMIN], line.characters[VTIME]) = (1, 0);
     if let Some(settings) = settings {
         // Without bits of its own, in the upper half, the input's speed is the output's.
-        line.control &= !(CBAUD | CBAUD << 16 | CSIZE | PARENB | PARODD | CSTOPB | CRTSCTS);
+        line.control &= !(CBAUD | CBAUD << 16 | CSIZE | PARENB | PARODD | CMSPAR | CSTOPB | CRTSCTS);
         line.control |= speed_of(settings.speed).ok_or(ErrorKind::InvalidInput)?;
         line.control |= if settings.bits == 8 { CS8 } else { CS7 };
         line.control |= match settings.parity {
@@ -300,7 +305,11 @@ fn set_up(file: RawFd, settings: Option<&SerialSettings>, keeps_faults: bool) ->
             _ if keeps_faults => INPCK,
             _ => INPCK | IGNPAR,
         };
-        line.input |= if settings.flow == Flow::XonXoff { IXON | IXOFF } else { 0 };
+        if settings.flow == Flow::XonXoff {
+            line.input |= IXON | IXOFF;
+            // A program that had the line before may have left it others, or none.
+            (line.characters[VSTART], line.characters[VSTOP]) = (XON, XOFF);
+        }
     }
     // SAFETY: the file is open, and the line is lent for the call.
     let is_set = unsafe { ioctl(file, TCSETS, &line as *const Line) } == 0;
@@ -852,6 +861,22 @@ mod tests {
             ];
             assert_eq!(found, [dropped, dropped, kept].map(|checks| IGNBRK | checks));
         }
+    }
+
+    #[test]
+    fn a_line_keeps_nothing_that_another_program_has_left() {
+        let (device, path) = terminal();
+        let mut left = settings_of(device.as_raw_fd()).unwrap();
+        left.control |= CMSPAR;
+        (left.characters[VSTART], left.characters[VSTOP]) = (0, 0);
+        // SAFETY: the file is open, and the settings are lent for the call.
+        assert_eq!(unsafe { ioctl(device.as_raw_fd(), TCSETS, &left as *const Line) }, 0);
+        assert_eq!(settings_of(device.as_raw_fd()).unwrap().control & CMSPAR, CMSPAR);
+        let settings = SerialSettings { flow: Flow::XonXoff, ..SerialSettings::default() };
+        let mut cable = Cable::new(Port::Serial(path, settings));
+        assert!(cable.open(SOON));
+        let found = settings_of(cable.file().unwrap()).unwrap();
+        assert_eq!((found.characters[VSTART], found.characters[VSTOP], found.control & CMSPAR), (XON, XOFF, 0));
     }
 
     #[test]
