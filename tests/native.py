@@ -893,11 +893,6 @@ def try_given_up_and_released():
         told("it is on the paper twice", PRINTED * 2, shop.paper())
 
 
-def is_crate(host):
-    """Whether a host is that of the crate, which opens no other till."""
-    return host.ask(f"totals {WORK / 'none'}") == "not understood"
-
-
 def try_behind_given_up():
     """An order behind one that was given up and is printed still: it has its timeout again with each of those lines."""
     lines = [b"Line %d" % number for number in range(20)]
@@ -921,9 +916,6 @@ def try_lost_xon():
     with contextlib.ExitStack() as stack:
         device = stack.enter_context(Printer(cable("serial")))
         host = Host(stack)
-        if is_crate(host):
-            # It doesn't do that yet.
-            return
         told("a printer with XON/XOFF", "ok",
              host.ask(f"printer r1 {device.path} timeout {TIMEOUT} pause 10 lines 1000 serial 115200 flow xon-xoff"))
 

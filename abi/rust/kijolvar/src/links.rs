@@ -746,6 +746,7 @@ impl Link {
         let is_held = self.cable.holds_back() && self.is_stopped();
         let is_late = self.asked_at.is_some_and(|asked_at| asked_at.elapsed() > self.timeout);
         if is_late && !is_held {
+            self.cable.resume();
             self.is_there = false;
             self.told.clear();
             self.signs = Signs::default();

@@ -219,6 +219,9 @@ pub(crate) const O_NONBLOCK: c_int = 0o4000;
 const O_NOCTTY: c_int = 0o400;
 const TCGETS: c_ulong = 0x5401;
 const TCSETS: c_ulong = 0x5402;
+const TCXONC: c_ulong = 0x540a;
+const TCOOFF: c_int = 0;
+const TCOON: c_int = 1;
 const TCFLSH: c_ulong = 0x540b;
 const TCOFLUSH: c_int = 1;
 const TCIOFLUSH: c_int = 2;
@@ -447,6 +450,18 @@ impl Cable {
         if let (true, Some(file)) = (self.holds_back(), self.file()) {
             // SAFETY: the file is open.
             unsafe { ioctl(file, TCFLSH, TCOFLUSH) };
+        }
+    }
+
+    /// Lets it send though its device has said that it can take no more (XOFF). The device may have lost its power
+    /// since then, or the line its XON: nothing would ever go out again.
+    pub(crate) fn resume(&self) {
+        let has_xon = matches!(&self.port, Port::Serial(_, settings) if settings.flow == Flow::XonXoff);
+        let (true, Some(file)) = (has_xon, self.file()) else { return };
+        // SAFETY: the file is open. Linux goes on only from a stop of the same kind.
+        unsafe {
+            ioctl(file, TCXONC, TCOOFF);
+            ioctl(file, TCXONC, TCOON);
         }
     }
 
