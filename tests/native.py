@@ -408,6 +408,26 @@ def try_silent_behind_cover():
         told("it answers: each line is whole", [], missing(shop))
 
 
+def try_silence_that_nobody_heard():
+    """A printer whose line holds bytes back has said nothing while the application was busy. It has time to answer
+    before what is due counts as lost: no line is printed twice."""
+    with contextlib.ExitStack() as stack:
+        shop = Shop(stack, "holds", timeout=AMPLE)
+        device = shop.device
+        device.after_characters(30, lambda: device.cover(True))
+        told("the cover is opened", "err 114 201", print_receipt(shop))
+        with device.lock:
+            device.cover(False)
+            device.hang()
+        told("it is closed", True, shop.settle())
+        time.sleep(2.5)
+        shop.host.ask("run 0")
+        device.hang(False)
+        device.wait(lambda: device.is_idle and not device._sends)
+        told("the receipt again", "ok", print_receipt(shop))
+        told("its paper", RECEIPT, [item[1] for item in shop.paper()])
+
+
 def try_ports_that_stay():
     """A port that stays open while the printer is off, and loses what is sent: a cable with a chip of its own, or a
     print server. What was lost is never told as printed, and a retry prints it."""

@@ -629,7 +629,7 @@ impl Link {
             self.fill(posting);
             let ready = till.wait(&self.cable, self.out_sent < self.out.len(), left.min(OFTEN));
             let is_any = ready.reading && self.read_some(till)?;
-            self.watch();
+            self.watch(false);
             if ready.writing {
                 self.write_some()?;
             } else if ready.reading && !is_any {
@@ -651,16 +651,18 @@ impl Link {
     }
 
     /// Looks whether the printer has fallen silent while a line may hold something of a job back for it. It is asked
-    /// before that counts as lost.
-    fn watch(&mut self) {
+    /// before that counts as lost, and has time to answer, also if nobody has looked for long. At the end of an order
+    /// that time is over.
+    fn watch(&mut self, is_end: bool) {
         let is_any_held = self.due.iter().any(|parcel| parcel.job != 0 && !parcel.is_torn);
         if !self.cable.holds_back() || self.is_stopped() || !is_any_held {
             return;
         }
         let (since, longest) = (self.heard_at.max(Some(self.began_at)), self.timeout.min(SILENT));
-        if is_over(since, longest) {
+        let had_time = is_end || self.asked_at.is_some_and(|asked_at| asked_at.elapsed() >= longest / 2);
+        if had_time && is_over(since, longest) {
             self.lose_held();
-        } else if is_over(since, longest / 2) && self.asked_at.is_none() {
+        } else if !is_end && self.asked_at.is_none() && is_over(since, longest / 2) {
             self.ask();
         }
     }
@@ -771,7 +773,7 @@ impl Link {
 
     fn look(&mut self, till: &mut DriverTill<'_>) -> Result<(), Lost> {
         self.receive(till)?;
-        self.watch();
+        self.watch(false);
         self.look_after()?;
         self.send_control()
     }
@@ -922,6 +924,7 @@ impl Link {
             return true;
         }
         self.take_back();
+        self.watch(true);
         // The next look asks. What is asked now may be lost, and that look may come long after the printer is back.
         self.was_silent |= !self.is_stopped();
         false
