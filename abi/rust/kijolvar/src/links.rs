@@ -284,23 +284,23 @@ impl Link {
         self.control.extend_from_slice(&[0x10, 0x04, QUESTIONS[question] as u8]);
     }
 
-    /// Puts the first question.
+    /// Puts the first question. Answers that haven't come are lost if late ones come no more, and if no line may hold
+    /// their questions back.
     fn put_first_question(&mut self) {
-        if std::mem::take(&mut self.is_late) || !self.is_asked {
-            // The answers that haven't come are lost.
+        if std::mem::take(&mut self.is_late) || !(self.is_asked || self.cable.holds_back()) {
             self.unanswered = 0;
         }
         self.put_question(0);
     }
 
-    /// Asks a printer that says nothing by itself how it is.
+    /// Asks a printer how it is that says nothing by itself, or whose late answers have told nothing.
     fn ask_on(&mut self) {
         let time = match self.unanswered {
             0 => OFTEN,
             _ if self.is_late => self.timeout.min(APART),
             _ => self.timeout,
         };
-        if self.is_asked && self.is_idle() && is_over(self.questioned_at, time) {
+        if (self.is_asked || self.is_late) && self.is_idle() && is_over(self.questioned_at, time) {
             self.put_first_question();
         }
     }
