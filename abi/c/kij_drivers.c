@@ -728,7 +728,8 @@ void kij_internal_wait_typing(kij_till *till, const kij_port *port, bool is_writ
         waiting[0] = kij_internal_port_waiting(port, is_writing);
         for (kij_drive *drive = till->drives->first; drive != NULL && count < MOST_PORTS; drive = drive->next) {
             int file = drive->category == KIJ_SCANNER ? read_ahead(drive) : -1;
-            if (file >= 0) waiting[count++] = (struct pollfd){file, POLLIN, 0};
+            struct pollfd typing = {file, POLLIN, 0};
+            if (file >= 0) waiting[count++] = typing;
         }
         (void)poll(waiting, count, (int)left);
         left = end - kij_internal_now();

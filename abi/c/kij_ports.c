@@ -145,7 +145,7 @@ static int set_up(int file, const kij_port *port) {
    takes masks in parts of 8 bytes. */
 static void leave_out(int file) {
     const uint64_t none = 0;
-    struct input_mask mask = {.type = EV_MSC, .codes_size = sizeof none, .codes_ptr = (uintptr_t)&none};
+    struct input_mask mask = {EV_MSC, sizeof none, (uintptr_t)&none};
     (void)ioctl(file, EVIOCSMASK, &mask);
 }
 
@@ -376,7 +376,8 @@ void kij_internal_port_resume(const kij_port *port) {
 }
 
 struct pollfd kij_internal_port_waiting(const kij_port *port, bool is_writing) {
-    return (struct pollfd){port->file, (short)(POLLIN | (is_writing ? POLLOUT : 0)), 0};
+    struct pollfd waiting = {port->file, (short)(POLLIN | (is_writing ? POLLOUT : 0)), 0};
+    return waiting;
 }
 
 void kij_internal_port_is_ready(const struct pollfd *found, bool *can_read, bool *can_write) {
