@@ -96,13 +96,13 @@ def opened(profile=PROFILE, totals=None, **named):
 def cable(kind="usb"):
     """A new cable: "usb" hangs up with the device, "serial" doesn't, and "tcp" is a network printer's. "asked" is a
     simpler printer on "usb". With "stays" behind it, the port stays open while the device is off. With "holds" it is a
-    serial line that keeps what the device doesn't take."""
+    serial line that keeps what the device doesn't take, with "adapter" behind it 256 bytes of that in an adapter."""
     global made
     made += 1
     hangs_up = kind != "serial" and "stays" not in kind
     if "tcp" in kind:
         return TcpCable(hangs_up=hangs_up)
-    return PtyCable(WORK / f"port-{made}", hangs_up=hangs_up, holds="holds" in kind)
+    return PtyCable(WORK / f"port-{made}", hangs_up=hangs_up, holds="holds" in kind, keeps=256 * ("adapter" in kind))
 
 
 def port_of(device, kind="usb"):
@@ -481,6 +481,26 @@ def try_power_behind_a_line():
                 told(f"{name}: each line is whole", (5, []), (len(items), not_whole(shop.device, items)))
                 told(f"{name}: at most one part of a line", True, len(shop.device.receipt()) <= 9)
                 told(f"{name}: nothing else", 0, shop.driver.late_orders)
+
+
+def try_end_that_nobody_saw():
+    """A printer that loses its power in a line, and is back before anybody looks: the end of the line that it may have got
+    and acknowledged isn't told as the whole."""
+    for kind in ("holds", "asked holds", "holds adapter", "asked holds adapter"):
+        for place in (6, 35):
+            name = f"off after {place} bytes while nobody looks, over {kind}"
+            with contextlib.ExitStack() as stack:
+                shop = Shop(stack, kind)
+                shop.begins()
+                shop.device.ROOM = 8
+                shop.device.after(place, shop.device.pull_plug)
+                told(f"{name}: the answer", (111, 0), raised(shop.control.print, TEXT))
+                shop.device.plug_in()
+                shop.device.wait(lambda: shop.device.is_idle)
+                time.sleep(0.1)
+                told(f"{name}: again", True, until(
+                    lambda: shop.till.run_devices(0.01) is not None and raised(shop.control.print, TEXT) is None))
+                told(f"{name}: each line is whole", [], not_whole(shop.device, shop.till.device("r1").show().items))
 
 
 def try_order_behind_a_line():
@@ -2574,7 +2594,8 @@ def try_refusals():
 def try_random():
     """Random trouble: each order that was answered ok is on the paper once, in order, and nothing else is. On a line that
     holds back what is sent, it may be there again, and parts of it if the printer had no power."""
-    kinds = "usb", "tcp", "asked", "usb stays", "tcp stays", "asked stays", "holds", "asked holds"
+    kinds = ("usb", "tcp", "asked", "usb stays", "tcp stays", "asked stays", "holds", "asked holds", "holds adapter",
+             "asked holds adapter")
     for kind in kinds:
         chance, left = random.Random(f"{WORDS.seed} {kind}"), WORDS.faults // len(kinds)
         while left > 0:

@@ -63,13 +63,14 @@ made = 0
 
 def cable(kind="usb"):
     """A new cable: "usb" hangs up with the device, a serial line doesn't, "tcp" is a network printer's. With "stays"
-    behind it, the port stays open while the device is off. "holds" is a serial line with RTS/CTS."""
+    behind it, the port stays open while the device is off. "holds" is a serial line with RTS/CTS, by an adapter that
+    keeps 256 bytes if that is behind it."""
     global made
     made += 1
     hangs_up = "serial" not in kind and "stays" not in kind
     if "tcp" in kind:
         return TcpCable(hangs_up=hangs_up)
-    return PtyCable(WORK / f"port-{made}", hangs_up=hangs_up, holds="holds" in kind)
+    return PtyCable(WORK / f"port-{made}", hangs_up=hangs_up, holds="holds" in kind, keeps=256 * ("adapter" in kind))
 
 
 def renew_work():
@@ -304,7 +305,7 @@ def try_end_held_back():
 def try_end_that_nobody_saw():
     """A printer is off for a while in a line, and back before anybody looks: the end of the line that it may have got and
     acknowledged isn't told as the whole."""
-    for kind in ("holds", "asked holds"):
+    for kind in ("holds", "asked holds", "holds adapter", "asked holds adapter"):
         for place in (10, 60, 150):
             name = f"off after {place} bytes while nobody looks, over {kind}"
             with contextlib.ExitStack() as stack:
@@ -2386,7 +2387,8 @@ def try_random():
 def try_random_held():
     """Random trouble at a printer whose line holds back what it doesn't take: each order that was answered ok is whole
     on the paper. What nobody knows of may be there twice."""
-    for kind, unless in (("holds", ()), ("asked holds", ("garbage",))):
+    for kind, unless in (("holds", ()), ("asked holds", ("garbage",)), ("holds adapter", ()),
+                         ("asked holds adapter", ("garbage",))):
         chance, counts, wanted = random.Random(f"{WORDS.seed} {kind}"), {}, []
         with contextlib.ExitStack() as stack:
             shop = Shop(stack, kind, lines=100_000)

@@ -20,10 +20,12 @@ def count_unread(file):
 class PtyCable:
     """A pseudo terminal. `path` is a symbolic link to it, which is there only while the device is on, as that of a USB
     printer. With `hangs_up` false it is a serial line: it stays when the device goes off, and nothing answers. With
-    `holds` it is one with RTS/CTS: what is sent waits while the device is off or offline."""
+    `holds` it is one with RTS/CTS: what is sent waits while the device is off or offline. So many bytes of that are in
+    an adapter, which the host can't drop any more."""
 
-    def __init__(self, path, hangs_up=True, holds=False):
+    def __init__(self, path, hangs_up=True, holds=False, keeps=0):
         self.path, self.hangs_up, self.holds = os.fspath(path), hangs_up and not holds, holds
+        self.keeps = keeps
         self._master = self._slave = None
 
     def plug_in(self):
@@ -94,7 +96,7 @@ class TcpCable:
     """A TCP port of this machine, as a network printer's 9100. One host is connected at a time. With `hangs_up` false it
     is that of a print server: it stays when the device goes off, and nothing answers."""
 
-    holds = False
+    holds, keeps = False, 0
 
     def __init__(self, port=0, hangs_up=True):
         self.hangs_up = hangs_up

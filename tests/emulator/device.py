@@ -26,6 +26,8 @@ class Device:
         self.worked = 0
         self._ready_at = 0.0
         self._got, self._sends = bytearray(), bytearray()
+        # What an adapter in its cable keeps for it.
+        self._kept = bytearray()
         self._triggers = []
         self._is_ending = False
         self._thread = None
@@ -125,7 +127,7 @@ class Device:
     def is_idle(self):
         """Whether it has worked off all that it got, and nothing is on its cable that it would take."""
         with self.lock:
-            return not self._got and not (self.is_on and self.may_hear() and self.cable.waiting())
+            return not self._got and not (self.is_on and self.may_hear() and (self._kept or self.cable.waiting()))
 
     def wait(self, condition, seconds=5.0):
         """Waits until a condition holds, and says whether it does."""
@@ -166,6 +168,27 @@ class Device:
         raise NotImplementedError
 
     # The thread.
+
+    def _count_room(self):
+        """How many bytes are taken from its cable now: by an adapter in that, or by the device."""
+        if self.cable.keeps:
+            return self.cable.keeps - len(self._kept)
+        return self.ROOM - len(self._got) if self.may_hear() else 0
+
+    def _hears(self, found):
+        """Bytes have come over its cable. One without power loses what no adapter keeps."""
+        if self.cable.keeps:
+            self._kept += found
+        elif self.is_on and found:
+            self._got += self.arrives(found)
+
+    def _hears_kept(self):
+        """Gets what an adapter has for it, as far as there is room. Returns whether it got anything."""
+        room = self.ROOM - len(self._got) if self.is_on and self.may_hear() else 0
+        kept = bytes(self._kept[:max(room, 0)])
+        del self._kept[:len(kept)]
+        self._got += self.arrives(kept)
+        return bool(kept)
 
     def send(self, data):
         """Sends an answer."""
@@ -208,12 +231,13 @@ class Device:
             with self.lock:
                 if self._is_ending:
                     return
+                has_more = self._hears_kept()
                 pause = self._works()
                 self._flush()
-                if self._sends:
+                if has_more or self._sends:
                     pause = 0.001
                 files = [self._wakes]
-                if len(self._got) < self.ROOM and self.may_hear():
+                if self._count_room() > 0:
                     files += self.cable.files()
             try:
                 ready = select.select(files, [], [], pause)[0]
@@ -224,7 +248,6 @@ class Device:
                 with contextlib.suppress(BlockingIOError):
                     os.read(self._wakes, 4096)
             with self.lock:
-                has_room = len(self._got) < self.ROOM and self.may_hear()
-                found = self.cable.read(self.ROOM - len(self._got)) if has_room else b""
-                if self.is_on and found:
-                    self._got += self.arrives(found)
+                room = self._count_room()
+                if room > 0:
+                    self._hears(self.cable.read(room))
