@@ -311,6 +311,8 @@ def try_end_that_nobody_saw():
             with contextlib.ExitStack() as stack:
                 shop = Shop(stack, kind)
                 shop.device.ROOM = 8
+                # It says something of itself before.
+                shop.device.after(5, lambda: shop.device.drawer(True))
                 shop.device.after(place, shop.device.pull_plug)
                 told(f"{name}: the answer", "err 111", print_receipt(shop))
                 shop.device.plug_in()
@@ -318,6 +320,22 @@ def try_end_that_nobody_saw():
                 time.sleep(0.1)
                 told(f"{name}: again", True, print_receipt(shop) == "ok" or is_done_after_all(shop))
                 told(f"{name}: each line is whole", [], missing(shop))
+        with contextlib.ExitStack() as stack:
+            # It answers until shortly before the order fails.
+            name, shop = f"off at the end of an order, over {kind}", Shop(stack, kind)
+            shop.device.ROOM = 24
+            shop.device.slow(60)
+            off = threading.Timer(0.8 * TIMEOUT / 1000, shop.device.pull_plug)
+            shop.device.after_characters(1, off.start)
+            told(f"{name}: the answer", "err 111", print_receipt(shop))
+            off.join()
+            shop.device.slow(0)
+            time.sleep(2.2)
+            shop.device.plug_in()
+            shop.device.wait(lambda: shop.device.is_idle)
+            time.sleep(0.1)
+            told(f"{name}: again", True, print_receipt(shop) == "ok" or is_done_after_all(shop))
+            told(f"{name}: each line is whole", [], missing(shop))
 
 
 def try_cover_over_line():

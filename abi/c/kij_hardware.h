@@ -165,6 +165,8 @@ typedef struct kij_link {
     bool was_sent;
     int64_t asked_at;
     int64_t heard_at;
+    /* When anybody has looked what has come. */
+    int64_t looked_at;
     int64_t tried_at;
     int64_t refreshed_at;
     /* Whether it is offline and isn't asked yet why, and until when answers to earlier questions may come. */

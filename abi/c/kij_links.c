@@ -285,16 +285,25 @@ static void lose_sent(kij_link *link) {
 /* When the question was put that is out. */
 static int64_t asked_last(const kij_link *link) { return link->is_asked ? link->questioned_at : link->asked_at; }
 
-/* Looks whether a printer says anything of an order, or answers, if its line holds bytes back. One that has stopped
-   needn't: it may take nothing. It has time to answer, also if nobody has looked for long; at the end of an order that
-   time is over. */
+/* How long a printer has said nothing. */
+static int64_t quiet_of(const kij_link *link) {
+    return kij_internal_now() - greatest(link->heard_at, link->began_at);
+}
+
+/* Whether a line may hold back a part of what is due. A printer that has stopped may take nothing, and says that it
+   goes on. */
+static bool is_held(const kij_link *link) {
+    return kij_internal_port_holds_back(&link->port) && is_any_due(link) && !is_stopped(link);
+}
+
+/* Looks whether a printer says anything of an order, or answers, if its line holds bytes back. It has time to answer,
+   also if nobody has looked for long; at the end of an order that time is over. */
 static void watch(kij_link *link, bool is_end) {
-    int64_t most = least(link->timeout, silence);
-    int64_t quiet = kij_internal_now() - greatest(link->heard_at, link->began_at);
-    if (!kij_internal_port_holds_back(&link->port) || !is_any_due(link) || is_stopped(link)) return;
-    bool had_time = is_end || (has_question(link) && kij_internal_now() - asked_last(link) >= most / 2);
-    if (quiet >= most && had_time) lose_sent(link);
-    else if (quiet >= most / 2 && !is_end && !has_question(link)) ask_now(link);
+    int64_t most = least(link->timeout, silence), quiet = quiet_of(link);
+    if (!is_held(link) || quiet < most / 2) return;
+    bool had_time = has_question(link) && kij_internal_now() - asked_last(link) >= most / 2;
+    if (is_end || (quiet >= most && had_time)) lose_sent(link);
+    else if (!has_question(link)) ask_now(link);
 }
 
 /* Bytes of a parcel's order were lost. */
@@ -581,9 +590,17 @@ static bool read_some(kij_link *link, bool *is_any) {
     return true;
 }
 
+/* Whether a printer may have been off since anybody looked, so that what it has acknowledged since is no whole line. */
+static bool may_have_been_off(const kij_link *link) {
+    int64_t unseen = kij_internal_now() - link->looked_at;
+    return is_held(link) && quiet_of(link) >= silence && unseen >= least(link->timeout, silence) / 2;
+}
+
 /* Reads what has come: false if the port was lost. */
 static bool receive(kij_link *link) {
     bool can_read, can_write, is_any = true;
+    if (may_have_been_off(link)) lose_sent(link);
+    link->looked_at = kij_internal_now();
     for (int part = 0; part < KIJ_MOST_PARTS && is_any; part++) {
         is_any = false;
         kij_internal_port_wait(&link->port, false, 0, &can_read, &can_write);
@@ -654,6 +671,7 @@ static bool pump(kij_link *link, is_reached reached, const kij_job *job) {
                                  &can_read, &can_write);
         if (can_read && !read_some(link, &is_any)) return false;
         if (can_write && !write_some(link)) return false;
+        link->looked_at = kij_internal_now();
         /* What has come was read before. */
         watch(link, false);
         if (can_read && !is_any && !can_write) kij_internal_sleep(least(left, often));
@@ -700,6 +718,7 @@ void kij_internal_link_start(kij_link *link) {
     link->ends_at = kij_internal_now() + link->timeout;
     link->end_size = link->is_asked ? QUESTION_SIZE : JOB_SIZE;
     link->tried_at = link->refreshed_at = link->questioned_at = link->heard_at = link->began_at = KIJ_NEVER;
+    link->looked_at = KIJ_NEVER;
     /* A printer may still acknowledge jobs of a host that has ended. Those shouldn't have the numbers of these. */
     link->number = ((uint32_t)kij_internal_now() ^ (uint32_t)getpid() * 2654435761u >> 8) % NUMBERS;
     connect_port(link, link->timeout);

@@ -102,9 +102,12 @@ class Device:
             self._sends.clear()
 
     def slow(self, line_time):
-        """Makes each line take so many seconds."""
+        """Makes each line take so many seconds, from the next one on. By 0 the one that is under way is done, too."""
         with self.lock:
             self.line_time = line_time
+            if line_time == 0:
+                self._ready_at = 0.0
+        self._wake()
 
     def garbage(self, data):
         """Sends bytes that mean nothing."""
