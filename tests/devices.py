@@ -493,6 +493,8 @@ def try_end_that_nobody_saw():
                 shop = Shop(stack, kind)
                 shop.begins()
                 shop.device.ROOM = 8
+                # It says something of itself before.
+                shop.device.after(5, lambda: shop.device.drawer(True))
                 shop.device.after(place, shop.device.pull_plug)
                 told(f"{name}: the answer", (111, 0), raised(shop.control.print, TEXT))
                 shop.device.plug_in()
@@ -501,6 +503,29 @@ def try_end_that_nobody_saw():
                 told(f"{name}: again", True, until(
                     lambda: shop.till.run_devices(0.01) is not None and raised(shop.control.print, TEXT) is None))
                 told(f"{name}: each line is whole", [], not_whole(shop.device, shop.till.device("r1").show().items))
+        with contextlib.ExitStack() as stack:
+            name, shop = f"off at the end of an order, over {kind}", Shop(stack, kind)
+            shop.begins()
+            shop.device.ROOM = 8
+
+            def goes_off():
+                """It says something of itself until shortly before the order fails."""
+                end = time.monotonic() + 0.8 * TIMEOUT
+                while time.monotonic() < end:
+                    shop.device.drawer(not shop.device.is_drawer_open)
+                    time.sleep(0.02)
+                shop.device.pull_plug()
+            off = threading.Thread(target=goes_off)
+            shop.device.after_characters(15, lambda: shop.device.pauses(60), off.start)
+            told(f"{name}: the answer", (111, 0), raised(shop.control.print, TEXT))
+            off.join()
+            time.sleep(2.2)
+            shop.device.plug_in()
+            shop.device.wait(lambda: shop.device.is_idle)
+            time.sleep(0.1)
+            told(f"{name}: again", True, until(
+                lambda: raised(shop.control.print, TEXT) is None or shop.till.run_devices(0.01) is None))
+            told(f"{name}: each line is whole", [], not_whole(shop.device, shop.till.device("r1").show().items))
 
 
 def try_order_behind_a_line():

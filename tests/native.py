@@ -321,15 +321,20 @@ def try_end_that_nobody_saw():
                 told(f"{name}: again", True, print_receipt(shop) == "ok" or is_done_after_all(shop))
                 told(f"{name}: each line is whole", [], missing(shop))
         with contextlib.ExitStack() as stack:
-            # It answers until shortly before the order fails.
             name, shop = f"off at the end of an order, over {kind}", Shop(stack, kind)
-            shop.device.ROOM = 24
-            shop.device.slow(60)
-            off = threading.Timer(0.8 * TIMEOUT / 1000, shop.device.pull_plug)
-            shop.device.after_characters(1, off.start)
+            shop.device.ROOM = 8
+
+            def goes_off():
+                """It says something of itself until shortly before the order fails."""
+                end = time.monotonic() + 0.8 * TIMEOUT / 1000
+                while time.monotonic() < end:
+                    shop.device.drawer(not shop.device.is_drawer_open)
+                    time.sleep(0.02)
+                shop.device.pull_plug()
+            off = threading.Thread(target=goes_off)
+            shop.device.after_characters(30, lambda: shop.device.pauses(60), off.start)
             told(f"{name}: the answer", "err 111", print_receipt(shop))
             off.join()
-            shop.device.slow(0)
             time.sleep(2.2)
             shop.device.plug_in()
             shop.device.wait(lambda: shop.device.is_idle)

@@ -593,7 +593,8 @@ static bool read_some(kij_link *link, bool *is_any) {
 /* Whether a printer may have been off since anybody looked, so that what it has acknowledged since is no whole line. */
 static bool may_have_been_off(const kij_link *link) {
     int64_t unseen = kij_internal_now() - link->looked_at;
-    return is_held(link) && quiet_of(link) >= silence && unseen >= least(link->timeout, silence) / 2;
+    bool was_long = quiet_of(link) >= silence && unseen >= least(link->timeout, silence) / 2;
+    return kij_internal_link_is_online(link) && is_held(link) && was_long;
 }
 
 /* Reads what has come: false if the port was lost. */
@@ -863,6 +864,7 @@ static size_t lines_of(const kij_buffer *data) {
 }
 
 bool kij_internal_link_carry_out(kij_link *link, const kijolvar_wire_settings *wire, bool is_once) {
+    if (may_have_been_off(link)) lose_sent(link);
     link->began_at = kij_internal_now();
     link->ends_at = link->began_at + link->timeout;
     if (!kij_internal_link_is_online(link)) return false;

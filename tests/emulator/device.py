@@ -71,7 +71,7 @@ class Device:
         with self.lock:
             self._flush()
             self.cable.settle()
-            self.is_on = False
+            self.is_on, self._ready_at = False, 0.0
             self._got.clear()
             self._sends.clear()
             self.forget()
@@ -102,12 +102,14 @@ class Device:
             self._sends.clear()
 
     def slow(self, line_time):
-        """Makes each line take so many seconds, from the next one on. By 0 the one that is under way is done, too."""
+        """Makes each line take so many seconds."""
         with self.lock:
             self.line_time = line_time
-            if line_time == 0:
-                self._ready_at = 0.0
-        self._wake()
+
+    def pauses(self, seconds):
+        """Works nothing off for so many seconds, or until its power is taken. It says how it is all the same."""
+        with self.lock:
+            self._ready_at = time.monotonic() + seconds
 
     def garbage(self, data):
         """Sends bytes that mean nothing."""

@@ -183,8 +183,8 @@ class PrinterLink:
         self._due: deque[_Parcel] = deque()
         self._got = bytearray()
         self._is_there = self._was_silent = self._is_refreshing = False
-        # Whether bytes of the outbox may have gone out that are still in it, and whether an order has begun and hasn't ended.
-        self._is_unsure = self._is_interrupted = False
+        # Whether bytes of the outbox may have gone out that are still in it.
+        self._is_unsure = False
         self._tried_at = self._refreshed_at = self._heard_at = self._told_at = self._looked_at = -1e9
         self._asked_at: float | None = None
         self._asked_what = _PRINTER
@@ -225,16 +225,16 @@ class PrinterLink:
         if is_called(self, "poll"):
             # A signal's handler orders something by another driver of the line.
             raise InCallError("the devices' loop is at this printer")
+        self._takes_as_sent()
+        self._minds_absence()
         self._began_at = time.monotonic()
         self._ends_at = self._began_at + self.timeout
         if not self.is_online:
             return False
-        self._takes_as_sent()
         data = wire.order(self._job)
         self._question = data[-self._end_size:]
         try:
             self._receive()
-            self._is_interrupted = True
             if self._failed is not None and self._failed.is_reported:
                 self._failed = None
             job = self._taken_up(data[:-self._end_size], is_once)
@@ -251,7 +251,6 @@ class PrinterLink:
             self._takes_as_sent()
             self._drop()
             raise
-        self._is_interrupted = False
         if job.is_done:
             self.lines += job.data.count(b"\n")
             job.told_at = wire, wire.reports
@@ -321,11 +320,19 @@ class PrinterLink:
         silence = now - max(self._heard_at, self._began_at)
         if not self._is_held() or silence < most / 2:
             return
-        had_time = is_over or self._asked_at is not None and now - self._asked_at >= most / 2
-        if silence >= most and had_time:
+        had_time = self._asked_at is not None and now - self._asked_at >= most / 2
+        if is_over or silence >= most and had_time:
             self._tears()
-        elif self._asked_at is None and not is_over:
+        elif self._asked_at is None:
             self._ask()
+
+    def _minds_absence(self) -> None:
+        """If nobody has looked for long, a printer whose line keeps a part of what is due may have been off meanwhile: what
+        it has acknowledged since is no whole line."""
+        now, unseen = time.monotonic(), min(self.timeout, _SILENT) / 2
+        is_silent = now - max(self._heard_at, self._began_at) >= _SILENT
+        if self.is_online and self._is_held() and is_silent and now - self._looked_at >= unseen:
+            self._tears()
 
     def _is_held(self) -> bool:
         """Whether something of a job is due of which the line may keep a part. One that has stopped says that it goes
@@ -474,10 +481,8 @@ class PrinterLink:
             self._outbox.append(_Parcel(data))
 
     def _receive(self) -> None:
-        """Reads what has come since the last time. If an order was interrupted, and nobody has looked for long since, a
-        printer whose line keeps a part of it may have been off meanwhile."""
-        if self._is_interrupted and self._is_held() and time.monotonic() - self._looked_at >= _SILENT:
-            self._tears()
+        """Reads what has come since the last time."""
+        self._minds_absence()
         for data in self.port.waiting():
             self._takes(data)
         self._looked_at = time.monotonic()

@@ -169,6 +169,8 @@ pub(crate) struct Link {
     is_refreshing: bool,
     asked_at: Option<Instant>,
     heard_at: Option<Instant>,
+    /// When anybody has looked what has come.
+    looked_at: Option<Instant>,
     tried_at: Option<Instant>,
     refreshed_at: Option<Instant>,
     /// The last question, how many aren't answered, and when it was put or a late answer came. Answers don't say what
@@ -228,6 +230,7 @@ impl Link {
             is_refreshing: false,
             asked_at: None,
             heard_at: None,
+            looked_at: None,
             tried_at: None,
             refreshed_at: None,
             question: 0,
@@ -578,6 +581,10 @@ impl Link {
 
     /// Reads what has come.
     fn receive(&mut self, till: &mut DriverTill<'_>) -> Result<(), Lost> {
+        if self.may_have_been_off() {
+            self.lose_held();
+        }
+        self.looked_at = Some(Instant::now());
         for _ in 0..MOST_READS {
             if !(self.cable.wait(false, Duration::ZERO).reading && self.read_some(till)?) {
                 break;
@@ -629,6 +636,7 @@ impl Link {
             self.fill(posting);
             let ready = till.wait(&self.cable, self.out_sent < self.out.len(), left.min(OFTEN));
             let is_any = ready.reading && self.read_some(till)?;
+            self.looked_at = Some(Instant::now());
             self.watch(false);
             if ready.writing {
                 self.write_some()?;
@@ -650,21 +658,39 @@ impl Link {
         }
     }
 
+    /// Whether the printer has said nothing for a time.
+    fn is_quiet(&self, time: Duration) -> bool {
+        is_over(self.heard_at.max(Some(self.began_at)), time)
+    }
+
+    /// Whether a line may hold back a part of what is due. A printer that has stopped may take nothing, and says that it
+    /// goes on.
+    fn is_held(&self) -> bool {
+        let is_any = self.due.iter().any(|parcel| parcel.job != 0 && !parcel.is_torn);
+        is_any && self.cable.holds_back() && !self.is_stopped()
+    }
+
     /// Looks whether the printer has fallen silent while a line may hold something of a job back for it. It is asked
     /// before that counts as lost, and has time to answer, also if nobody has looked for long. At the end of an order
     /// that time is over.
     fn watch(&mut self, is_end: bool) {
-        let is_any_held = self.due.iter().any(|parcel| parcel.job != 0 && !parcel.is_torn);
-        if !self.cable.holds_back() || self.is_stopped() || !is_any_held {
+        let longest = self.timeout.min(SILENT);
+        if !self.is_held() || !self.is_quiet(longest / 2) {
             return;
         }
-        let (since, longest) = (self.heard_at.max(Some(self.began_at)), self.timeout.min(SILENT));
-        let had_time = is_end || self.asked_at.is_some_and(|asked_at| asked_at.elapsed() >= longest / 2);
-        if had_time && is_over(since, longest) {
+        let had_time = self.asked_at.is_some_and(|asked_at| asked_at.elapsed() >= longest / 2);
+        if is_end || had_time && self.is_quiet(longest) {
             self.lose_held();
-        } else if !is_end && self.asked_at.is_none() && is_over(since, longest / 2) {
+        } else if self.asked_at.is_none() {
             self.ask();
         }
+    }
+
+    /// Whether the printer may have been off since anybody looked, so that what it has acknowledged since is no whole
+    /// line.
+    fn may_have_been_off(&self) -> bool {
+        let was_long = self.is_quiet(SILENT) && is_over(self.looked_at, self.timeout.min(SILENT) / 2);
+        self.is_online() && self.is_held() && was_long
     }
 
     /// Whether the printer was switched off and on again since it said that it stops: it would have said by itself that
@@ -896,6 +922,9 @@ impl Link {
     /// timeout. If an order failed and the next one is the same, only what wasn't printed is sent again, unless it
     /// isn't `is_once`.
     pub(crate) fn carry_out(&mut self, till: &mut DriverTill<'_>, settings: &WireSettings, is_once: bool) -> bool {
+        if self.may_have_been_off() {
+            self.lose_held();
+        }
         (self.began_at, self.ends_at) = (Instant::now(), end_after(self.timeout));
         let size = if self.is_asked { QUESTION_SIZE } else { JOB_SIZE };
         let asked = if self.is_asked { OrderEnd::Paper } else { OrderEnd::Job(0) };
