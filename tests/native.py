@@ -433,8 +433,8 @@ def try_silent_behind_cover():
 
 
 def try_silence_that_nobody_heard():
-    """A printer whose line holds bytes back has said nothing while the application was busy. It has time to answer
-    before what is due counts as lost: no line is printed twice."""
+    """A printer whose line holds bytes back has said nothing for 2 seconds, and was asked late, since nobody has looked
+    often. It has time to answer before what is due counts as lost: no line is printed twice."""
     with contextlib.ExitStack() as stack:
         shop = Shop(stack, "holds", timeout=AMPLE)
         device = shop.device
@@ -444,8 +444,9 @@ def try_silence_that_nobody_heard():
             device.cover(False)
             device.hang()
         told("it is closed", True, shop.settle())
-        time.sleep(2.5)
-        shop.host.ask("run 0")
+        for pause in (0.9, 0.9, 0.3):
+            time.sleep(pause)
+            shop.host.ask("run 0")
         device.hang(False)
         device.wait(lambda: device.is_idle and not device._sends)
         told("the receipt again", "ok", print_receipt(shop))

@@ -130,8 +130,8 @@ class EscPosPrinter(Driver):
 
     A serial line with flow control keeps what was sent while the printer is off. If the printer says nothing for 2
     seconds, or for the timeout if that is shorter, the order has failed, and what isn't acknowledged of it is printed
-    again: parts of lines may be on the paper beside the whole ones. So is what it acknowledges after a call was
-    interrupted and the till hasn't looked for 2 seconds, as `run_devices` does: it may have been off meanwhile.
+    again: parts of lines may be on the paper beside the whole ones. So is what it acknowledges while the till doesn't
+    look for 2 seconds, as `run_devices` does: it may have been off meanwhile.
 
     Args:
         port: The port, or its name as `port_of` takes it: /dev/usb/lp0, /dev/ttyUSB0, tcp:192.168.1.9:9100.
