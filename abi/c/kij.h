@@ -679,11 +679,11 @@ kij_result kij_serial_display_open(kij_till *till, const char *device, const cha
  * as a keyboard of the layout US, whose keys no other program gets meanwhile. An AIM identifier in front of a code,
  * such as ]E0, says which type it has; ScanDataLabel is the code without it.
  *
- * The till reads a keyboard in kij_run_devices, and while a call waits for a printer or a display. Otherwise the system
- * keeps about 16 characters. If it drops some, the scan has failed (kij_input_scan_fault). So has one of more than 4,096
- * bytes, and one with a key that is neither a character of the layout nor of its keypad, nor Num Lock. The control key
- * and ] are the separator GS. Over a serial line a code with a 0 byte has failed too: the system gives one in place of
- * a byte whose parity is wrong.
+ * The till reads a keyboard in kij_run_devices, and while a call waits for a printer or a display. Otherwise the
+ * system keeps about 16 characters. If it drops some, the scan has failed (kij_input_scan_fault). So has one of more
+ * than 4,096 bytes, and one with a key that is neither a character of the layout nor of its keypad, nor Num Lock. The
+ * control key and ] are the separator GS. Over a serial line a code with a 0 byte has failed too: the system gives one
+ * in place of a byte whose parity is wrong.
  *
  * @param device   the name of a scanner of the profile
  * @param port     /dev/input/.. for a keyboard wedge; else as kij_escpos_printer_open takes it

@@ -210,8 +210,8 @@ pub trait Driver: Send {
         0
     }
 
-    /// An application has given up the output that failed: by clearOutput, or by the reply ER_CLEAR. The next order is a
-    /// new one, though it is the same. The control may be of another printer.
+    /// An application has given up the output that failed: by clearOutput, or by the reply ER_CLEAR. The next order is
+    /// a new one, though it is the same. The control may be of another printer.
     fn given_up(&mut self) {}
 
     /// Returns why the port couldn't be opened or was lost the last time, as the system's number (errno).
@@ -354,8 +354,8 @@ fn check(till: &mut DriverTill<'_>, device: &str, settings: &WireSettings, port:
 ///
 /// A serial line with flow control holds back what a printer doesn't take, also while the printer is off. So if such a
 /// printer says nothing for 2 seconds, or for the timeout if that is shorter, the lines that it hasn't acknowledged are
-/// sent again once it answers. It may print some of them twice. So are those that it acknowledges while the till doesn't
-/// look for 2 seconds ([`Till::run_devices`](crate::Till::run_devices)), since it may have been off.
+/// sent again once it answers. It may print some of them twice. So are those that it acknowledges while the till
+/// doesn't look for 2 seconds ([`Till::run_devices`](crate::Till::run_devices)), since it may have been off.
 ///
 /// ```no_run
 /// use kijolvar::{EscPosPrinter, EscPosSettings, Till, Totals, BUILT_PROFILE};

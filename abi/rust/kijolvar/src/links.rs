@@ -663,8 +663,8 @@ impl Link {
         is_over(self.heard_at.max(Some(self.began_at)), time)
     }
 
-    /// Whether a line may hold back a part of what is due. A printer that has stopped may take nothing, and says that it
-    /// goes on.
+    /// Whether a line may hold back a part of what is due. A printer that has stopped may take nothing, and says that
+    /// it goes on.
     fn is_held(&self) -> bool {
         let is_any = self.due.iter().any(|parcel| parcel.job != 0 && !parcel.is_torn);
         is_any && self.cable.holds_back() && !self.is_stopped()
