@@ -1,6 +1,9 @@
-"""What the tests over emulated devices have in common: their checks are counted, and a test is repeated if the machine
-stood still during it."""
+"""What the tests over emulated devices have in common: their checks are counted, each has a folder of its own, and a test
+is repeated if the machine stood still during it."""
+import pathlib
+import shutil
 import sys
+import tempfile
 import threading
 import time
 import traceback
@@ -17,10 +20,14 @@ class Checks:
     An order fails if its printer doesn't answer in time. The emulated one doesn't if the machine stands still, and no
     test can tell that from a fault. So a test that fails is run again if a thread that should go on all the time
     didn't. What it found is printed each time, and the last time counts.
+
+    Attributes:
+        work: A folder for the files of the test that runs.
     """
 
     def __init__(self):
         self.passed = self.failed = 0
+        self._room = self.work = pathlib.Path(tempfile.mkdtemp())
         self._longest = 0.0
         threading.Thread(target=self._watch, daemon=True).start()
 
@@ -38,11 +45,11 @@ class Checks:
             self.failed += 1
             print(f"failed: {name}\n  wanted: {wanted!r}\n  found:  {found!r}", flush=True)
 
-    def run(self, test, prepare):
-        """Runs a test, again if it fails while the machine stands still. It is prepared each time."""
+    def run(self, test):
+        """Runs a test, again if it fails while the machine stands still."""
         for turn in range(1, TURNS + 1):
             before, self._longest = (self.passed, self.failed), 0.0
-            prepare()
+            self.work = pathlib.Path(tempfile.mkdtemp(dir=self._room))
             try:
                 test()
             except Exception as fault:
@@ -54,6 +61,9 @@ class Checks:
             print(f"{test.__name__}: the machine stood still for {self._longest:.1f} s, so it runs again", flush=True)
 
     def end(self):
-        """Tells how many there were, and ends the program."""
+        """Tells how many there were, and ends the program. Without any it fails."""
+        shutil.rmtree(self._room)
+        if not self.passed and not self.failed:
+            self.told("a test has the word of --only", True, False)
         print(f"{self.passed} passed, {self.failed} failed")
         sys.exit(self.failed != 0)

@@ -17,7 +17,6 @@ import os
 import pathlib
 import random
 import re
-import shutil
 import select
 import signal
 import socket
@@ -25,7 +24,6 @@ import statistics
 import struct
 import subprocess
 import sys
-import tempfile
 import termios
 import threading
 import time
@@ -44,7 +42,6 @@ from kijolvar import (Driver, EscPosDrawer, EscPosPrinter, OutputCompleteEvent, 
 from kijolvar._links import PrinterLink, pieces_of
 
 SCRIPTS = TOP / "tests/scripts"
-ROOM = WORK = pathlib.Path(tempfile.mkdtemp())
 PROFILE = """
 [[device]]
 name = "r1"
@@ -102,7 +99,7 @@ def cable(kind="usb"):
     hangs_up = kind != "serial" and "stays" not in kind
     if "tcp" in kind:
         return TcpCable(hangs_up=hangs_up)
-    return PtyCable(WORK / f"port-{made}", hangs_up=hangs_up, holds="holds" in kind, keeps=256 * ("adapter" in kind))
+    return PtyCable(CHECKS.work / f"port-{made}", hangs_up=hangs_up, holds="holds" in kind, keeps=256 * ("adapter" in kind))
 
 
 def port_of(device, kind="usb"):
@@ -117,12 +114,6 @@ def signs_of(device):
     return {"pin": "high" if first & 4 else "low", "offline": "yes" if first & 8 else "no",
             "cover": "open" if first & 32 else "closed",
             "paper": "empty" if third & 12 else "near" if third & 3 else "good", "fault": "yes" if second else "no"}
-
-
-def renew_work():
-    """Gives a test a folder of its own."""
-    global WORK
-    WORK = pathlib.Path(tempfile.mkdtemp(dir=ROOM))
 
 
 def until(condition, seconds=PATIENCE):
@@ -716,7 +707,7 @@ def try_lost_xon():
 
 def try_lines_that_hold():
     """Which ports hold back what is sent, and that they drop it."""
-    link = WORK / "a-line"
+    link = CHECKS.work / "a-line"
     with Printer(cable("holds")) as device:
         os.symlink(device.path, link)
         ports = [SerialPort(device.path), SerialPort(device.path, flow="xon-xoff"), SerialPort(device.path, flow="none"),
@@ -1017,7 +1008,7 @@ def try_order_of_lines():
 
 def try_errands():
     """Lines that wait between lines that change the totals in a file: all is in the file once it is answered."""
-    path = WORK / "errands"
+    path = CHECKS.work / "errands"
     with contextlib.ExitStack() as stack:
         till = stack.enter_context(opened(PROFILE, path, create=True))
         device = stack.enter_context(Printer(cable()))
@@ -2059,7 +2050,7 @@ def try_typed_meanwhile():
         told("nothing is told yet", 0, shop.scanner.data_count)
         told("all codes come", codes[:20], shop.told(20))
         shop.device.after_characters(2, lambda: [*map(shop.keyboard.types, codes), found.append(
-            until(lambda: shop.reader.typing_file() is None))])
+            until(lambda: not shop.reader._has_room()))])
         told("more than the till keeps", (None, True), (raised(shop.control.print, TEXT), found[-1]))
         told("all of those come", codes, shop.told(30))
         shop.device.after_characters(2, lambda: [shop.keyboard.types(b"7"), shop.keyboard.pull_plug()])
@@ -2305,7 +2296,7 @@ class Meddler(Driver):
 
 def try_meddlers():
     """Drivers of one's own that do what they may not."""
-    path = WORK / "meddled"
+    path = CHECKS.work / "meddled"
     till = opened(totals=path, create=True)
     driver = Meddler(till)
     till.drive("d1", driver)
@@ -2395,7 +2386,7 @@ def try_detached():
 
 def try_ports_again():
     """A link that leads nowhere yet, and a name that was looked up once."""
-    link = WORK / "receipt"
+    link = CHECKS.work / "receipt"
     port = kijolvar.port_of(link)
     told("a link that leads nowhere", "PortError", name_of(port.open))
     with Printer(cable()) as device:
@@ -2801,7 +2792,7 @@ def try_killed():
     """A host that is killed at any moment: the totals are as they were acknowledged."""
     chance = random.Random(WORDS.seed)
     for number in range(10):
-        path = WORK / f"totals-{number}"
+        path = CHECKS.work / f"totals-{number}"
         with opened(PROFILE, path, create=True) as till:
             till.totals("t1").create("COUNT", 4)
         with Printer(cable(), lines=100_000) as device:
@@ -2866,7 +2857,7 @@ def try_guide():
         printed = said(loop)
         told("the guide's loop delivers a scan", (True, True), ("DataEvent" in printed, "b'123'" in printed))
         told("the guide's own driver", texts[0], said(programs[3]))
-    path = WORK / "guide"
+    path = CHECKS.work / "guide"
     command = commands[0].replace("/tmp/printer", str(path))
     told("the guide's port", True, f"--path {path}" in command)
     pipes = {"stdin": subprocess.PIPE, "stdout": subprocess.PIPE, "text": True, "cwd": TOP}
@@ -2893,7 +2884,7 @@ def try_guide():
 
 def try_cost():
     """What an order costs beside a bare round trip of the same bytes, by the medians of both in turns."""
-    words = [sys.executable, str(TOP / "tests/emulator"), "printer", "--path", str(WORK / "cost"), "--lines", "100000"]
+    words = [sys.executable, str(TOP / "tests/emulator"), "printer", "--path", str(CHECKS.work / "cost"), "--lines", "100000"]
     pipes = {"stdin": subprocess.PIPE, "stdout": subprocess.PIPE, "text": True}
     with subprocess.Popen(words, **pipes) as emulator, opened() as till:
         port = emulator.stdout.readline().strip()
@@ -2946,17 +2937,14 @@ def try_hardware(port, columns):
 
 def main():
     tries = [value for name, value in globals().items() if name.startswith("try_") and name != "try_hardware"]
-    try:
-        if WORDS.port is not None:
-            try_hardware(WORDS.port, WORDS.columns)
-            tries = []
-        for one in tries:
-            if WORDS.only in one.__name__:
-                began = time.monotonic()
-                CHECKS.run(one, renew_work)
-                print(f"{one.__name__}: {time.monotonic() - began:.1f} s", flush=True)
-    finally:
-        shutil.rmtree(ROOM)
+    if WORDS.port is not None:
+        try_hardware(WORDS.port, WORDS.columns)
+        tries = []
+    for one in tries:
+        if WORDS.only in one.__name__:
+            began = time.monotonic()
+            CHECKS.run(one)
+            print(f"{one.__name__}: {time.monotonic() - began:.1f} s", flush=True)
     CHECKS.end()
 
 

@@ -16,7 +16,6 @@ import random
 import struct
 import subprocess
 import sys
-import tempfile
 import termios
 import threading
 import time
@@ -27,7 +26,6 @@ sys.path.insert(0, str(TOP / "tests"))
 from checks import Checks
 from emulator import Cut, Display, Line, Printer, PtyCable, Scanner, TcpCable
 
-ROOM = WORK = pathlib.Path(tempfile.mkdtemp())
 PROFILE = """
 [[device]]
 name = "r1"
@@ -70,13 +68,7 @@ def cable(kind="usb"):
     hangs_up = "serial" not in kind and "stays" not in kind
     if "tcp" in kind:
         return TcpCable(hangs_up=hangs_up)
-    return PtyCable(WORK / f"port-{made}", hangs_up=hangs_up, holds="holds" in kind, keeps=256 * ("adapter" in kind))
-
-
-def renew_work():
-    """Gives a test a folder of its own."""
-    global WORK
-    WORK = pathlib.Path(tempfile.mkdtemp(dir=ROOM))
+    return PtyCable(CHECKS.work / f"port-{made}", hangs_up=hangs_up, holds="holds" in kind, keeps=256 * ("adapter" in kind))
 
 
 def until(condition, seconds=PATIENCE):
@@ -93,7 +85,7 @@ class Host:
     """A program with a till. It has the terminal of a file, if one is given."""
 
     def __init__(self, stack, profile=PROFILE, *totals, terminal=None):
-        path = WORK / "profile"
+        path = CHECKS.work / "profile"
         path.write_text(profile)
         pipes = {"stdin": subprocess.PIPE, "stdout": subprocess.PIPE, "text": True, "bufsize": 1}
         if terminal is not None:
@@ -1215,7 +1207,7 @@ def try_scanner_events():
         comes(code, 0, "a code after it", whole)
         comes(b"aBC", 3, "shift is down where events were dropped", [failed[0], whole[1]])
         comes(b"abc", 0, "small letters after it", [whole[0], "ok 616263"])
-        if host.ask(f"totals {WORK / 'none'}") == "not understood":
+        if host.ask(f"totals {CHECKS.work / 'none'}") == "not understood":
             return
         comes(b"123", 7, "all but the end of Enter was dropped", [failed[0], "ok 616263"])
         comes(code, 0, "a code after that", whole)
@@ -1325,7 +1317,7 @@ def try_late_line():
     """A link to a serial line that is made after its driver was opened is set up as a serial line. /dev/tty is the line
     here, which is the terminal of the host's session."""
     master, slave = os.openpty()
-    path = WORK / "late"
+    path = CHECKS.work / "late"
     with contextlib.ExitStack() as stack:
         for file in (master, slave):
             stack.callback(os.close, file)
@@ -1351,7 +1343,7 @@ def try_flaky():
     port = cable().path
     with contextlib.ExitStack() as stack:
         host = Host(stack, PROFILE.replace("near = 20", "near = 20\nflaky = [1, 1]"))
-        if host.ask(f"totals {WORK / 'none'}") == "not understood":
+        if host.ask(f"totals {CHECKS.work / 'none'}") == "not understood":
             # This layer drives a printer and a drawer by a call each.
             return
         told("a flaky printer", "KIJ_NO_DEVICE", host.ask(f"printer r1 {port} timeout 100 drawer d1"))
@@ -1366,15 +1358,15 @@ def try_flaky():
 
 def try_totals_files():
     """What the system says of a file of totals that can't be read, where the layer passes it on."""
-    short, pipe = WORK / "short", WORK / "pipe"
+    short, pipe = CHECKS.work / "short", CHECKS.work / "pipe"
     short.write_bytes(bytes(100))
     os.mkfifo(pipe)
     with contextlib.ExitStack() as stack:
         host = Host(stack)
-        if host.ask(f"totals {WORK / 'none'}") == "not understood":
+        if host.ask(f"totals {CHECKS.work / 'none'}") == "not understood":
             return
         for verb in ("totals", "migrate"):
-            told(f"{verb}: no file", f"KIJ_SYSTEM {errno.ENOENT}", host.ask(f"{verb} {WORK / 'none'}"))
+            told(f"{verb}: no file", f"KIJ_SYSTEM {errno.ENOENT}", host.ask(f"{verb} {CHECKS.work / 'none'}"))
             told(f"{verb}: a short file", "KIJ_TOO_SMALL", host.ask(f"{verb} {short}"))
             told(f"{verb}: one that can't be read", f"KIJ_SYSTEM {errno.ESPIPE}", host.ask(f"{verb} {pipe}"))
 
@@ -1448,7 +1440,7 @@ def try_counted():
 
 def try_link():
     """A link to a serial line, which is made after the driver is opened. The line is the host's own terminal."""
-    link = WORK / "receipt"
+    link = CHECKS.work / "receipt"
     with contextlib.ExitStack() as stack:
         device = stack.enter_context(Display(cable()))
 
@@ -1456,7 +1448,7 @@ def try_link():
             """A host whose terminal the display is."""
 
             def __init__(self, stack):
-                path = WORK / "profile"
+                path = CHECKS.work / "profile"
                 path.write_text(PROFILE)
                 pipes = {"stdin": subprocess.PIPE, "stdout": subprocess.PIPE, "text": True, "bufsize": 1}
                 # The first terminal that a session opens is its own.
@@ -1733,7 +1725,7 @@ def try_refusals():
         told("a port that isn't there", "ok", host.ask(f"printer r1 {port} timeout 100 drawer d1"))
         told("a second driver", "KIJ_DRIVEN", host.ask(f"printer r1 {port}"))
         told("a second driver of the drawer", "KIJ_DRIVEN", host.ask(f"printer r1 {port} drawer d1"))
-        told("a file is no port", "ok", host.ask(f"display p1 {WORK / 'profile'}"))
+        told("a file is no port", "ok", host.ask(f"display p1 {CHECKS.work / 'profile'}"))
         told("it is off", "offline 0", host.ask("state p1"))
         told("nothing to do", "false", until(lambda: host.ask("run 0") == "false") and host.ask("run 20"))
 
@@ -1886,7 +1878,7 @@ def try_own_calls():
 
 def try_errands():
     """Lines that wait between lines that change the totals in a file."""
-    path = WORK / "errands"
+    path = CHECKS.work / "errands"
     with contextlib.ExitStack() as stack:
         device = stack.enter_context(Printer(cable()))
         host = Host(stack, PROFILE, path)
@@ -2430,7 +2422,7 @@ def try_random_held():
 def main():
     for name, one in list(globals().items()):
         if name.startswith("try_") and WORDS.only in name:
-            CHECKS.run(one, renew_work)
+            CHECKS.run(one)
     CHECKS.end()
 
 

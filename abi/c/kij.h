@@ -642,7 +642,8 @@ typedef struct kij_scanner_settings {
  * A serial line with flow control holds back what a printer without power doesn't take. After it has said nothing for 2
  * seconds, or for the timeout if that is shorter, an order over such a line fails. What it hasn't acknowledged by then
  * is sent again by a retry, once the printer answers, so that each line is whole on the paper; some may be there twice.
- * So is what it acknowledges while the till doesn't look for 2 seconds (kij_run_devices): it may have been off.
+ * So is what it acknowledges of an order that failed for no reason (KIJ_E_FAILURE) while the till doesn't look for 2
+ * seconds (kij_run_devices): it may have been off.
  * With `is_asked` the next order waits first for an answer to what was sent before. If none comes for the timeout, it
  * fails, and the one after it is sent.
  *

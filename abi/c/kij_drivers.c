@@ -731,8 +731,10 @@ void kij_internal_wait_typing(kij_till *till, const kij_port *port, bool is_writ
             struct pollfd typing = {file, POLLIN, 0};
             if (file >= 0) waiting[count++] = typing;
         }
-        (void)poll(waiting, count, (int)left);
+        int ready = poll(waiting, count, (int)left);
         left = end - kij_internal_now();
+        /* A file that a driver doesn't read would be ready again at once. */
+        if (ready > 0 && waiting[0].revents == 0 && left > 0) kij_internal_sleep(1);
     } while (waiting[0].revents == 0 && left > 0);
     kij_internal_port_is_ready(&waiting[0], can_read, can_write);
 }

@@ -20,8 +20,8 @@ def count_unread(file):
 class PtyCable:
     """A pseudo terminal. `path` is a symbolic link to it, which is there only while the device is on, as that of a USB
     printer. With `hangs_up` false it is a serial line: it stays when the device goes off, and nothing answers. With
-    `holds` it is one with RTS/CTS: what is sent waits while the device is off or offline. So many bytes of that are in
-    an adapter, which the host can't drop any more."""
+    `holds` it is one with RTS/CTS: what is sent waits while the device is off or offline. An adapter in it has up to
+    `keeps` bytes of that, which the host can't drop any more."""
 
     def __init__(self, path, hangs_up=True, holds=False, keeps=0):
         self.path, self.hangs_up, self.holds = os.fspath(path), hangs_up and not holds, holds

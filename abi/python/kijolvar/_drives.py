@@ -188,8 +188,7 @@ class Drives:
         drivers = [drive.driver for drive in list(self._drives.values()) if drive.category == "Scanner"]
         before = BESIDE.keyboards
         try:
-            BESIDE.keyboards = [driver for driver in drivers if driver.typing_file() is not None
-                                and not is_called(driver, "poll", "keep_typed")]
+            BESIDE.keyboards = [driver for driver in drivers if not is_called(driver, "poll", "read_ahead")]
             yield
         finally:
             BESIDE.keyboards = before

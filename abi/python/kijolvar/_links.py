@@ -140,8 +140,8 @@ class PrinterLink:
 
     A line that holds back what is sent keeps a part of it while the printer is off, and gives it to the printer later: a
     tail that was kept would be acknowledged as the whole. So nothing of what is due counts any more once a printer on such
-    a line has said nothing for a time, or nobody has looked for so long since an order was interrupted. One that has
-    stopped may take nothing, and needn't say anything.
+    a line has said nothing for a time, or nobody has looked for so long. One that has stopped may take nothing, and
+    needn't say anything.
 
     An interrupt, which a signal's handler may raise between any two steps, costs at most what a lost acknowledgement
     costs. So each step stands for itself: what is to be acknowledged is noted before it may go out, and a reply is

@@ -100,14 +100,14 @@ class Driver:
         """The file descriptors at which something may come."""
         return []
 
-    def typing_file(self) -> int | None:
-        """The file descriptor of a scanner that is a keyboard, if there is room for what it types. While an order waits
-        at a `Port` of another device, it is read too: the system keeps little of it."""
-        return None
+    def read_ahead(self) -> int | None:
+        """Reads what a scanner has sent (`Port.glance`), and keeps it for `poll`, while an order waits at a `Port` of
+        another device: the system keeps little of what a keyboard types. Returns the file descriptor if more may be read
+        once it comes.
 
-    def keep_typed(self) -> None:
-        """Reads what has come at `typing_file` (`Port.glance`), and keeps it for `poll`. An order of another device is
-        under way, which fails if this raises anything but PortError."""
+        It mustn't wait. The order fails if it raises anything but PortError.
+        """
+        return None
 
     def attached(self) -> None:
         """The device has another peripheral now (`attach`), which shows nothing yet of what this driver has said before.
@@ -130,8 +130,8 @@ class EscPosPrinter(Driver):
 
     A serial line with flow control keeps what was sent while the printer is off. If the printer says nothing for 2
     seconds, or for the timeout if that is shorter, the order has failed, and what isn't acknowledged of it is printed
-    again: parts of lines may be on the paper beside the whole ones. So is what it acknowledges while the till doesn't
-    look for 2 seconds, as `run_devices` does: it may have been off meanwhile.
+    again: parts of lines may be on the paper beside the whole ones. So is what it acknowledges of an order that failed for
+    no reason (FailureError) while the till doesn't look for 2 seconds, as `run_devices` does: it may have been off.
 
     Args:
         port: The port, or its name as `port_of` takes it: /dev/usb/lp0, /dev/ttyUSB0, tcp:192.168.1.9:9100.
@@ -655,13 +655,15 @@ class WedgeScanner(Driver):
             else:
                 self._found.append(code)
 
-    def typing_file(self) -> int | None:
-        has_room = self._has_keys and len(self._typed) + _EVENT.size <= _MOST_TYPED
-        files = self.port.files() if has_room else []
-        return files[0] if files else None
+    def _has_room(self) -> bool:
+        """Whether one more key event is kept."""
+        return len(self._typed) + _EVENT.size <= _MOST_TYPED
 
-    def keep_typed(self) -> None:
-        self._typed += self.port.glance(_MOST_TYPED - len(self._typed))
+    def read_ahead(self) -> int | None:
+        if self._has_keys and self.port.files() and self._has_room():
+            self._typed += self.port.glance(_MOST_TYPED - len(self._typed))
+        files = self.port.files() if self._has_keys and self._has_room() else []
+        return files[0] if files else None
 
     def _is_disturbed(self, code: bytes) -> bool:
         """Whether a serial line has disturbed a code: the system gives a 0 byte in place of one that came wrong."""

@@ -52,11 +52,8 @@ class PortError(OSError):
 class Keyboard(Protocol):
     """What is read while a call waits for another device, as the system keeps little of it: a driver."""
 
-    def typing_file(self) -> int | None:
-        """The file descriptor at which it types, if that is to be read."""
-
-    def keep_typed(self) -> None:
-        """Reads what has come there, and keeps it."""
+    def read_ahead(self) -> int | None:
+        """Reads what has come, and keeps it. The file descriptor if more may be read once it comes."""
 
 
 class _Beside(threading.local):
@@ -320,21 +317,21 @@ def _wait_beside(seconds: float, file: int | None = None, events: int = 0) -> in
     """Waits for a file, if there is one, and has keyboards read meanwhile. Returns what the file is ready for."""
     end = time.monotonic() + seconds
     while True:
-        waits, typing = select.poll(), dict[int, Keyboard]()
+        waits = select.poll()
         for keyboard in BESIDE.keyboards:
-            if (at := keyboard.typing_file()) is not None:
-                typing[at] = keyboard
-                waits.register(at, select.POLLIN)
+            # One that is lost is seen once it is asked what it has read.
+            with contextlib.suppress(PortError):
+                if (typing := keyboard.read_ahead()) is not None:
+                    waits.register(typing, select.POLLIN)
         if file is not None:
             waits.register(file, events)
         found = dict(waits.poll(max(end - time.monotonic(), 0) * 1000))
-        for at in typing.keys() & found.keys():
-            # One that is lost is seen once it is asked what it has read.
-            with contextlib.suppress(PortError):
-                typing[at].keep_typed()
         flags = 0 if file is None else found.get(file, 0)
-        if flags or time.monotonic() >= end:
+        left = end - time.monotonic()
+        if flags or left <= 0:
             return flags
+        # A file that a driver doesn't read would be ready again at once.
+        time.sleep(min(left, 0.001))
 
 
 def _is_of_handler(fault: Exception) -> bool:

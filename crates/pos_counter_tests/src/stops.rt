@@ -97,8 +97,8 @@ const TOLD: &[u8] = b"ok\nok\nok\nok\nok\nok\nok\nerr 111\n\
     err 102\nerr 102\nerr 102\nerr 102\nerr 102\nerr 102\nerr 102\nerr 102\nerr 102\n\
     err 111\nerr 111\nerr 111\nerr 111\nerr 111\nerr 111\nerr 111\n";
 
-/// What lines print over a disk that fails so often behind so many calls, and how many calls they make.
-fn print(alloc: Global, (pass, fail): (u64, u64), lines: &str) -> Result<(Vec<u8>, u64), Fail> {
+/// Runs lines over a disk that fails so often behind so many calls: what they print, and how many calls they make.
+fn run_over(alloc: Global, (pass, fail): (u64, u64), lines: &str) -> Result<(Vec<u8>, u64), Fail> {
     let profile = Profile::built(alloc)?;
     let fuse = FuseDisk::new(with_room(alloc)?, pass, fail);
     let (text, fuse) = told(alloc, &profile, fuse, lines.as_bytes())?;
@@ -108,10 +108,10 @@ fn print(alloc: Global, (pass, fail): (u64, u64), lines: &str) -> Result<(Vec<u8
 #[test]
 fn a_claimed_area_comes_before_a_fault(rt: HostRuntime) -> Result<(), Fail> {
     let alloc = rt.alloc();
-    let (_, calls) = print(alloc, (0, 0), HELD)?;
+    let (_, calls) = run_over(alloc, (0, 0), HELD)?;
     let mut lines = String::from_str(alloc, HELD)?;
     lines.push_str(BEHIND)?;
-    let (text, _) = print(alloc, (calls, u64::MAX), lines.as_str())?;
+    let (text, _) = run_over(alloc, (calls, u64::MAX), lines.as_str())?;
     assert!(rt; text.as_slice() == TOLD);
     Ok(())
 }

@@ -68,7 +68,7 @@ fn a_report_is_of_one_order(rt: HostRuntime) -> Result<(), Fail> {
 }
 
 /// A request for a text.
-fn print(alloc: Global, bytes: &[u8]) -> Result<Order, NoMemory> {
+pub fn print(alloc: Global, bytes: &[u8]) -> Result<Order, NoMemory> {
     Ok(Order::Print {
         bytes: Bytes::from_slice(alloc, bytes)?,
     })
@@ -95,7 +95,7 @@ fn a_printer_foresees_what_it_replies(rt: HostRuntime) -> Result<(), Fail> {
     Ok(())
 }
 
-/// Whether two lines and a cut are added, of which the first line ends one that had begun, and a begun one.
+/// Whether the end of a begun line, a whole line, a cut and the beginning of a line are added.
 fn has_two_lines(added: &Roll) -> bool {
     let (marks, characters) = added.printed();
     let lines = [

@@ -1,8 +1,8 @@
 //! What devices get for orders, and what is read of their replies: that the definitions are those of the devices.
-use crate::driven::text;
+use crate::driven::{print, text};
 use pos_escpos::{NowStatus, OrderStatus, PrinterReply};
 use pos_service::{
-    Bytes, Input, Kind, NoMemory, Order, PaperLevel, Peripheral, Reply, Signs, Snapshot, Taken,
+    Input, Kind, NoMemory, Order, PaperLevel, Peripheral, Reply, Signs, Snapshot, Taken,
 };
 use pos_sims::{PlainDisplay, PlainDrawer, PrintPreview, Roll, RollPrinter};
 use pos_wire::{
@@ -67,13 +67,6 @@ const SETTINGS: WireSettings = WireSettings {
     open_is_high: 1,
     protocol: 1,
 };
-
-/// Returns a request for a text.
-fn print(alloc: Global, bytes: &[u8]) -> Result<Order, NoMemory> {
-    Ok(Order::Print {
-        bytes: Bytes::from_slice(alloc, bytes)?,
-    })
-}
 
 #[test]
 fn a_printer_gets_what_its_order_adds(rt: HostRuntime) -> Result<(), Fail> {

@@ -354,8 +354,9 @@ fn check(till: &mut DriverTill<'_>, device: &str, settings: &WireSettings, port:
 ///
 /// A serial line with flow control holds back what a printer doesn't take, also while the printer is off. So if such a
 /// printer says nothing for 2 seconds, or for the timeout if that is shorter, the lines that it hasn't acknowledged are
-/// sent again once it answers. It may print some of them twice. So are those that it acknowledges while the till
-/// doesn't look for 2 seconds ([`Till::run_devices`](crate::Till::run_devices)), since it may have been off.
+/// sent again once it answers. It may print some of them twice. So are lines of an order that failed for no reason
+/// (E_FAILURE), if it acknowledges them while the till doesn't look for 2 seconds
+/// ([`Till::run_devices`](crate::Till::run_devices)), since it may have been off.
 ///
 /// ```no_run
 /// use kijolvar::{EscPosPrinter, EscPosSettings, Till, Totals, BUILT_PROFILE};
