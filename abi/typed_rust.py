@@ -385,9 +385,12 @@ def method(about):
     kind, reader = RETURNED[about["returns"]["type"]]
     word = f".word(\"{about['word']}\")" if about["line"] == "call" else ""
     line = f"self.line(\"{about['line']}\"){word}" + "".join(argument_word(argument) for argument in about["arguments"])
+    asked = f"self.ask(\"{about['name']}\", &line)?.{reader}()"
+    if about["name"] == "open":
+        asked = "self.open_on(device, &line)"
     return f"""{doc(lines, 4)}    pub fn {about['snake']}(&self{given}) -> Result<{kind}, Error> {{
         let line = {line};
-        self.ask("{about['name']}", &line)?.{reader}()
+        {asked}
     }}
 """
 

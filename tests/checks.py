@@ -1,5 +1,5 @@
-"""What the tests over emulated devices have in common: their checks are counted, each has a folder of its own, and a test
-is repeated if the machine stood still during it."""
+"""What the tests over emulated devices have in common: their checks are counted, each has a folder of its own, and a
+test is repeated if the machine stood still during it."""
 import pathlib
 import shutil
 import sys

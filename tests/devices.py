@@ -35,7 +35,7 @@ sys.path[:0] = [str(TOP / "abi/python"), str(TOP / "tests")]
 
 import kijolvar
 from checks import Checks
-from emulator import Cut, Display, Line, Printer, PtyCable, Scanner, TcpCable
+from emulator import Cut, Display, Line, Printer, PtyCable, Scanner, SilentHost, TcpCable
 from emulator.scanner import KEYS
 from kijolvar import (Driver, EscPosDrawer, EscPosPrinter, OutputCompleteEvent, PrintedCut, SerialDisplay, SerialPort,
                       StatusUpdateEvent, WedgeScanner, WireSettings)
@@ -136,8 +136,8 @@ def item_of(item, feed=3):
 
 
 def same_paper(name, printer, items):
-    """Whether the paper has these items of `show`, each once. Only those that were printed and whose acknowledgement the
-    host didn't get are there once more, right behind."""
+    """Whether the paper has these items of `show`, each once. Only those that were printed and whose acknowledgement
+    the host didn't get are there once more, right behind."""
     printer.wait(lambda: printer.is_idle)
     receipt = printer.receipt()
     sure = [(place, item) for place, item in enumerate(receipt) if place not in printer.doubts]
@@ -384,7 +384,8 @@ def try_troubles():
 
 
 def try_offline():
-    """A printer that is offline when its port is opened or it is switched on, and keeps what it is sent: it is known why.
+    """A printer that is offline when its port is opened or it is switched on, and keeps what it is sent: it is known
+    why.
     """
     for kind in ("usb", "tcp", "serial"):
         for trouble, wanted in (("the cover is opened", (114, 201)), ("the paper runs out", (114, 203))):
@@ -419,8 +420,8 @@ def try_offline():
 
 
 def try_ports_that_stay():
-    """A port that stays open while the printer is off, and loses what is sent: a cable with a chip of its own, or a print
-    server. What was lost is never told as printed, and a retry prints it."""
+    """A port that stays open while the printer is off, and loses what is sent: a cable with a chip of its own, or a
+    print server. What was lost is never told as printed, and a retry prints it."""
     for kind in ("usb stays", "tcp stays", "asked stays"):
         for place in (0, 30, 50):
             name = f"off after {place} bytes, over {kind}"
@@ -475,8 +476,8 @@ def try_power_behind_a_line():
 
 
 def try_end_that_nobody_saw():
-    """A printer that loses its power in a line, and is back before anybody looks: the end of the line that it may have got
-    and acknowledged isn't told as the whole."""
+    """A printer that loses its power in a line, and is back before anybody looks: the end of the line that it may have
+    got and acknowledged isn't told as the whole."""
     for kind in ("holds", "asked holds", "holds adapter", "asked holds adapter"):
         for place in (6, 35):
             name = f"off after {place} bytes while nobody looks, over {kind}"
@@ -520,8 +521,8 @@ def try_end_that_nobody_saw():
 
 
 def try_order_behind_a_line():
-    """A printer that is off before an order, on a cable that keeps what is sent: only the first order waits in it. A slow
-    printer on it that answers isn't taken for one that is off."""
+    """A printer that is off before an order, on a cable that keeps what is sent: only the first order waits in it. A
+    slow printer on it that answers isn't taken for one that is off."""
     with contextlib.ExitStack() as stack:
         shop = Shop(stack, "holds")
         shop.begins()
@@ -550,8 +551,8 @@ def try_order_behind_a_line():
 
 
 def try_late_answer_behind_a_line():
-    """A printer that is asked and answers late what its line has kept: that answer, which has no number, counts for no line
-    that is sent again."""
+    """A printer that is asked and answers late what its line has kept: that answer, which has no number, counts for no
+    line that is sent again."""
     with contextlib.ExitStack() as stack:
         shop = Shop(stack, "asked holds", timeout=max(TIMEOUT, 1.0))
         shop.begins()
@@ -639,8 +640,8 @@ def try_cover_behind_a_line():
 
 
 def try_silence_that_nobody_heard():
-    """A printer that has said nothing while nobody looked, on a cable that keeps what is sent: it has time to answer before
-    what is due counts as lost. The loop looks at its line twice, for it and for its drawer."""
+    """A printer that has said nothing while nobody looked, on a cable that keeps what is sent: it has time to answer
+    before what is due counts as lost. The loop looks at its line twice, for it and for its drawer."""
     with contextlib.ExitStack() as stack:
         shop = Shop(stack, "holds")
         link = shop.driver.link
@@ -660,8 +661,8 @@ def try_silence_that_nobody_heard():
 
 
 def try_power_that_nobody_saw():
-    """An order that is interrupted in a line. The printer is switched off and on while nobody looks, on a cable that keeps
-    the rest: it prints and acknowledges that, but the line isn't printed."""
+    """An order that is interrupted in a line. The printer is switched off and on while nobody looks, on a cable that
+    keeps the rest: it prints and acknowledges that, but the line isn't printed."""
     def rings(*_):
         raise LookupError("an interrupt")
     before = signal.signal(signal.SIGUSR1, rings)
@@ -1325,7 +1326,8 @@ def try_lines_without_memory():
 
 
 def code_without_memory(heap, number, call, *words):
-    """The code of a call during which the allocation of this number and all behind it are refused; None if it is done."""
+    """The code of a call during which the allocation of this number and all behind it are refused; None if it is
+    done."""
     heap.heap_refuses(ctypes.c_long(number))
     try:
         call(*words)
@@ -1515,8 +1517,8 @@ class HearingPrinter(Printer):
 
 
 def try_cause_behind_a_line():
-    """A printer that runs out of paper while it is off, and whose line has kept questions meanwhile. An answer to one of
-    them doesn't tell why it is offline."""
+    """A printer that runs out of paper while it is off, and whose line has kept questions meanwhile. An answer to one
+    of them doesn't tell why it is offline."""
     with contextlib.ExitStack() as stack:
         shop = Shop(stack, "holds", made=HearingPrinter)
         shop.begins()
@@ -1542,8 +1544,8 @@ def try_cause_behind_a_line():
 
 
 def try_status_before_an_answer():
-    """An automatic status that says that the printer is offline comes before the answer to a question: that answer isn't
-    taken for the cause."""
+    """An automatic status that says that the printer is offline comes before the answer to a question: that answer
+    isn't taken for the cause."""
     with contextlib.ExitStack() as stack:
         shop = Shop(stack, made=HeldPrinter)
         shop.begins()
@@ -1675,8 +1677,8 @@ def try_status():
 
 
 def try_near_end():
-    """Paper that is near its end: the till takes a request of as many lines as its device's `near` while the printer sees
-    paper."""
+    """Paper that is near its end: the till takes a request of as many lines as its device's `near` while the printer
+    sees paper."""
     for kind in ("usb", "asked"):
         with contextlib.ExitStack() as stack:
             shop = Shop(stack, kind)
@@ -2136,7 +2138,8 @@ def try_scan_codes():
 
 
 class Forgetful:
-    """Carries out lines, but answers `memory` to the first one that has a word, or raises what a signal's handler would."""
+    """Carries out lines, but answers `memory` to the first one that has a word, or raises what a signal's handler
+    would."""
 
     def __init__(self, carry_out, word, fault=None):
         self.carry_out, self.word, self.fault = carry_out, word, fault
@@ -2151,8 +2154,8 @@ class Forgetful:
 
 
 def try_scans_that_wait():
-    """Codes aren't lost if their port is lost in the same round, nor if the till has no memory for one. An interrupt loses
-    one of them at most."""
+    """Codes aren't lost if their port is lost in the same round, nor if the till has no memory for one. An interrupt
+    loses one of them at most."""
     with contextlib.ExitStack() as stack:
         server = stack.enter_context(socket.create_server(("127.0.0.1", 0)))
         till = stack.enter_context(opened())
@@ -2398,7 +2401,8 @@ def try_ports_again():
         port.open()
         told("a link to another device", None, port._line)
         port.close()
-    with socket.create_server(("127.0.0.1", 0)) as server, mock.patch("socket.getaddrinfo", side_effect=socket.getaddrinfo) as asked:
+    looks_up = mock.patch("socket.getaddrinfo", side_effect=socket.getaddrinfo)
+    with socket.create_server(("127.0.0.1", 0)) as server, looks_up as asked:
         port = kijolvar.TcpPort("localhost", server.getsockname()[1])
         for _ in range(3):
             port.open()
@@ -2407,7 +2411,7 @@ def try_ports_again():
         names = [call.args[0] for call in asked.call_args_list]
         told("a name is looked up once", 1, names.count("localhost"))
         told("a connection to nobody ends", [60_000, 10], times)
-        told("one of two addresses doesn't answer", [None, None], second_answers(server.getsockname()[1]))
+        told("one of two addresses doesn't answer", ["PortError", None], second_answers(server.getsockname()))
     told("nothing answers", "PortError", name_of(port.open))
     port._looked_up_at -= 61
     known = list(port._addresses)
@@ -2495,18 +2499,16 @@ def try_forked():
         driver.close = lambda: None
 
 
-def second_answers(port):
-    """What opening a port raises whose name has two addresses, if the first one lets everybody wait."""
-    connects = socket.create_connection
-
-    def tried(address, timeout):
-        if address[0] == "192.0.2.1":
-            time.sleep(timeout)
-            raise TimeoutError
-        return connects(address, timeout)
-    found = [(socket.AF_INET, socket.SOCK_STREAM, 6, "", (host, port)) for host in ("192.0.2.1", "127.0.0.1")]
-    with mock.patch("socket.getaddrinfo", return_value=found), mock.patch("socket.create_connection", tried):
-        return [name_of(kijolvar.TcpPort("printer", port).open, seconds) for seconds in (0.3, 1.0)]
+def second_answers(address):
+    """What opening a port raises, twice, whose name has two addresses, if the first one lets everybody wait: they have
+    a second together."""
+    with SilentHost() as silent:
+        found = [(socket.AF_INET, socket.SOCK_STREAM, 6, "", one) for one in (silent.address, address)]
+        with mock.patch("socket.getaddrinfo", return_value=found):
+            port = kijolvar.TcpPort("printer")
+            faults = [name_of(port.open, seconds) for seconds in (0.1, 1.0)]
+        port.close()
+        return faults
 
 
 def errno_of(call, *words):
@@ -2601,15 +2603,42 @@ def try_refusals():
     told("no such ports", ["ValueError"] * 7, [name_of(kijolvar.port_of, f"tcp:{name}") for name in (
         "", ":1", "::1", "a:b", "a:0", "a:65536", "[a:b]")])
     told("a name that no host has", "PortError", name_of(kijolvar.port_of("tcp:.a").open))
-    with mock.patch("socket.create_connection", side_effect=TimeoutError("timed out")):
-        told("a host that doesn't answer", errno.ETIMEDOUT, errno_of(kijolvar.port_of("tcp:192.0.2.1").open))
+
+
+def try_silent_host():
+    """A host that doesn't answer. A port is opened on meanwhile, and keeps no other device waiting."""
+    with contextlib.ExitStack() as stack:
+        silent = stack.enter_context(SilentHost())
+        port = kijolvar.port_of(silent.path)
+        faults = [errno_of(port.open, 0) for _ in range(3)]
+        told("it doesn't answer", ([errno.ETIMEDOUT] * 3, True), (faults, port.is_opening))
+        told("for a second", (errno.ETIMEDOUT, False), (errno_of(port.open), port.is_opening))
+        told("it has a second again", (errno.ETIMEDOUT, True), (errno_of(port.open, 0), port.is_opening))
+        port.close()
+        told("it is given up", False, port.is_opening)
+        till = stack.enter_context(opened())
+        till.drive("p1", driver := SerialDisplay(silent.path, timeout=0.01, pause=0))
+        began = time.monotonic()
+        for _ in range(200):
+            till.run_devices()
+        # If each waited for the host, these would take 50 seconds.
+        told("it keeps no other device waiting", True, time.monotonic() - began < 10)
+        told("it isn't there", False, driver.is_online)
+        told("that it is tried is told", errno.ETIMEDOUT, errno_of(port.open, 0))
+        # The system asks again after a second.
+        port._joining._turn_ends_at += PATIENCE
+        silent.answers()
+        told("it answers", True, until(lambda: errno_of(port.open, 0) is None))
+        told("nothing is left to open", (True, False), (port.is_open, port.is_opening))
+        port.close()
+        told("the display finds it", True, until(lambda: till.run_devices() or driver.is_online))
 
 
 # ---- random faults
 
 def try_random():
-    """Random trouble: each order that was answered ok is on the paper once, in order, and nothing else is. On a line that
-    holds back what is sent, it may be there again, and parts of it if the printer had no power."""
+    """Random trouble: each order that was answered ok is on the paper once, in order, and nothing else is. On a line
+    that holds back what is sent, it may be there again, and parts of it if the printer had no power."""
     kinds = ("usb", "tcp", "asked", "usb stays", "tcp stays", "asked stays", "holds", "asked holds", "holds adapter",
              "asked holds adapter")
     for kind in kinds:
@@ -2630,9 +2659,9 @@ def random_rounds(kind, chance, rounds):
         strange = []
         for number in range(rounds):
             before = len(shop.device.receipt()), len(shop.till.device("r1").show().items)
-            trouble = random_round(shop, chance, number, SIMPLE if "asked" in kind else ())
-            counts[trouble] = counts.get(trouble, 0) + 1
-            strange += strange_on_paper(shop, *before, trouble, kind) if "holds" in kind else []
+            troubles = random_round(shop, chance, number, SIMPLE if "asked" in kind else ())
+            counts |= {trouble: counts.get(trouble, 0) + 1 for trouble in troubles}
+            strange += strange_on_paper(shop, *before, troubles, kind) if "holds" in kind else []
         shop.device.clear_triggers()
         if "holds" not in kind:
             shop.same_paper(f"{name}: the paper")
@@ -2647,9 +2676,9 @@ def random_rounds(kind, chance, rounds):
         print(f"{name}: {counts}, in doubt: {len(shop.device.doubts)}", flush=True)
 
 
-def strange_on_paper(shop, had, items, trouble, kind):
-    """What is wrong with the paper of a round over a line that holds back what is sent: each line of the order is whole.
-    Only a printer that was silent may print more than once, and only one that had no power a part of a line."""
+def strange_on_paper(shop, had, items, troubles, kind):
+    """What is wrong with the paper of a round over a line that holds back what is sent: each line of the order is
+    whole. Only a printer that was silent may print more than once, and only one that had no power a part of a line."""
     shop.device.wait(lambda: shop.device.is_idle)
     wanted = [item_of(item) for item in shop.till.device("r1").show().items[items:]]
     left, others = list(wanted), []
@@ -2659,9 +2688,9 @@ def strange_on_paper(shop, had, items, trouble, kind):
         else:
             others.append(item)
     parts = [item for item in others if item not in wanted]
-    may_repeat = trouble in ("plug", "silence", "lost answers") or "asked" in kind and trouble in ("cover", "paper", "jam")
-    is_right = not left and (may_repeat or not others) and (trouble == "plug" or not parts)
-    return [] if is_right else [(trouble, wanted, shop.device.receipt()[had:])]
+    repeats = {"plug", "silence", "lost answers", *(("cover", "paper", "jam") if "asked" in kind else ())}
+    is_right = not left and (repeats & troubles or not others) and ("plug" in troubles or not parts)
+    return [] if is_right else [(troubles, wanted, shop.device.receipt()[had:])]
 
 
 # What a printer that is asked must not meet: its answers have no number.
@@ -2670,8 +2699,8 @@ SIMPLE = ("garbage",)
 MOST_PIECES = 5
 
 
-def random_trouble(device, chance, unless):
-    """Some trouble: its name, what it does, and what ends it."""
+def random_troubles(device, chance, unless):
+    """One trouble, or two: the name of each, what it does, and what ends it."""
     noise = bytes(chance.randrange(256) for _ in range(chance.randrange(1, 20)))
     troubles = {
         "none": (lambda: None, lambda: None),
@@ -2684,19 +2713,20 @@ def random_trouble(device, chance, unless):
         "slow": (lambda: device.slow(chance.choice([0.01, 0.3])), lambda: device.slow(0)),
         "jam": (lambda: device.breaks(True), lambda: device.breaks(False)),
     }
-    name = chance.choice([name for name in troubles if name not in unless])
-    return name, *troubles[name]
+    names = [name for name in troubles if name not in unless]
+    return {name: troubles[name] for name in chance.sample(names, chance.choice([1, 1, 2]))}
 
 
 def random_round(shop, chance, number, unless):
-    """An order, trouble during it, and retries until it is printed."""
+    """An order, trouble during it, and retries until it is printed. Returns the names of the troubles."""
     device, control = shop.device, shop.control
     count = chance.randrange(1, 5)
     text = b"".join(b"\x1b|%bA%06d of %d\n" % (chance.choice([b"c", b"r"]), number, count) for _ in range(count))
     text += chance.choice([b"", b"", b"\x1b|P"])
-    name, deed, undo = random_trouble(device, chance, unless)
+    troubles = random_troubles(device, chance, unless)
     device.clear_triggers()
-    device.after(chance.randrange(1, 40 * count), deed)
+    for deed, _ in troubles.values():
+        device.after(chance.randrange(1, 40 * count), deed)
     waits = control.async_mode = chance.random() < 0.5
     is_printed = raised(control.print, text) is None and not waits
     control.async_mode = False
@@ -2704,8 +2734,7 @@ def random_round(shop, chance, number, unless):
     end = time.monotonic() + PATIENCE
     while not is_printed:
         if left == 0:
-            device.clear_triggers()
-            undo()
+            end_troubles(device, troubles)
         left -= 1
         shop.till.run_devices(0.01)
         events = list(control.events())
@@ -2714,14 +2743,20 @@ def random_round(shop, chance, number, unless):
         else:
             is_printed = raised(control.print, text) is None
         if time.monotonic() > end:
-            told(f"round {number}: {name} ends", True, False)
+            told(f"round {number}: {', '.join(troubles)} ends", True, False)
             break
-    device.clear_triggers()
-    undo()
+    end_troubles(device, troubles)
     shop.settle()
     shop.till.run_devices()
     list(control.events())
-    return name
+    return troubles.keys()
+
+
+def end_troubles(device, troubles):
+    """Ends troubles. None begins any more."""
+    device.clear_triggers()
+    for _, undo in troubles.values():
+        undo()
 
 
 def try_random_display():

@@ -24,7 +24,7 @@ TOP = pathlib.Path(__file__).resolve().parent.parent
 sys.path.insert(0, str(TOP / "tests"))
 
 from checks import Checks
-from emulator import Cut, Display, Line, Printer, PtyCable, Scanner, TcpCable
+from emulator import Cut, Display, Line, Printer, PtyCable, Scanner, SilentHost, TcpCable
 
 PROFILE = """
 [[device]]
@@ -50,6 +50,14 @@ category = "Scanner"
 [[device]]
 name = "t1"
 category = "HardTotals"
+"""
+TWO_PRINTERS = PROFILE + """
+[[device]]
+name = "r2"
+category = "POSPrinter"
+chars = 42
+lines = 1000
+near = 20
 """
 # How long an order may take where something happens meanwhile, and where nothing does, on a machine that is busy, in
 # milliseconds; and how long is waited for what has to happen, in seconds.
@@ -126,6 +134,14 @@ TROUBLES = {
 }
 
 
+def paper_of(device):
+    """What is printed, without that whose acknowledgement was lost, or at which the plug was pulled: no driver can know
+    whether that was printed, and it is printed again."""
+    device.wait(lambda: device.is_idle)
+    items = [item for at, item in enumerate(device.receipt()) if at not in device.doubts]
+    return [(item.alignment, item.characters) if isinstance(item, Line) else item for item in items]
+
+
 class Shop:
     """A host whose printer is emulated, and may be in trouble. One of the kind "asked" is simpler, on "usb"."""
 
@@ -154,11 +170,7 @@ class Shop:
         return until(is_well)
 
     def paper(self):
-        """What is printed, without that whose acknowledgement was lost, or at which the plug was pulled: no driver can
-        know whether that was printed, and it is printed again."""
-        self.device.wait(lambda: self.device.is_idle)
-        items = [item for at, item in enumerate(self.device.receipt()) if at not in self.device.doubts]
-        return [(item.alignment, item.characters) if isinstance(item, Line) else item for item in items]
+        return paper_of(self.device)
 
     def late(self):
         return self.host.ask("state r1").split()[1]
@@ -295,8 +307,8 @@ def try_end_held_back():
 
 
 def try_end_that_nobody_saw():
-    """A printer is off for a while in a line, and back before anybody looks: the end of the line that it may have got and
-    acknowledged isn't told as the whole."""
+    """A printer is off for a while in a line, and back before anybody looks: the end of the line that it may have got
+    and acknowledged isn't told as the whole."""
     for kind in ("holds", "asked holds", "holds adapter", "asked holds adapter"):
         for place in (10, 60, 150):
             name = f"off after {place} bytes while nobody looks, over {kind}"
@@ -913,6 +925,45 @@ def try_given_up_typed():
         told("the same waits", "ok", shop.host.ask(f"later {TEXT.hex()}"))
         told("it is on the paper a second time", True,
              until(lambda: shop.host.ask("run 10") and shop.paper() == PRINTED * 2))
+
+
+def try_given_up_of_one():
+    """Orders of two printers fail, and one of them is given up by a typed call: the other is printed on from where its
+    paper stands. Once a line has opened a control both are given up."""
+    for way, wanted in (("a typed till", PRINTED), ("a till of lines, too", PRINTED * 2)):
+        with contextlib.ExitStack() as stack:
+            host = Host(stack, TWO_PRINTERS)
+            devices = [stack.enter_context(Printer(cable(), lines=1000)) for _ in range(2)]
+            for name, device in zip(("r1", "r2"), devices):
+                words = f"printer {name} {device.path} timeout {AMPLE} pause 10 lines 1000"
+                told(f"{way}: {name} is opened", "ok", host.ask(words))
+                device.after_characters(5, lambda device=device: device.cover(True))
+            fails = [(host.ask(f"print {TEXT.hex()}"), host.ask("swap")) for _ in devices]
+            told(f"{way}: both fail", [("E_EXTENDED 201", "ok")] * 2, fails)
+            if wanted != PRINTED:
+                told(f"{way}: it opens a control", ["ok"] * 2, host.lines("new d CashDrawer", "open d d2"))
+            told(f"{way}: one is given up", "ok", host.ask("clear"))
+            for device in devices:
+                device.cover(False)
+                told(f"{way}: it comes out", True,
+                     until(lambda device=device: host.ask("run 10") and paper_of(device) == PRINTED))
+                is_printed = until(lambda: host.ask("run 10") and host.ask(f"print {TEXT.hex()}") == "ok")
+                told(f"{way}: it is asked for again", (True, "ok"), (is_printed, host.ask("swap")))
+            told(f"{way}: the paper of both", [PRINTED * 2, wanted], [paper_of(device) for device in devices])
+
+
+def try_given_up_own():
+    """A driver of one's own is told that output is given up, if it is that of its printer; and of any one once a line
+    has opened a control."""
+    with contextlib.ExitStack() as stack:
+        host = Host(stack, TWO_PRINTERS)
+        told("a driver", ["ok"] * 2, [host.ask("own r2 1 printer"), host.ask("swap")])
+        told("an order", "ok", host.ask(f"print {TEXT.hex()}"))
+        told("its output is given up", ["ok", "1"], [host.ask("clear"), host.ask("given")])
+        told("another printer", ["ok"] * 2, [host.ask("swap"), host.ask(f"print {TEXT.hex()}")])
+        told("that one's output is given up", ["ok", "1"], [host.ask("clear"), host.ask("given")])
+        told("it is, once a line has opened a control", ["ok", "ok", "ok", "2"],
+             [*host.lines("new d CashDrawer", "open d d2"), host.ask("clear"), host.ask("given")])
 
 
 def try_given_up_and_released():
@@ -1951,7 +2002,8 @@ def try_memory_while():
 
 
 def try_memory_lines():
-    """Want of memory at each allocation of a text with two orders in turn: if nothing is said to be done, nothing is."""
+    """Want of memory at each allocation of a text with two orders in turn: if nothing is said to be done, nothing
+    is."""
     with contextlib.ExitStack() as stack:
         host = Host(stack)
         if host.ask("memory 0") != "ok":
@@ -1974,8 +2026,8 @@ def try_memory_lines():
 
 
 def try_memory_own():
-    """Want of memory at each allocation of an order of a driver in turn: it isn't given to the host in place of one of a
-    hosted device."""
+    """Want of memory at each allocation of an order of a driver in turn: it isn't given to the host in place of one of
+    a hosted device."""
     with contextlib.ExitStack() as stack:
         host = Host(stack)
         if host.ask("memory 0") != "ok" or host.ask("own d2 1000") != "ok":
@@ -2334,6 +2386,21 @@ def try_keys():
         comes("Enter that is held", "ok 33", 4, (28, 1), (28, 2), (28, 0))
 
 
+def try_silent_host():
+    """A host that doesn't answer keeps no other device waiting, and is found once it does."""
+    with contextlib.ExitStack() as stack:
+        silent, host = stack.enter_context(SilentHost()), Host(stack)
+        told("a display", "ok", host.ask(f"display p1 {silent.path} timeout 10 pause 0"))
+        began = time.monotonic()
+        for _ in range(200):
+            host.ask("run 0")
+        # If each waited for the host, these would take 50 seconds.
+        told("it keeps no other device waiting", True, time.monotonic() - began < 10)
+        told("it isn't there", "offline 0", host.ask("state p1"))
+        silent.answers()
+        told("it is found", True, until(lambda: host.ask("run 0") and host.ask("state p1") == "online 0"))
+
+
 # ---- random faults
 
 # The kinds of printers, and what they must not meet: answers that are asked for have no number.
@@ -2341,8 +2408,8 @@ KINDS = {"usb": (), "tcp": (), "serial": (), "usb stays": (), "tcp stays": (), "
          "asked serial": ("garbage",), "asked stays": ("garbage",)}
 
 
-def random_trouble(device, chance, unless):
-    """Some trouble: its name, what it does, and what ends it."""
+def random_troubles(device, chance, unless):
+    """One trouble, or two: the name of each, what it does, and what ends it."""
     noise = bytes(chance.randrange(256) for _ in range(chance.randrange(1, 20)))
     troubles = {
         "none": (lambda: None, lambda: None),
@@ -2355,34 +2422,40 @@ def random_trouble(device, chance, unless):
         "slow": (lambda: device.slow(chance.choice([0.01, 0.3])), lambda: device.slow(0)),
         "jam": (lambda: device.breaks(True), lambda: device.breaks(False)),
     }
-    name = chance.choice([name for name in troubles if name not in unless])
-    return name, *troubles[name]
+    names = [name for name in troubles if name not in unless]
+    return {name: troubles[name] for name in chance.sample(names, chance.choice([1, 1, 2]))}
+
+
+def end_troubles(device, troubles):
+    """Ends troubles. None begins any more."""
+    device.clear_triggers()
+    for _, undo in troubles.values():
+        undo()
 
 
 def random_round(shop, chance, number, unless):
-    """An order, trouble during it, and retries until it is printed. Returns the order's lines and the trouble."""
+    """An order, trouble during it, and retries until it is printed. Returns the order's lines and the troubles."""
     device = shop.device
     lines = [b"%06d of %d" % (number, place) for place in range(chance.randrange(1, 5))]
     text = b"".join(b"\x1b|%bA%b\n" % (chance.choice([b"c", b"r"]), line) for line in lines)
-    name, deed, undo = random_trouble(device, chance, unless)
+    troubles = random_troubles(device, chance, unless)
     device.clear_triggers()
-    device.after(chance.randrange(1, 40 * len(lines)), deed)
+    for deed, _ in troubles.values():
+        device.after(chance.randrange(1, 40 * len(lines)), deed)
     is_printed = shop.print(text) == "ok"
     left, end = chance.randrange(3), time.monotonic() + PATIENCE
     while not is_printed:
         if left == 0:
-            device.clear_triggers()
-            undo()
+            end_troubles(device, troubles)
         left -= 1
         shop.host.ask("run 10")
         is_printed = shop.print(text) == "ok"
         if time.monotonic() > end:
-            told(f"round {number}: {name} ends", True, False)
+            told(f"round {number}: {', '.join(troubles)} ends", True, False)
             break
-    device.clear_triggers()
-    undo()
-    told(f"round {number}: {name}", True, shop.settle())
-    return lines, name
+    end_troubles(device, troubles)
+    told(f"round {number}: {', '.join(troubles)}", True, shop.settle())
+    return lines, troubles
 
 
 def try_random():
@@ -2392,9 +2465,9 @@ def try_random():
         with contextlib.ExitStack() as stack:
             shop = Shop(stack, kind, lines=100_000)
             for number in range(WORDS.faults // len(KINDS)):
-                lines, trouble = random_round(shop, chance, number, unless)
+                lines, troubles = random_round(shop, chance, number, unless)
                 wanted += lines
-                counts[trouble] = counts.get(trouble, 0) + 1
+                counts |= {name: counts.get(name, 0) + 1 for name in troubles}
             told(f"random faults over {kind}: the paper", wanted, [item[1] for item in shop.paper()])
             told(f"random faults over {kind}: no late order", "0", shop.late())
             print(f"{WORDS.name}, {WORDS.faults // len(KINDS)} random faults over {kind}: {counts}", flush=True)
@@ -2410,9 +2483,9 @@ def try_random_held():
             shop = Shop(stack, kind, lines=100_000)
             shop.device.ROOM = 8
             for number in range(WORDS.faults // len(KINDS)):
-                lines, trouble = random_round(shop, chance, number, unless)
+                lines, troubles = random_round(shop, chance, number, unless)
                 wanted += lines
-                counts[trouble] = counts.get(trouble, 0) + 1
+                counts |= {name: counts.get(name, 0) + 1 for name in troubles}
             shop.device.wait(lambda: shop.device.is_idle)
             found = {item.characters for item in shop.device.receipt()}
             told(f"random faults over {kind}: no line is missing", [], [line for line in wanted if line not in found])

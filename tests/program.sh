@@ -113,17 +113,26 @@ refuses_words 'a word that is no text' 'a word is not UTF-8' "$(printf '\377')"
 refuses_words 'a delimiter alone' \
   "error: 'pos_console' requires a subcommand but one was not provided [subcommands: run, format, migrate, files]" --
 refuses_words 'a command after a delimiter' "error: unexpected argument 'run' found" -- run
+refuses_words 'a command with its options after one' "error: unexpected argument 'run' found" -- run --profile p --disk d
+refuses_words 'a delimiter after one' "$nothing '--'" -- --
 refuses_words 'an option without a command' "error: unexpected argument '--disk' found" --disk x
 refuses_words 'help' usage --help
 refuses_words 'help in short' usage -h
 refuses_words 'the word help' "$nothing 'help'" help
 refuses_words 'help of a command' usage run --help
+refuses_words 'help of another in short' usage format -h
+refuses_words 'help of a move' usage migrate --help
+refuses_words 'help of files' usage files --help
 missing='error: the following required arguments were not provided:'
 refuses_words 'run without options' "$missing --profile <profile> --disk <disk>" run
 refuses_words 'run without a disk' "$missing --disk <disk>" run --profile p
 refuses_words 'run without a profile' "$missing --profile <profile>" run --disk d
 refuses_words 'an option without its word' \
   "error: a value is required for '--disk <disk>' but none was supplied" run --profile p --disk
+refuses_words 'an option of format without its word' \
+  "error: a value is required for '--disk <disk>' but none was supplied" format --disk
+refuses_words 'a move without a disk' "$missing --disk <disk>" migrate
+refuses_words 'a move of a profile' "error: unexpected argument '--profile' found" migrate --disk d --profile p
 refuses_words 'a word too many' "error: unexpected argument 'e' found" format --disk d e
 refuses_words 'a misspelt option' "error: unexpected argument '--dsk' found" format --dsk d
 refuses_words 'an option twice' "error: the argument '--disk <disk>' cannot be used multiple times" \
@@ -168,6 +177,48 @@ ends 'format in no folder' 4 "pos_console: none/till.disk: $opened: No such file
 ends 'format of a folder' 4 "pos_console: .: $opened: Is a directory (os error 21)" format --disk .
 ends 'a path with a line feed' 4 \
   'pos_console: none/a\nb: '"$opened: No such file or directory (os error 2)" format --disk "$(printf 'none/a\nb')"
+ends 'a path with controls' 4 \
+  'pos_console: none/é \n\r\t\u{1b}[2J\u{85}\u{2028}\u{2029}\u{7f}: '"$opened: No such file or directory (os error 2)" \
+  format --disk "$(printf 'none/\303\251 \\n\r\t\033[2J\302\205\342\200\250\342\200\251\177')"
+
+# --- calls of the system that fail, by strace: at faulty.disk or its folder
+# meets NAME FAULT STATUS MESSAGE WORD ..: whether the program ends so if calls have this fault
+meets() {
+  local name=$1 fault=$2 status=$3 message=$4
+  shift 4
+  under=(strace -o trace -P "$work/faulty.disk" -P "$work" -e trace=flock,statx,ftruncate,fsync,pread64,pwrite64
+    -e "inject=$fault")
+  ends "$name" "$status" "pos_console: faulty.disk: $message" "$@"
+  under=()
+}
+# formats NAME FAULT STATUS MESSAGE: whether making a file ends so
+formats() {
+  rm -f faulty.disk
+  meets "$@" format --disk faulty.disk
+}
+failed_format='a read, a write or a sync failed while it was formatted'
+formats 'a lock that fails' flock:error=ENOLCK 4 "can't be locked: No locks available (os error 37)"
+told 'a file without a lock is asked nothing' 'flock' "$(sed -n 's/(.*INJECTED.*//p; t; s/(.*//p' trace | grep -v '^+' | tr -d '\n')"
+told 'a file without a lock stays empty' 0 "$(wc -c < faulty.disk)"
+formats 'a lock without memory' flock:error=ENOMEM 6 'no memory to open it'
+formats 'a length that is not told' statx:error=EIO 4 "its length can't be told: Input/output error (os error 5)"
+formats 'a folder that is not synced' fsync:error=EIO:when=1 4 \
+  "its folder can't be opened and synced: Input/output error (os error 5)"
+formats 'a file that is not lengthened' ftruncate:error=EFBIG 4 "can't be lengthened: File too large (os error 27)"
+formats 'a length that is not synced' fsync:error=EIO:when=2 4 "can't be synced: Input/output error (os error 5)"
+formats 'a file that is not synced' fsync:error=EIO:when=3 4 "can't be synced: check the device that it is on"
+formats 'a file that is not read' pread64:error=EIO 4 "can't be read whole: check the device that it is on"
+formats 'a file that is read in part' pread64:retval=15 4 "can't be read whole: check the device that it is on"
+formats 'a write that fails' pwrite64:error=ENOSPC:when=3 4 "$failed_format"
+formats 'a write of no byte' pwrite64:retval=0:when=2 4 "$failed_format"
+formats 'a sync that fails' fsync:error=EIO:when=5 4 "$failed_format"
+ends 'format of it once more' 0 '' format --disk faulty.disk
+formats 'the last sync fails' fsync:error=EIO:when=6 4 "$failed_format"
+ends 'its totals are there' 4 "pos_console: faulty.disk: $formatted" format --disk faulty.disk
+meets 'a move whose write fails' pwrite64:error=EIO:when=2 4 \
+  'a read, a write or a sync failed while it was moved to layout 2: its files stay, so move it again' migrate --disk faulty.disk
+meets 'files that are not read' pread64:error=EIO 4 "can't be read whole: check the device that it is on" \
+  files --disk faulty.disk
 
 # --- moves to layout 2
 ends 'a move of no file' 4 "pos_console: none.disk: $opened: No such file or directory (os error 2)" migrate --disk none.disk
@@ -211,6 +262,13 @@ printf '[[device\n' > profile.toml
 "$program" run --profile profile.toml --disk till.disk < script > out 2> err
 told 'a profile that is no TOML: status' 3 $?
 told 'a profile that is no TOML: message' 1 "$(grep -c '^pos_console: profile.toml: line 1: not TOML: .' err)"
+printf '# a\n\n[[device\n' > profile.toml
+"$program" run --profile profile.toml --disk till.disk < script > out 2> err
+told 'a profile that is no TOML further down' 1 "$(grep -c '^pos_console: profile.toml: line 3: not TOML: .' err)"
+printf 'spare = 1\n' > profile.toml
+refuses_profile 'spares that are no array' 'spare must be an array of tables'
+printf 'spare = [3]\n' > profile.toml
+refuses_profile 'a spare that is no table' 'spare 1: must be a table'
 printf 'foo = 1\n' > profile.toml
 refuses_profile 'an unknown key of the root' 'unknown key: foo'
 printf '"a\\nb" = 1\n' > profile.toml
@@ -281,6 +339,8 @@ cp read.disk secret.disk
 chmod 200 secret.disk
 untold 'files of a file that may not be read' secret.disk "can't be read: $denied"
 under=()
+{ cat read.disk; printf '\001'; } > longer.disk
+tells 'files of a longer file' longer.disk 1 0 1 16364 "$one"
 "$program" migrate --disk till.disk
 tells 'files in an image of layout 2' till.disk 2 65536 0 49146 "$one"
 "$program" format --disk new.disk

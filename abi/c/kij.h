@@ -632,8 +632,9 @@ typedef struct kij_scanner_settings {
  *
  * If an order failed and the next one is the same, as a retry is, only the lines and cuts that the printer hasn't
  * acknowledged are sent again, also if the control was released or closed meanwhile. An application that gives a
- * request up ends that: by clearOutput, or by the reply KIJ_ER_CLEAR to the ErrorEvent of a printer, typed or by lines.
- * Each ends it for all printers of the till. The same order is a new one then, and is printed from its beginning.
+ * request up ends that: by clearOutput, or by the reply KIJ_ER_CLEAR to the ErrorEvent of a printer. The same order is
+ * a new one then, and is printed from its beginning. Once a line has opened a control (kij_carry_out), each ends it for
+ * all printers of the till.
  *
  * A printer counts as off once it was asked whether it is there, and has answered nothing for the timeout. Over TCP the
  * port is opened again then, unless an order that failed may still be acknowledged: the system finds out then, at most
@@ -731,6 +732,9 @@ typedef struct kij_driver {
     int (*read_ahead)(void *context);
     /** A spare serves the device from now on (kij_attach), which knows nothing of what `happened` said before. */
     void (*attached)(void *context);
+    /** An application has given up what a printer didn't print: the next order is a new one, though it is the same.
+     * Once a line has opened a control (kij_carry_out), it may be another printer's. */
+    void (*given_up)(void *context);
     /** The till is closed, by the process that opened it. */
     void (*end)(void *context);
 } kij_driver;

@@ -12,7 +12,7 @@ static kij_result plain(int code) { return kij_internal_result(code, 0, KIJ_NO_C
 
 /* How long a lost port may take to open while other devices wait, how long a drawer may take to open, how long output
    that has failed waits, and after how long without an order nobody knows what a display shows, in milliseconds. */
-static const int64_t quickly = 250, settle = 1000, rest = 100, unseen = 10000;
+static const int64_t quickly = 20, briefly = 250, settle = 1000, rest = 100, unseen = 10000;
 
 /* The longest code of a scanner and the highest type, how many ports are waited for at once, of how many orders of a
    printer the till keeps the paper, and from how many lines before the near end on a roll is long; as many as a request
@@ -26,11 +26,15 @@ enum {
     MOST_FEEDS = 4096
 };
 
-/* The drive of the device of a name, which is written behind a space; or null. */
+/* Whether a drive is of the device of a name, which is written behind a space. */
+static bool has_name(const kij_drive *drive, const char *name, size_t size) {
+    return drive->name.size - 1 == size && memcmp(drive->name.text + 1, name, size) == 0;
+}
+
+/* The drive of the device of a name, or null. */
 static kij_drive *drive_of(const kij_drives *drives, const char *name, size_t size) {
     kij_drive *drive = drives == NULL ? NULL : drives->first;
-    while (drive != NULL && (drive->name.size - 1 != size || memcmp(drive->name.text + 1, name, size) != 0))
-        drive = drive->next;
+    while (drive != NULL && !has_name(drive, name, size)) drive = drive->next;
     return drive;
 }
 
@@ -766,7 +770,7 @@ static int scans(kij_till *till, kij_drive *drive, bool *is_any) {
 /* Opens the port of a display or a scanner, unless that was tried just now. A code that waits to be told is first. */
 static void connect_port(kij_drive *drive, int64_t time) {
     if (kij_internal_port_is_open(&drive->port) || drive->is_untold) return;
-    if (kij_internal_now() - drive->tried_at < drive->pause) return;
+    if (!drive->port.is_joining && kij_internal_now() - drive->tried_at < drive->pause) return;
     kij_internal_port_open(&drive->port, time);
     drive->tried_at = kij_internal_now();
     drive->is_new = true;
@@ -1017,10 +1021,15 @@ static void *with_name(size_t size, const char *name, const char **copy) {
     return made;
 }
 
-void kij_internal_forget_orders(kij_till *till) {
+void kij_internal_forget_orders(kij_till *till, const kij_control *control) {
+    const kij_word *device = control == NULL || till->has_opened ? NULL : &control->device;
     if (till->drives == NULL) return;
-    for (kij_drive *drive = till->drives->first; drive != NULL; drive = drive->next)
+    for (kij_drive *drive = till->drives->first; drive != NULL; drive = drive->next) {
+        bool is_meant = device == NULL || device->size == 0 || has_name(drive, device->text + 1, device->size - 1);
+        if (drive->category != KIJ_POS_PRINTER || !is_meant) continue;
         if (drive->has_link) kij_internal_link_forget_order(drive->link);
+        if (drive->is_own && drive->own.given_up != NULL) drive->own.given_up(drive->context);
+    }
 }
 
 void kij_internal_end_drives(kij_till *till) {
@@ -1202,7 +1211,7 @@ kij_result kij_wedge_scanner_open(kij_till *till, const char *device, const char
     code = make_drive(till, device, KIJ_SCANNER, &drive);
     if (code == KIJ_OK) {
         drive->type = settings->type;
-        drive->timeout = quickly;
+        drive->timeout = briefly;
         drive->pause = settings->pause;
         code = open_port(till, drive, port, &settings->serial, settings->has_keys);
     }

@@ -62,7 +62,7 @@ static inline kij_result deliver(kij_control *control, const kij_word *reply, ki
     kij_result result = kij_internal_result(kij_internal_enter(till), 0, control->category);
     if (result.code != KIJ_OK) return result;
     result.code = kij_internal_run(till, KIJ_VERB_DELIVER, &control->name, reply, NULL, 0);
-    if (gives_up(till, reply, result.code)) kij_internal_forget_orders(till);
+    if (gives_up(till, reply, result.code)) kij_internal_forget_orders(till, control);
     if (result.code == KIJ_OK) {
         char *text = till->text;
         if (memcmp(text, "none", 5) == 0) {
@@ -123,12 +123,12 @@ kij_result kij_next_event_replied(kij_control *control, kij_reply reply, kij_eve
     return deliver(control, word_of(reply), event);
 }
 
-/* Gives up what printers didn't print, though their control has nothing left to clear. */
-static kij_result give_up(kij_till *till) {
-    int code = kij_internal_enter(till);
+/* Gives up what a printer didn't print, though its control has nothing left to clear. */
+static kij_result give_up(const kij_control *control) {
+    int code = kij_internal_enter(control->till);
     if (code == KIJ_OK) {
-        kij_internal_forget_orders(till);
-        kij_internal_leave(till);
+        kij_internal_forget_orders(control->till, control);
+        kij_internal_leave(control->till);
     }
     return kij_internal_result(code, 0, KIJ_NO_CATEGORY);
 }
@@ -142,7 +142,7 @@ kij_result kij_reply_to(const kij_event *event, kij_reply reply) {
     bool is_output = event->locus == KIJ_EL_OUTPUT;
     kij_result result = is_output ? kij_printer_clear_output(event->control) : kij_scanner_clear_input(event->control);
     bool is_gone = result.code == KIJ_E_CLOSED || result.code == KIJ_E_CLAIMED || result.code == KIJ_E_NOTCLAIMED;
-    if (is_gone && is_output) return give_up(event->control->till);
+    if (is_gone && is_output) return give_up(event->control);
     return is_gone ? done : result;
 }
 

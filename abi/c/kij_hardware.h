@@ -51,6 +51,13 @@ typedef struct kij_port {
     kij_address addresses[KIJ_ADDRESS_ROOM];
     size_t address_count;
     int64_t resolve_at;
+    /* Whether a connection to one of them is being made, its file, the address, until when it may take, and until when
+       all of them have time together. */
+    bool is_joining;
+    int joining;
+    size_t join_place;
+    int64_t join_ends_at;
+    int64_t joins_end_at;
 } kij_port;
 
 /* An order on its way to the paper, piece by piece: a line, a cut or a pulse. One without any is one empty piece, so
@@ -303,7 +310,8 @@ bool kij_internal_is_port(const char *name);
 
 static inline bool kij_internal_port_is_open(const kij_port *port) { return port->file >= 0; }
 
-/* Opens a port that isn't open, in so many milliseconds: whether it is open. Looking a name up isn't limited. */
+/* Opens a port that isn't open, for which the call takes so many milliseconds: whether it is open. Looking a name up
+   isn't limited. A connection that isn't made in that time is made on, and a later call finds it. */
 bool kij_internal_port_open(kij_port *port, int64_t time);
 
 /* Closes a port. What isn't sent yet is dropped, and a connection ends though a process that was forked has it too. In

@@ -33,6 +33,8 @@ struct kij_till {
     struct kij_drives *drives;
     /* Whether lines of an earlier call are held, since there was no memory to go on with them. */
     bool is_holding;
+    /* Whether lines may have opened a control: on which device it is isn't known then. */
+    bool has_opened;
     /* Whether a control was given back that couldn't be closed. */
     bool has_unclosed;
 };
@@ -79,6 +81,8 @@ struct kij_control {
     bool is_unclosed;
     bool is_named;
     kij_word name;
+    /* The device on which it was opened last, but for lines; without a size there is none. */
+    kij_word device;
 };
 
 /* What a call is given, and what it returns. */
@@ -226,8 +230,9 @@ static inline bool kij_internal_is_output_error(const char *text) {
     return strncmp(text, front, sizeof front - 1) == 0 && memcmp(text + size - 2, " 1", 2) == 0;
 }
 
-/* The application has given up what its printers didn't print: the same order is a new one from now on. */
-void kij_internal_forget_orders(kij_till *till);
+/* The application has given up what the control's printer didn't print, or any printer if that isn't known: the same
+   order is a new one from now on. The control may be null. */
+void kij_internal_forget_orders(kij_till *till, const kij_control *control);
 
 /* Reads a number, and what stands behind it. */
 bool kij_internal_read_number(char **at, int64_t *number);

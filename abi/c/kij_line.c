@@ -317,7 +317,8 @@ kij_result kij_internal_call(kij_control *control, kij_verb verb, const kij_word
     }
     /* What has no answer was done. */
     bool is_done = result.code == KIJ_OK || result.code == KIJ_NO_ANSWER;
-    if (till->drives != NULL && is_done && gives_up(control, verb, method)) kij_internal_forget_orders(till);
+    if (is_done && verb == KIJ_VERB_OPEN) control->device = *method;
+    if (till->drives != NULL && is_done && gives_up(control, verb, method)) kij_internal_forget_orders(till, control);
     kij_internal_leave(till);
     return result;
 }

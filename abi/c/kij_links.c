@@ -31,7 +31,7 @@ enum {
 /* How long a lost port may take to open while other devices wait, how often a printer is asked, how long its late
    answers may be apart, how long a printer whose line holds bytes back may be silent, and how long after it has stopped
    it may still acknowledge what was before that, in milliseconds. */
-static const int64_t quickly = 250, often = 100, apart = 500, silence = 2000, shortly = 1000;
+static const int64_t quickly = 20, often = 100, apart = 500, silence = 2000, shortly = 1000;
 
 static inline int64_t least(int64_t one, int64_t other) { return one < other ? one : other; }
 
@@ -761,7 +761,7 @@ static bool look_after(kij_link *link) {
 
 void kij_internal_link_poll(kij_link *link) {
     if (!kij_internal_port_is_open(&link->port)) {
-        if (kij_internal_now() - link->tried_at >= link->pause)
+        if (link->port.is_joining || kij_internal_now() - link->tried_at >= link->pause)
             connect_port(link, least(link->timeout, quickly));
         return;
     }

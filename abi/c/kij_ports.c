@@ -23,8 +23,9 @@
 #include <time.h>
 #include <unistd.h>
 
-/* How long a name isn't looked up again, in milliseconds. */
-static const int64_t rarely = 60000;
+/* How long a name isn't looked up again, and how long a host has to answer at least, though no call waits for it so
+   long, in milliseconds. */
+static const int64_t rarely = 60000, answers = 1000;
 
 /* The characters by which a serial line says that it can take more, and that it can't. */
 enum { XON = 0x11, XOFF = 0x13 };
@@ -220,16 +221,16 @@ bool kij_internal_is_port(const char *name) {
     return !begins_with(name, "tcp:") || is_address(name, host, sizeof host, service, sizeof service);
 }
 
-/* Waits for a connection that was begun, until a time: 0 or errno. */
+/* Waits for a connection that was begun, until a time: 0, errno, or EINPROGRESS if it isn't made yet. */
 static int finish(int file, int64_t end) {
     struct pollfd waiting = {file, POLLOUT, 0};
     int why = 0, ready;
     socklen_t size = sizeof why;
     do {
         int64_t left = end - kij_internal_now();
-        ready = poll(&waiting, 1, (int)(left < 1 ? 1 : left));
+        ready = poll(&waiting, 1, (int)(left < 0 ? 0 : left));
     } while (ready < 0 && errno == EINTR && kij_internal_now() < end);
-    if (ready <= 0) return ETIMEDOUT;
+    if (ready <= 0) return EINPROGRESS;
     if (getsockopt(file, SOL_SOCKET, SO_ERROR, &why, &size) != 0) return errno;
     return why;
 }
@@ -253,15 +254,34 @@ static int set_up_tcp(int file, bool is_patient) {
     return 0;
 }
 
-/* Connects to an address: 0 or errno. */
-static int join(const kij_address *address, bool is_patient, int64_t end, int *file) {
-    *file = socket(address->place.ss_family, SOCK_STREAM | SOCK_NONBLOCK | SOCK_CLOEXEC, 0);
-    if (*file < 0) return errno;
-    int why = connect(*file, (const struct sockaddr *)&address->place, address->size) == 0 ? 0 : errno;
-    if (why == EINPROGRESS) why = finish(*file, end);
-    if (why == 0) why = set_up_tcp(*file, is_patient);
-    if (why != 0) close(*file);
-    return why;
+/* Lets go of a connection that isn't made. */
+static void stop_joining(kij_port *port) {
+    if (port->is_joining) close(port->joining);
+    port->is_joining = false;
+}
+
+/* Begins to connect to the address whose turn it is. Each of those that are left has the same time, so that one that
+   says nothing leaves some to the others. 0 or errno. */
+static int begin_joining(kij_port *port) {
+    const kij_address *address = &port->addresses[port->join_place];
+    int64_t now = kij_internal_now(), left = (int64_t)(port->address_count - port->join_place);
+    port->join_ends_at = now + (port->joins_end_at - now) / left;
+    port->joining = socket(address->place.ss_family, SOCK_STREAM | SOCK_NONBLOCK | SOCK_CLOEXEC, 0);
+    if (port->joining < 0) return errno;
+    port->is_joining = true;
+    port->process = getpid();
+    bool is_begun = connect(port->joining, (const struct sockaddr *)&address->place, address->size) == 0;
+    return is_begun || errno == EINPROGRESS ? 0 : errno;
+}
+
+/* Connects to the address whose turn it is: 0, errno, or EINPROGRESS if it has time left after the end. */
+static int join(kij_port *port, int64_t end) {
+    int why = port->is_joining ? 0 : begin_joining(port);
+    if (why == 0) why = finish(port->joining, end < port->join_ends_at ? end : port->join_ends_at);
+    if (why == EINPROGRESS && kij_internal_now() < port->join_ends_at) return why;
+    if (why == 0) why = set_up_tcp(port->joining, port->is_patient);
+    if (why != 0) stop_joining(port);
+    return why == EINPROGRESS ? ETIMEDOUT : why;
 }
 
 /* Keeps addresses, as many as there is room for. */
@@ -294,21 +314,31 @@ static int resolve(kij_port *port) {
     return 0;
 }
 
-/* Opens a TCP port: 0 or errno. */
+/* Opens a TCP port: 0, errno, or EINPROGRESS if a connection is being made. One that a call before has begun is looked
+   at without waiting. */
 static int open_tcp(kij_port *port, int64_t time, int *file) {
-    int why = port->address_count > 0 ? 0 : resolve(port);
-    if (why != 0) return why;
-    why = EHOSTUNREACH;
-    int64_t end = kij_internal_now() + time;
-    for (size_t place = 0; place < port->address_count && why != 0; place++) {
-        /* Each of those that are left has the same time, so that one that says nothing leaves some to the others. */
-        int64_t now = kij_internal_now(), left = (int64_t)(port->address_count - place);
-        why = join(&port->addresses[place], port->is_patient, now + (end - now) / left, file);
+    /* That of the process from which this one was forked isn't its own. */
+    if (port->is_joining && port->process != getpid()) stop_joining(port);
+    int64_t now = kij_internal_now(), end = port->is_joining ? now : now + time;
+    if (!port->is_joining) {
+        int why = port->address_count > 0 ? 0 : resolve(port);
+        if (why != 0) return why;
+        port->join_place = 0;
+        port->joins_end_at = kij_internal_now() + (time < answers ? answers : time);
+    }
+    int why = EHOSTUNREACH;
+    while (port->join_place < port->address_count) {
+        why = join(port, end);
+        if (why == 0 || why == EINPROGRESS) break;
+        port->join_place++;
     }
     /* The name may have others by now, for the next time. */
-    if (why != 0) (void)resolve(port);
+    if (why != 0 && why != EINPROGRESS) (void)resolve(port);
+    if (why != 0) return why;
+    *file = port->joining;
+    port->is_joining = false;
     port->ends_empty = true;
-    return why;
+    return 0;
 }
 
 bool kij_internal_port_open(kij_port *port, int64_t time) {
@@ -317,6 +347,8 @@ bool kij_internal_port_open(kij_port *port, int64_t time) {
     /* A link to a serial line may have been missing before. */
     if (port->kind == KIJ_PORT_FILE && is_line_name(port->name)) port->kind = KIJ_PORT_SERIAL;
     int why = port->kind == KIJ_PORT_TCP ? open_tcp(port, time, &file) : open_file(port, &file);
+    /* What a connection that is being made comes to isn't known yet. */
+    if (why == EINPROGRESS) why = port->error == 0 ? ETIMEDOUT : port->error;
     if (why != 0) {
         port->error = why;
         return false;
@@ -348,6 +380,7 @@ static void let_go(const kij_port *port) {
 }
 
 void kij_internal_port_close(kij_port *port) {
+    stop_joining(port);
     if (port->file >= 0) {
         if (port->process == getpid()) let_go(port);
         close(port->file);

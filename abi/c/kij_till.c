@@ -1,4 +1,7 @@
 /* Tills and their controls. */
+#ifndef _GNU_SOURCE
+#define _GNU_SOURCE
+#endif
 #include "kij_hardware.h"
 #include <stdio.h>
 #include <stdlib.h>
@@ -153,7 +156,7 @@ static bool has_effect(const kij_till *till, int code, effect what) {
 /* Does what a line that was carried out is to the drivers. */
 static void apply_effect(kij_till *till, effect what, line_word name) {
     if (what == ATTACHES) kij_internal_drive_again(till, name.at, name.size);
-    else kij_internal_forget_orders(till);
+    else kij_internal_forget_orders(till, NULL);
 }
 
 /* Carries out lines: a code of enum kij_code. A driven device that something was attached to is driven again before the
@@ -182,6 +185,7 @@ kij_result kij_carry_out(kij_till *till, const char *lines, size_t size, const c
     int code = kij_internal_enter(till);
     if (code != KIJ_OK) return plain(code);
     if (size == KIJ_ZERO_ENDED) size = strlen(lines);
+    till->has_opened = till->has_opened || memmem(lines, size, "open ", 5) != NULL;
     code = till->drives == NULL ? kij_internal_carry_out(till, lines, size) : carry_out(till, lines, size);
     if (code == KIJ_OK || code == KIJ_NO_ANSWER) *answer = till->text;
     kij_internal_leave(till);

@@ -4,9 +4,9 @@ They read the commands of ESC/POS and CD5220 by a reader of their own, and never
 calls their methods to open a cover, use up the paper, pull a plug or make them silent, also in the middle of an order.
 `python3 tests/emulator printer --path PATH` runs one by itself (see __main__.py).
 """
-from .cables import PtyCable, TcpCable
+from .cables import PtyCable, SilentHost, TcpCable
 from .display import Display
 from .printer import Cut, Feed, Line, Printer
 from .scanner import Scanner
 
-__all__ = ["Cut", "Display", "Feed", "Line", "Printer", "PtyCable", "Scanner", "TcpCable"]
+__all__ = ["Cut", "Display", "Feed", "Line", "Printer", "PtyCable", "Scanner", "SilentHost", "TcpCable"]

@@ -93,8 +93,8 @@ class PtyCable:
 
 
 class TcpCable:
-    """A TCP port of this machine, as a network printer's 9100. One host is connected at a time. With `hangs_up` false it
-    is that of a print server: it stays when the device goes off, and nothing answers."""
+    """A TCP port of this machine, as a network printer's 9100. One host is connected at a time. With `hangs_up` false
+    it is that of a print server: it stays when the device goes off, and nothing answers."""
 
     holds, keeps = False, 0
 
@@ -117,7 +117,8 @@ class TcpCable:
             return
         self.drop()
         if self._listener is not None:
-            # The device's thread may be waiting for it. A close alone would then keep the port until that thread goes on.
+            # The device's thread may be waiting for it. A close alone would then keep the port until that thread goes
+            # on.
             self._listener.shutdown(socket.SHUT_RDWR)
             self._listener.close()
             self._listener = None
@@ -176,3 +177,36 @@ class TcpCable:
         except ConnectionError:
             self.drop()
             return len(data)
+
+
+class SilentHost:
+    """A TCP port of this machine that says nothing to who connects to it, as a host that is off, since its queue is
+    full. `answers` empties the queue."""
+
+    def __init__(self):
+        self._listener, self._queue = socket.socket(), []
+        self._listener.bind(("127.0.0.1", 0))
+        self._listener.listen(0)
+        self._listener.setblocking(False)
+        self.address = self._listener.getsockname()
+        with contextlib.suppress(TimeoutError):
+            while True:
+                self._queue.append(socket.create_connection(self.address, timeout=0.5))
+
+    @property
+    def path(self):
+        return f"tcp://127.0.0.1:{self.address[1]}"
+
+    def answers(self):
+        """Has it answer who connects from now on."""
+        self._listener.listen(64)
+        with contextlib.suppress(BlockingIOError):
+            while True:
+                self._queue.append(self._listener.accept()[0])
+
+    def __enter__(self):
+        return self
+
+    def __exit__(self, *_):
+        for one in (self._listener, *self._queue):
+            one.close()

@@ -39,8 +39,9 @@ class Printer(Device):
         lines_left: How many lines of paper are left. The sensors see the end of the paper at 0, and that it is near
             from `near` on. Printing stops when a line is needed and none is left.
         pulses: The pulses at the drawer's connector: pin, time on, time off.
-        doubts: The places in `paper` of what was printed and whose acknowledgement the host didn't get: the plug was pulled
-            before it was sent, or it was lost. No driver can know whether that was printed, and it is printed again.
+        doubts: The places in `paper` of what was printed and whose acknowledgement the host didn't get: the plug was
+            pulled before it was sent, or it was lost. No driver can know whether that was printed, and it is printed
+            again.
         runs: The doubts in the order in which they came: the places of each time.
     """
 

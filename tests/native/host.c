@@ -22,6 +22,8 @@
    close             it is given back, and the next request makes another one
    reply             delivers the events of that control with the reply ER_CLEAR: how many of them were ErrorEvents
    drop              delivers them, releases it at an ErrorEvent, and then replies ER_CLEAR: how many there were
+   swap              from now on these are of the other printer, r2 or r1, and its control; r1 is the first
+   given             how often the driver of this program's was told that output is given up
    host DEVICE       kij_host
    order             kij_next_order: its device, or `none`
    tear DEVICE       kij_tear_off
@@ -39,7 +41,9 @@
 #include <string.h>
 
 static kij_till *till;
-static kij_control *printer;
+/* The printer of typed calls with its control, and the control of the other one. */
+static const char *printer_name = "r1";
+static kij_control *printer, *other;
 
 #ifdef HOST_HAS_HEAP
 void heap_refuses_some(long number, long count);
@@ -134,6 +138,7 @@ static struct {
     size_t read;
     bool calls;
     bool has_ended;
+    int given_up;
 } own;
 
 /* An order in words. */
@@ -188,6 +193,11 @@ static void attached_own(void *context) {
     strcpy(own.says, "paper 700\n");
 }
 
+static void give_up_own(void *context) {
+    (void)context;
+    own.given_up++;
+}
+
 /* The program must see this, so that the tests do. */
 static void end_own(void *context) {
     (void)context;
@@ -209,6 +219,7 @@ static kij_result open_own(void) {
     driver.is_online = is_online_own;
     driver.scan = scan_own;
     driver.attached = attached_own;
+    driver.given_up = give_up_own;
     driver.end = end_own;
     return kij_driver_open(till, device, &driver, NULL);
 }
@@ -280,10 +291,18 @@ static void print(bool is_later) {
     char *digits = strtok(NULL, "\n");
     size_t size = digits == NULL ? 0 : bytes_of(digits, (char *)bytes);
     kij_result result = {KIJ_OK, 0, KIJ_NO_CATEGORY};
-    if (printer == NULL) result = kij_start(till, KIJ_POS_PRINTER, "r1", KIJ_CLAIMED, &printer);
+    if (printer == NULL) result = kij_start(till, KIJ_POS_PRINTER, printer_name, KIJ_CLAIMED, &printer);
     if (result.code == KIJ_OK && is_later) result = kij_set_bool(printer, KIJ_PROP_ASYNC_MODE, true);
     if (result.code == KIJ_OK) result = kij_printer_print(printer, KIJ_PTR_S_RECEIPT, bytes, size);
     answer(result, "ok");
+}
+
+static const char *swap(void) {
+    kij_control *before = printer;
+    printer = other;
+    other = before;
+    printer_name = strcmp(printer_name, "r1") == 0 ? "r2" : "r1";
+    return "ok";
 }
 
 static const char *give_back(void) {
@@ -373,6 +392,8 @@ static void obey(char *line) {
     else if (strcmp(verb, "close") == 0) puts(give_back());
     else if (strcmp(verb, "reply") == 0) reply();
     else if (strcmp(verb, "drop") == 0) drop();
+    else if (strcmp(verb, "swap") == 0) puts(swap());
+    else if (strcmp(verb, "given") == 0) printf("%d\n", own.given_up);
     else if (strcmp(verb, "host") == 0) answer(kij_host(till, word()), "ok");
     else if (strcmp(verb, "tear") == 0) answer(kij_tear_off(till, word()), "ok");
     else if (strcmp(verb, "attach") == 0) answer(attach(), "ok");

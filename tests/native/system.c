@@ -483,25 +483,66 @@ static void try_patience(void) {
     close(listener);
 }
 
+enum { QUEUE = 8 };
+
+/* Fills the queue of a port that listens, at the first address of a port: it says nothing then. */
+static void fill(const kij_port *port, int *waiting) {
+    for (size_t place = 0; place < QUEUE; place++) {
+        waiting[place] = socket(AF_INET, SOCK_STREAM | SOCK_NONBLOCK | SOCK_CLOEXEC, 0);
+        (void)connect(waiting[place], (const struct sockaddr *)&port->addresses[0].place, port->addresses[0].size);
+    }
+}
+
+/* Empties the queue: it answers again. */
+static void empty(int listener, const int *waiting) {
+    for (size_t place = 0; place < QUEUE; place++) close(waiting[place]);
+    (void)fcntl(listener, F_SETFL, O_NONBLOCK);
+    for (int file; (file = accept(listener, NULL, NULL)) >= 0;) close(file);
+}
+
 /* An address that says nothing leaves time to the next one. */
 static void try_addresses(void) {
     kij_port port;
     char name[64];
-    int silent = 0, number = 0, full = listen_here(0, &silent), listener = listen_here(8, &number), waiting[8];
+    int silent = 0, number = 0, full = listen_here(0, &silent), listener = listen_here(8, &number), waiting[QUEUE];
     make_tcp(&port, name, sizeof name, silent);
     keep_address(&port, 0, silent);
-    for (size_t place = 0; place < 8; place++) {
-        waiting[place] = socket(AF_INET, SOCK_STREAM | SOCK_NONBLOCK | SOCK_CLOEXEC, 0);
-        (void)connect(waiting[place], (struct sockaddr *)&port.addresses[0].place, port.addresses[0].size);
-    }
+    fill(&port, waiting);
     keep_address(&port, 1, number);
     int64_t began = kij_internal_now();
     told("the second address", true, kij_internal_port_open(&port, 1000));
     told("after half of the time", true, kij_internal_now() - began < 900);
     kij_internal_port_close(&port);
-    for (size_t place = 0; place < 8; place++) close(waiting[place]);
+    empty(full, waiting);
     close(full);
     close(listener);
+}
+
+/* A connection that isn't made in the time of a call is made on, and a later call finds it without waiting. */
+static void try_joining(void) {
+    kij_port port;
+    char name[64];
+    int silent = 0, full = listen_here(0, &silent), waiting[QUEUE];
+    make_tcp(&port, name, sizeof name, silent);
+    keep_address(&port, 0, silent);
+    fill(&port, waiting);
+    told("it isn't open at once", false, kij_internal_port_open(&port, 1));
+    told("why", ETIMEDOUT, port.error);
+    told("it is being opened", true, port.is_joining);
+    int64_t began = kij_internal_now();
+    told("nor later", false, kij_internal_port_open(&port, 500));
+    told("that isn't waited for", true, kij_internal_now() - began < 400);
+    kij_internal_port_close(&port);
+    told("it is given up", false, port.is_joining);
+    told("it is begun again", false, kij_internal_port_open(&port, 1));
+    /* The system asks again after a second. */
+    port.join_ends_at += 30000;
+    empty(full, waiting);
+    while (!kij_internal_port_open(&port, 1) && port.is_joining) kij_internal_sleep(10);
+    told("it is there", true, kij_internal_port_is_open(&port));
+    told("nothing is left to open", false, port.is_joining);
+    kij_internal_port_close(&port);
+    close(full);
 }
 
 /* A device that is readable all the time, and gives nothing, doesn't keep the loop busy. */
@@ -752,6 +793,7 @@ int main(int count, char **words) {
     try_endless();
     try_signal();
     try_addresses();
+    try_joining();
     try_patience();
     try_empty();
     try_given_back();

@@ -34,6 +34,9 @@ NOTHING = "nothing"
 # `first` are another scenario's.
 Scenario = collections.namedtuple("Scenario", "name start entries allowed ways syncs harmless first")
 
+# The lines by which a run goes on after a fault, how often, and the last one.
+AGAIN, TURNS, LAST = ["set a DeviceEnabled false", "set a DeviceEnabled true"], 4, "get a NumberOfFiles"
+
 # After so many files that are amiss a scenario ends.
 ENOUGH_AMISS = 50
 
@@ -93,10 +96,11 @@ class Bench:
     def wrapper(self):
         return [sys.executable, "-B", str(HERE / "wrapper.py"), self.library, str(self.file)]
 
-    def talk(self, words, batches=(), stop=0):
-        """Runs words, recorded, with batches of lines, each written once the one before is answered: the answers and the status."""
+    def talk(self, words, batches=(), stop=0, fault=(0, 0)):
+        """Runs words, recorded, with batches of lines, each written once the one before is answered: the answers and the status.
+        A fault is the number of the first write or sync that fails, and how many do."""
         env = dict(os.environ, LD_PRELOAD=str(self.folder / "recorder.so"), POWERCUT_FILE=str(self.file),
-                   POWERCUT_LOG=str(self.log), POWERCUT_STOP=str(stop))
+                   POWERCUT_LOG=str(self.log), POWERCUT_STOP=str(stop), POWERCUT_FAIL=" ".join(map(str, fault)))
         running = subprocess.Popen(words, stdin=subprocess.PIPE, stdout=subprocess.PIPE, stderr=subprocess.PIPE, env=env)
         answers = []
         try:
@@ -109,7 +113,7 @@ class Bench:
             pass
         running.stdin = None
         rest, said = running.communicate()
-        if said:
+        if said and fault == (0, 0):
             print(said.decode()[-1000:].rstrip())
         return [line.rstrip("\n") for line in answers] + rest.decode().split("\n")[:-1], running.returncode
 
@@ -388,6 +392,56 @@ class Recorder:
         syncs = {OPENING: [] if opening is None else [opening]}
         return Scenario(name, start, entries, allowed, cuts.ANY, syncs, set(), begun)
 
+    def faulted(self, name, start, layout, fault, script, count):
+        """A run with the changes of a script in which the disk fails, and another one over what it finds then. The change in
+        which it fails is in the file whole or not at all. No later one is done, and the disk is asked nothing more until the
+        totals are enabled anew: in vain once a sync has failed."""
+        at, is_sync, times = fault
+        files = self.reader.read(start).files
+        one = Talk(layout, files, self.changes(script, layout, files, count))
+        self.bench.lay(start)
+        batches = [*one.batches, *([line] for line in AGAIN * TURNS), [LAST]]
+        answers, status = self.bench.talk(self.bench.run(self.bench.file), batches, fault=(at, times))
+        changed, again = answers[:len(one.answers)], answers[len(one.answers):]
+        done = next((place for place, pair in enumerate(zip(changed, one.answers)) if pair[0] != pair[1]), len(changed))
+        entries = self.bench.entries()
+        begun, was_answered = len(entries), answered_by(entries)
+        told(f"{name}: a line fails, and all behind it", status == 0 and changed[done:done + 1] == ["err 111"]
+             and len(changed) == len(one.answers) and all(answer in ("err 111", "err 105") for answer in changed[done:]),
+             f"status {status}, {changed[done:done + 5]}")
+        told(f"{name}: the disk is asked nothing more", all(
+            entry.kind == "A" for number, entry in enumerate(entries) if done < was_answered[number] < len(one.answers)))
+        seen = self.reader.read(self.bench.file.read_bytes())
+        told(f"{name}: the change is there whole or not at all", outcome(seen) in one.allowed(done), tell(outcome(seen)))
+        is_lost = is_sync or times != 1
+        wanted = ["ok", "err 111" if is_lost else "ok"] * TURNS + ["err 105" if is_lost else f"ok {len(seen.files)}"]
+        told(f"{name}: the totals are enabled anew", again == wanted, again)
+        other = Talk(layout, seen.files, self.changes(name + " again", layout, seen.files, 3))
+        self.is_recorded(name, start, self.bench.talk(self.bench.run(self.bench.file), other.batches), (other.answers, 0))
+        entries = self.bench.entries()
+        is_answered = answered_by(entries[begun:])
+
+        def allowed(number):
+            if number <= begun or is_answered[number - begun] < len(changes.BEGIN):
+                return one.allowed(min(was_answered[min(number, begun)], done))
+            return other.allowed(is_answered[number - begun])
+
+        # The moments before the fault are another scenario's.
+        first = next(number for number in range(begun + 1) if was_answered[number] >= max(done - 1, 0))
+        return Scenario(name, start, entries, allowed, cuts.ANY, {}, set(), first)
+
+    def faulted_move(self, name, start, fault):
+        """A move in which the disk fails, and another one over what it left."""
+        files = self.reader.read(start).files
+        self.bench.lay(start)
+        _, status = self.bench.talk(self.bench.verb("migrate"), fault=fault)
+        seen, is_moved = self.reader.read(self.bench.file.read_bytes()), (2, files)
+        told(f"{name}: it fails, and keeps the files", status == 4 and outcome(seen) in [(1, files), is_moved], f"status {status}")
+        _, status = self.bench.talk(self.bench.verb("migrate"))
+        told(f"{name}: the next one moves them, or they were", status == (4 if outcome(seen) == is_moved else 0), f"status {status}")
+        told(f"{name}: they are moved", outcome(self.reader.read(self.bench.file.read_bytes())) == is_moved)
+        return Scenario(name, start, self.bench.entries(), lambda _: [(1, files), is_moved], cuts.ANY, {}, set(), 0)
+
     def command(self, name, start, verb, before, behind, ways, kinds, harmless=()):
         """A command that does one thing: what has to be found before it ends well, and then."""
         self.bench.lay(start)
@@ -435,6 +489,29 @@ def gate_writes(entries):
     return [number for number, entry in enumerate(writes, 1) if entry.text == b"\xa5"]
 
 
+def faults(chance, entries):
+    """Faults of the disk at what a change does in turn: the write before each kind of sync, and the sync; some that pass and
+    one that doesn't."""
+    acts, places, moment = 0, collections.defaultdict(list), cuts.begun(b"")
+    for entry in entries:
+        if entry.kind in "WS":
+            acts += 1
+        if entry.kind == "S":
+            places[sync_of(entry, moment)].append(acts)
+        moment = cuts.after(moment, entry)
+    for kind in (RECORD, RECORD_GATE, CLOSED_GATE, IMAGE, OPEN_GATE):
+        for is_sync, times in ((True, 1), (False, 1), (False, chance.choice([2, 3, -1]))):
+            what = f"the {'sync' if is_sync else 'write'} of {kind}, {'for good' if times < 0 else times}"
+            yield what, (chance.choice(places[kind]) - (not is_sync), is_sync, times)
+
+
+def fault_all(judge, recorder, one, start, layout, looks):
+    """Has the disk fail in the changes of a run."""
+    for name, fault in faults(judge.chance("faults", layout), one.entries):
+        name = f"layout {layout}, a fault at {name}"
+        judge.try_all(recorder.faulted(name, start, layout, fault, one.name, 420), 60, looks)
+
+
 def format_all(judge, recorder, looks):
     noise = close_others(bytearray(judge.chance("noise").randbytes(reader.LENGTH + 5000).translate(GATED)))
     for name, start in (("no file", None), ("an empty file", b""), ("a short file", bytes(noise[:70000])),
@@ -469,8 +546,14 @@ def try_scenarios(judge, recorder, looks):
     judge.try_all(recorder.run("run in batches", old, 1, 150, 5, is_whole=False), 60, looks)
     for number, stop in enumerate(judge.chance("kills").sample(gate_writes(one.entries), 8)):
         judge.try_all(recorder.killed(f"run that is killed {number + 1}", bench.run(bench.file), new, 1, stop, one.name, 420), 60, looks)
+    fault_all(judge, recorder, one, new, 1, looks)
+    for fault in ((2, -1), (3, 1), (5, 1), (7, 2), (7, -1), (8, 1)):
+        judge.try_all(recorder.faulted_move(f"a move with a fault at act {fault}", old, fault), 60, looks)
     migrate_all(judge, recorder, (("no files", new), ("files", old), ("files before noise", noise_around(judge.chance("before"), old))), looks)
-    kept = judge.try_all(recorder.run("run by layout 2", bench.file.read_bytes(), 2, 420), 60, looks)
+    moved = bench.file.read_bytes()
+    two = recorder.run("run by layout 2", moved, 2, 420)
+    kept = judge.try_all(two, 60, looks)
+    fault_all(judge, recorder, two, moved, 2, looks)
     go_on(judge, recorder, "run by layout 2 over what a cut left", kept, 2, looks)
     judge.try_all(recorder.wrapper("a till in Python", 420), 60, looks)
     judge.try_all(recorder.killed("a till in Python that is killed", bench.wrapper(), None, 1, -1, "killed", 5), 60, looks)

@@ -2,7 +2,9 @@
    writes and its syncs. The syncs of its folder are recorded too, and what the program writes to standard output. The loader
    puts it before the C library.
    POWERCUT_FILE is the path of the file, POWERCUT_LOG that of the record, which is appended to. With POWERCUT_STOP the
-   program is killed after the write to the file with this number, or, if it is -1, once the file has its name.
+   program is killed after the write to the file with this number, or, if it is -1, once the file has its name. With
+   POWERCUT_FAIL, two numbers, so many writes and syncs of the file fail from the one with the first number on, all if the
+   second is -1: of a write half is done, of a sync nothing.
    An entry is a kind, a place and a count, and for a write or an output so many bytes. An act enters the record once it is
    done, but an output before it is made: only what was synced by then makes it true. */
 #define _GNU_SOURCE
@@ -27,6 +29,8 @@ static int record = -1;
 static const char *path;
 static char folder[4096];
 static long stop;
+/* How many writes and syncs the file has had, which of them is the first that fails, and how many fail. */
+static long acts, first_failed, failed;
 /* A file that has no name yet. */
 static dev_t device;
 static ino_t nameless;
@@ -36,6 +40,7 @@ __attribute__((constructor)) static void begin(void) {
     path = getenv("POWERCUT_FILE");
     if (!log || !path || strlen(path) >= sizeof folder) return;
     stop = getenv("POWERCUT_STOP") ? atol(getenv("POWERCUT_STOP")) : 0;
+    if (getenv("POWERCUT_FAIL")) sscanf(getenv("POWERCUT_FAIL"), "%ld %ld", &first_failed, &failed);
     last = strrchr(path, '/');
     snprintf(folder, sizeof folder, "%.*s", last ? (int)(last - path) : 1, last ? path : ".");
     record = (int)syscall(SYS_openat, AT_FDCWD, log, O_WRONLY | O_CREAT | O_APPEND | O_CLOEXEC, 0644);
@@ -85,6 +90,13 @@ static void wrote(uint64_t at, const void *bytes, ssize_t count) {
     if (stop > 0 && --stop == 0) kill(getpid(), SIGKILL);
 }
 
+/* Whether a write or a sync is one of the file that fails. */
+static int fails(int file) {
+    if (first_failed == 0 || !is_at(file, path)) return 0;
+    acts++;
+    return acts >= first_failed && (failed < 0 || acts < first_failed + failed);
+}
+
 static int opened(int file, int flags, int was_there) {
     struct stat made;
     if (record >= 0 && file >= 0 && (flags & O_TMPFILE) == O_TMPFILE && fstat(file, &made) == 0) {
@@ -125,9 +137,12 @@ OPENAT(openat64)
 
 #define PWRITE(name)                                                   \
     ssize_t name(int file, const void *bytes, size_t count, off_t at) { \
+        int is_failed = fails(file);                                   \
+        if (is_failed) count /= 2;                                     \
         ssize_t done = REAL(ssize_t, #name, int, const void *, size_t, off_t)(file, bytes, count, at); \
-        if (is_at(file, path)) wrote((uint64_t)at, bytes, done);       \
-        return done;                                                   \
+        if (is_at(file, path) && count > 0) wrote((uint64_t)at, bytes, done); \
+        if (is_failed) errno = EIO;                                    \
+        return is_failed ? -1 : done;                                  \
     }
 PWRITE(pwrite)
 PWRITE(pwrite64)
@@ -158,6 +173,7 @@ TRUNCATE(ftruncate64)
 
 #define SYNC(name)                                                     \
     int name(int file) {                                               \
+        if (fails(file)) return errno = EIO, -1;                       \
         int done = REAL(int, #name, int)(file);                        \
         if (done == 0 && is_at(file, path)) enter('S', 0, 0, NULL);    \
         if (done == 0 && is_at(file, folder)) enter('D', 0, 0, NULL);  \

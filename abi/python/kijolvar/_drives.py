@@ -50,7 +50,8 @@ class Drive:
 
     def inputs(self) -> bytes:
         """What has happened at the device and the till hasn't taken yet, as lines of inputs. One that is back is on
-        first, and one that has gone off is off after all that it has read: the till takes nothing of one that is off."""
+        first, and one that has gone off is off after all that it has read: the till takes nothing of one that is
+        off."""
         # From a failed scan on a control ignores codes, so those that have come are told before what happened.
         has_scans = self.has_scans()
         is_on = self.driver.is_online or has_scans
@@ -92,6 +93,8 @@ class Drives:
         self._by_word: dict[bytes, Drive] = {}
         # What went wrong behind an order that was done.
         self._fault: Exception | None = None
+        # Whether lines may have opened a control: on which device it is isn't known then.
+        self.has_opened = False
         session.serve = self.serve
         session.served = self.served
         session.given_up = self.gave_up
@@ -130,8 +133,8 @@ class Drives:
             drive.driver.close()
 
     def attach(self, name: str, line: bytes) -> bytes:
-        """Carries out a line that attaches a peripheral to a device, and returns the answer. If the device has a driver,
-        that goes on with it before another line can order something of it."""
+        """Carries out a line that attaches a peripheral to a device, and returns the answer. If the device has a
+        driver, that goes on with it before another line can order something of it."""
         is_done = False
         try:
             answer = self._till._carry_out(line)
@@ -201,8 +204,8 @@ class Drives:
                 return
 
     def gave_up(self, line: bytes, answer: bytes | None) -> None:
-        """A line was carried out. If it gives up what a printer's control has ordered, the printer's driver is told. One
-        whose answer is lost was done."""
+        """A line was carried out. If it gives up what a printer's control has ordered, the printer's driver is told.
+        One whose answer is lost was done."""
         words = line.partition(b"\n")[0].split()
         is_done = answer is None or answer.startswith((b"ok\n", b"event ErrorEvent "))
         if (*words[:1], *words[2:]) not in _GIVES_UP or not is_done:
@@ -216,9 +219,10 @@ class Drives:
             self.give_up()
 
     def give_up(self, device: str | None = None) -> None:
-        """The application has given up what a printer, or any one, didn't print."""
+        """The application has given up what a printer didn't print, or any printer if that isn't known."""
         for drive in list(self._drives.values()):
-            if drive.category == "POSPrinter" and device in (None, drive.name):
+            is_meant = self.has_opened or device in (None, drive.name)
+            if drive.category == "POSPrinter" and is_meant:
                 try:
                     drive.driver.given_up()
                 except Exception as fault:
@@ -228,8 +232,8 @@ class Drives:
     # Inputs.
 
     def hand_in(self) -> bool:
-        """Tells the till what has happened at the devices, and returns whether anything has. If something is refused, it
-        tells the others first."""
+        """Tells the till what has happened at the devices, and returns whether anything has. If something is refused,
+        it tells the others first."""
         return not is_called(self, "hand_in") and self._each(self._hand_in)
 
     def _hand_in_behind(self) -> None:
@@ -264,8 +268,8 @@ class Drives:
         return True
 
     def _tells_scans(self, drive: Drive) -> bool:
-        """Tells the codes that were read, each once, and returns whether there were any. One that isn't on for the till,
-        for want of memory, has none yet."""
+        """Tells the codes that were read, each once, and returns whether there were any. One that isn't on for the
+        till, for want of memory, has none yet."""
         if drive.left or not drive.has_scans():
             return False
         while drive.scans:
@@ -304,7 +308,8 @@ class Drives:
             self._wait(min(left, _OFTEN))
 
     def _round(self) -> bool:
-        """Does what the devices need, and returns whether anything was done. If something fails, the rest is done first."""
+        """Does what the devices need, and returns whether anything was done. If something fails, the rest is done
+        first."""
         stages: tuple[Callable[[], bool], ...] = (
             functools.partial(self._each, self._polls), self.hand_in,
             functools.partial(self._each, self._tells_scans), functools.partial(self._each, self._works))

@@ -74,13 +74,13 @@ class ProfileError(LibraryFault):
 
 
 class NoMemoryError(LibraryFault, MemoryError):
-    """The library had no memory for a call. Nothing has changed, unless `library_code` is KIJOLVAR_CUT: then the call was
-    carried out, or some of its lines, and the answer is lost."""
+    """The library had no memory for a call. Nothing has changed, unless `library_code` is KIJOLVAR_CUT: then the call
+    was carried out, or some of its lines, and the answer is lost."""
 
 
 class DiskError(LibraryFault):
-    """The file of the totals failed, or an interrupt came while a change was written. What the last call changed may not
-    be in the file; the till can only be closed."""
+    """The file of the totals failed, or an interrupt came while a change was written. What the last call changed may
+    not be in the file; the till can only be closed."""
 
 
 class DamagedError(LibraryFault):

@@ -34,11 +34,11 @@ _READ_AT_ONCE = 64
 # What the library has to know was asked.
 _PRINTER, _CAUSE, _PAPER_IN_ORDER = int(Asked.PRINTER), int(Asked.OFFLINE_CAUSE), int(Asked.PAPER_IN_ORDER)
 # How long a lost port may take to open while other devices wait, and how often a printer is asked, in seconds.
-_QUICKLY, _OFTEN = 0.25, 0.1
+_QUICKLY, _OFTEN = 0.02, 0.1
 # How long late answers may be apart, in seconds.
 _APART = 0.5
-# How long a printer whose line holds back what is sent may say nothing while something is due, and how long after it has
-# stopped it may acknowledge what was before that, in seconds.
+# How long a printer whose line holds back what is sent may say nothing while something is due, and how long after it
+# has stopped it may acknowledge what was before that, in seconds.
 _SILENT, _SHORTLY = 2.0, 1.0
 # What ends a piece: a line feed, a pulse, a feed, or a cut.
 _PIECE = re.compile(rb"(?:\x1b[^pd].|[^\n\x1b\x1d]++)*+(?:\n|\x1bp...|\x1bd.|\x1dV(?:[AB].|[^AB])|\Z)", re.S)
@@ -135,13 +135,13 @@ class PrinterLink:
     """The line to a printer, which acknowledges in order what it has printed.
 
     Any port may stay open while the printer is off, and lose what is sent: a serial line does, and so do a cable with a
-    chip of its own and a print server. So a piece is printed only if its own acknowledgement comes. One that comes for a
-    later piece says that the earlier ones are printed or lost, and they are sent again.
+    chip of its own and a print server. So a piece is printed only if its own acknowledgement comes. One that comes for
+    a later piece says that the earlier ones are printed or lost, and they are sent again.
 
-    A line that holds back what is sent keeps a part of it while the printer is off, and gives it to the printer later: a
-    tail that was kept would be acknowledged as the whole. So nothing of what is due counts any more once a printer on such
-    a line has said nothing for a time, or nobody has looked for so long. One that has stopped may take nothing, and
-    needn't say anything.
+    A line that holds back what is sent keeps a part of it while the printer is off, and gives it to the printer later:
+    a tail that was kept would be acknowledged as the whole. So nothing of what is due counts any more once a printer on
+    such a line has said nothing for a time, or nobody has looked for so long. One that has stopped may take nothing,
+    and needn't say anything.
 
     An interrupt, which a signal's handler may raise between any two steps, costs at most what a lost acknowledgement
     costs. So each step stands for itself: what is to be acknowledged is noted before it may go out, and a reply is
@@ -216,11 +216,12 @@ class PrinterLink:
     # Orders.
 
     def carry_out(self, wire: Wire, is_once: bool = True) -> bool:
-        """Sends the order that is out, and returns whether the printer acknowledged it. It has failed once the printer has
-        acknowledged nothing for the timeout.
+        """Sends the order that is out, and returns whether the printer acknowledged it. It has failed once the printer
+        has acknowledged nothing for the timeout.
 
-        If an order failed and the next one is the same, only what wasn't printed is sent again, unless it was given up. An
-        order that is done has failed, too, if an interrupt comes before its report. With is_once false it is sent whole.
+        If an order failed and the next one is the same, only what wasn't printed is sent again, unless it was given up.
+        An order that is done has failed, too, if an interrupt comes before its report. With is_once false it is sent
+        whole.
         """
         if is_called(self, "poll"):
             # A signal's handler orders something by another driver of the line.
@@ -327,8 +328,8 @@ class PrinterLink:
             self._ask()
 
     def _minds_absence(self) -> None:
-        """If nobody has looked for long, a printer whose line keeps a part of what is due may have been off meanwhile: what
-        it has acknowledged since is no whole line."""
+        """If nobody has looked for long, a printer whose line keeps a part of what is due may have been off meanwhile:
+        what it has acknowledged since is no whole line."""
         now, unseen = time.monotonic(), min(self.timeout, _SILENT) / 2
         is_silent = now - max(self._heard_at, self._began_at) >= _SILENT
         if self.is_online and self._is_held() and is_silent and now - self._looked_at >= unseen:
@@ -341,8 +342,8 @@ class PrinterLink:
         return is_any and self.port.holds_back and not self.is_stopped
 
     def _tears(self) -> None:
-        """The printer may have lost a part of what is due, and the line may have kept the rest: nothing of it counts any
-        more. The printer is asked whether it is there."""
+        """The printer may have lost a part of what is due, and the line may have kept the rest: nothing of it counts
+        any more. The printer is asked whether it is there."""
         for parcel in self._due:
             if parcel.job is not None:
                 parcel.job.is_torn = True
@@ -358,8 +359,8 @@ class PrinterLink:
         self._due.clear()
 
     def _was_reset(self) -> bool:
-        """Whether a printer that acknowledges something has lost its power since it stopped. It would have said first that
-        it goes on."""
+        """Whether a printer that acknowledges something has lost its power since it stopped. It would have said first
+        that it goes on."""
         return self.is_stopped and self.port.holds_back and time.monotonic() - self._told_at > _SHORTLY
 
     def _post(self, job: Job) -> None:
@@ -390,8 +391,8 @@ class PrinterLink:
                 parcel.job.sent -= 1
 
     def _takes_as_sent(self) -> None:
-        """After an interrupt of `_writes` nobody knows what went out. All counts as sent: what wasn't is found out as what
-        was lost is. The zero bytes end a command that has begun."""
+        """After an interrupt of `_writes` nobody knows what went out. All counts as sent: what wasn't is found out as
+        what was lost is. The zero bytes end a command that has begun."""
         if self._is_unsure:
             self._outbox.clear()
             self._puts(_ZEROS)
@@ -508,8 +509,8 @@ class PrinterLink:
         return True
 
     def _asks_on(self) -> None:
-        """Asks what a printer doesn't say by itself: why it is offline. An answer doesn't say what was asked, so those to
-        earlier questions have to come first."""
+        """Asks what a printer doesn't say by itself: why it is offline. An answer doesn't say what was asked, so those
+        to earlier questions have to come first."""
         if self._is_unclear and self._asked_at is None and time.monotonic() >= self._late_until:
             self._is_unclear, self._asked_what = False, _CAUSE
             self._ask()
@@ -549,7 +550,9 @@ class PrinterLink:
         """Reads what has come and sends what is left, without waiting. A port that was lost is opened again."""
         now = time.monotonic()
         if not self.port.is_open:
-            if now - self._tried_at >= self._pause:
+            if self.port.is_opening:
+                self._connect(0)
+            elif now - self._tried_at >= self._pause:
                 self._connect(min(self.timeout, _QUICKLY))
             return
         try:
@@ -603,8 +606,8 @@ class PrinterLink:
         self._ask()
 
     def _refreshes(self, now: float) -> None:
-        """Asks for the whole status, which the printer then tells at each change, also if it was off and on again. While
-        it can't print, it may keep the question for later, so that it is asked once."""
+        """Asks for the whole status, which the printer then tells at each change, also if it was off and on again.
+        While it can't print, it may keep the question for later, so that it is asked once."""
         if not self._is_refreshing:
             self._is_refreshing, self._refreshed_at = True, now
             self._puts(self._refresh)
@@ -665,8 +668,8 @@ class AskedLink(PrinterLink):
         return self._question
 
     def _asks_on(self) -> None:
-        """Asks the questions of DLE EOT, one after the other: the printer, why it is offline, the paper. It begins again if
-        one isn't answered in time."""
+        """Asks the questions of DLE EOT, one after the other: the printer, why it is offline, the paper. It begins
+        again if one isn't answered in time."""
         pause = self.timeout if self._unanswered else _OFTEN
         if self._is_late:
             pause = min(pause, _APART)
@@ -747,14 +750,14 @@ class AskedLink(PrinterLink):
         self._send(job.pieces[job.sent - 1], job, job.sent)
 
     def _discounts_due(self) -> None:
-        """What is due counts for nothing, but stays due. Its acknowledgements may still come, and mustn't count for what
-        is sent next."""
+        """What is due counts for nothing, but stays due. Its acknowledgements may still come, and mustn't count for
+        what is sent next."""
         for parcel in self._due:
             parcel.job = None
 
     def _gives_up(self) -> None:
-        """Waits for acknowledgements that are late. They are lost if none comes for the whole time, although the printer
-        says that it can print."""
+        """Waits for acknowledgements that are late. They are lost if none comes for the whole time, although the
+        printer says that it can print."""
         if not self._due:
             return
         count, rounds = len(self._due), self._rounds

@@ -68,8 +68,8 @@ class _Mark:
 
 
 def _as_call(method: Callable[Concatenate[Session, P], T]) -> Callable[Concatenate[Session, P], T]:
-    """Makes a method of a session a call: it refuses another thread, a till that is closed, and a call while another one
-    is under way. A driver may make it while it carries out an order."""
+    """Makes a method of a session a call: it refuses another thread, a till that is closed, and a call while another
+    one is under way. A driver may make it while it carries out an order."""
 
     @functools.wraps(method)
     def as_call(self: Session, /, *words: P.args, **named: P.kwargs) -> T:
@@ -143,7 +143,8 @@ class Session:
         self.taken: Callable[[bool, list[bytes]], object] | None = None
         #: Is called after lines whose orders were carried out so.
         self.served: Callable[[], object] | None = None
-        #: Is called with a line that may give up what a driven printer didn't print, and its answer, unless that is lost.
+        #: Is called with a line that may give up what a driven printer didn't print, and its answer, unless that is
+        #: lost.
         self.given_up: Callable[[bytes, bytes | None], object] | None = None
         #: Is called once the till has ended, if it was closed while a call was under way.
         self.ended: Callable[[], object] | None = None
@@ -199,7 +200,8 @@ class Session:
 
     @property
     def is_ending(self) -> bool:
-        """Whether the till was closed while a call was under way, which ends it and may write to its file until then."""
+        """Whether the till was closed while a call was under way, which ends it and may write to its file until
+        then."""
         return self._mark.is_ending
 
     @property
@@ -262,8 +264,8 @@ class Session:
             self._refuse_closed()
 
     def check_call(self, is_line: bool = False) -> None:
-        """Refuses what `check` does, and a call while another one is under way. One with lines is refused during an order
-        too."""
+        """Refuses what `check` does, and a call while another one is under way. One with lines is refused during an
+        order too."""
         self.check()
         if self._mark.doing:
             self._met(is_line)
@@ -287,8 +289,8 @@ class Session:
         self._later.append(deed)
 
     def settle_later(self) -> None:
-        """Does what was to be done later, unless a call is under way. A deed stays until it is done, also if an interrupt
-        comes."""
+        """Does what was to be done later, unless a call is under way. A deed stays until it is done, also if an
+        interrupt comes."""
         if self._mark.doing or is_called(self, "settle_later"):
             return
         for _ in range(len(self._later)):
@@ -410,8 +412,8 @@ class Session:
 
     def _told(self, code: int, is_wanted: bool = True) -> bytes:
         """The whole answer to lines, by the code of the call that began with them. The orders for which lines wait are
-        carried out meanwhile, or reported as failed if nobody wants the answer. If memory runs out for the report of what
-        was printed, it is reported the next time, and the call has no answer."""
+        carried out meanwhile, or reported as failed if nobody wants the answer. If memory runs out for the report of
+        what was printed, it is reported the next time, and the call has no answer."""
         room, parts, tries, is_told = self._room, list[bytes](), 0, False
         report, self._unreported = self._unreported, None
         is_any_done = report is not None
@@ -516,8 +518,8 @@ class Session:
         return order
 
     def _give_up(self) -> None:
-        """Ends lines of an earlier call that was interrupted, or for which memory ran out: an order that wasn't printed has
-        failed, and nobody wants the answer. Without memory for that nothing of the new lines was done."""
+        """Ends lines of an earlier call that was interrupted, or for which memory ran out: an order that wasn't printed
+        has failed, and nobody wants the answer. Without memory for that nothing of the new lines was done."""
         self._is_holding = False
         try:
             self._told(self._answer_into(self._room), is_wanted=False)

@@ -36,10 +36,11 @@ Protocol = Literal["cd5220", "escpos"]
 _CUTTERS, _PROTOCOLS = ("both", "full", "partial", "absent"), ("cd5220", "escpos")
 # The most lines that a printer's device counts.
 _MOST_LINES = 100_000
-# As many lines as a request of line feeds alone feeds; and from how many lines on the count begins again before its end.
+# As many lines as a request of line feeds alone feeds; and from how many lines on the count begins again before its
+# end.
 _MOST_FEEDS, _LONG = 4096, 100
 # How long a lost port may take to open, in seconds, while other devices wait.
-_QUICKLY = 0.25
+_QUICKLY = 0.02
 # After how long without an order nobody knows what a display shows, in seconds.
 _UNSEEN = 10.0
 
@@ -57,7 +58,8 @@ class Driver:
 
     @property
     def is_online(self) -> bool:
-        """Whether the device is there. If not, the till takes it as switched off, once it has taken what `scans` returns."""
+        """Whether the device is there. If not, the till takes it as switched off, once it has taken what `scans`
+        returns."""
         return True
 
     @property
@@ -102,19 +104,20 @@ class Driver:
 
     def read_ahead(self) -> int | None:
         """Reads what a scanner has sent (`Port.glance`), and keeps it for `poll`, while an order waits at a `Port` of
-        another device: the system keeps little of what a keyboard types. Returns the file descriptor if more may be read
-        once it comes.
+        another device: the system keeps little of what a keyboard types. Returns the file descriptor if more may be
+        read once it comes.
 
         It mustn't wait. The order fails if it raises anything but PortError.
         """
         return None
 
     def attached(self) -> None:
-        """The device has another peripheral now (`attach`), which shows nothing yet of what this driver has said before.
-        The orders are the driver's again."""
+        """The device has another peripheral now (`attach`), which shows nothing yet of what this driver has said
+        before. The orders are the driver's again."""
 
     def given_up(self) -> None:
-        """The application has given up what a printer didn't print. The same order is a new one from now on."""
+        """The application has given up what a printer didn't print. The same order is a new one from now on. Once a
+        line has opened a control (`Till.carry_out`), it may be another printer's."""
 
     def close(self) -> None:
         """Ends, and closes the port. It isn't called in a process that was forked from the till's."""
@@ -124,14 +127,15 @@ class EscPosPrinter(Driver):
     """A receipt printer with ESC/POS, and the drawer on its connector.
 
     An order counts as done once the printer has acknowledged it (GS ( H). If an order failed and the next one is the
-    same, as a retry is, only the lines and cuts that the printer hasn't acknowledged are sent again, also if the control
-    was released or closed meanwhile. It is a new order, of which all is printed, if the application has given up the one
-    that failed: with `clear_output`, or with the reply ER_CLEAR to its ErrorEvent.
+    same, as a retry is, only the lines and cuts that the printer hasn't acknowledged are sent again, also if the
+    control was released or closed meanwhile. It is a new order, of which all is printed, if the application has given
+    up the one that failed: with `clear_output`, or with the reply ER_CLEAR to its ErrorEvent. Once a line has opened a
+    control (`Till.carry_out`), each gives up the failed orders of all printers.
 
     A serial line with flow control keeps what was sent while the printer is off. If the printer says nothing for 2
     seconds, or for the timeout if that is shorter, the order has failed, and what isn't acknowledged of it is printed
-    again: parts of lines may be on the paper beside the whole ones. So is what it acknowledges of an order that failed for
-    no reason (FailureError) while the till doesn't look for 2 seconds, as `run_devices` does: it may have been off.
+    again: parts of lines may be on the paper beside the whole ones. So is what it acknowledges of an order that failed
+    for no reason (FailureError) while the till doesn't look for 2 seconds, as `run_devices` does: it may have been off.
 
     Args:
         port: The port, or its name as `port_of` takes it: /dev/usb/lp0, /dev/ttyUSB0, tcp:192.168.1.9:9100.
@@ -185,8 +189,8 @@ class EscPosPrinter(Driver):
 
     @property
     def late_orders(self) -> int:
-        """How many orders were printed after they had failed, and weren't asked for again, or were given up. The printer
-        had got them before it stopped, and there is no command that takes them back."""
+        """How many orders were printed after they had failed, and weren't asked for again, or were given up. The
+        printer had got them before it stopped, and there is no command that takes them back."""
         return self.link.late
 
     @property
@@ -363,8 +367,8 @@ def _told(link: PrinterLink, wire: Wire) -> list[str]:
 class SerialDisplay(Driver):
     """A customer display with CD5220 or ESC/POS. It shows characters: blinking and reverse ones as normal ones.
 
-    A display answers nothing. Over a serial line an order counts as done once its bytes have left this machine; over TCP
-    and /dev/usb/lp0 once the system has taken them. A display that was lost shows all its rows again with the next
+    A display answers nothing. Over a serial line an order counts as done once its bytes have left this machine; over
+    TCP and /dev/usb/lp0 once the system has taken them. A display that was lost shows all its rows again with the next
     order. One with its own power supply may have been off, which nobody can see. So it also gets all its rows with an
     order that changes nothing, and with one after 10 seconds without any.
 
@@ -435,7 +439,9 @@ class SerialDisplay(Driver):
 
     def poll(self) -> None:
         if not self.port.is_open:
-            if time.monotonic() - self._tried_at >= self._pause:
+            if self.port.is_opening:
+                self._connect(0)
+            elif time.monotonic() - self._tried_at >= self._pause:
                 self._connect(_QUICKLY)
             return
         self._listen()
@@ -637,7 +643,7 @@ class WedgeScanner(Driver):
 
     def poll(self) -> None:
         if not self.port.is_open:
-            if time.monotonic() - self._tried_at < self._pause:
+            if not self.port.is_opening and time.monotonic() - self._tried_at < self._pause:
                 return
             self._reader = self._new_reader()
         typed, self._typed = bytes(self._typed), bytearray()
@@ -674,7 +680,7 @@ class WedgeScanner(Driver):
 
     def _open(self) -> None:
         try:
-            self.port.open(_QUICKLY)
+            self.port.open(0 if self.port.is_opening else _QUICKLY)
         finally:
             self._tried_at = time.monotonic()
 

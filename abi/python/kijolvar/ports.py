@@ -1,6 +1,7 @@
 """The ports of devices: a file such as /dev/usb/lp0, a serial line such as /dev/ttyUSB0, or a TCP port.
 
-A driver opens its port when it needs it, and opens it again after it was lost. No call waits longer than it is told.
+A driver opens its port when it needs it, and opens it again after it was lost. No call waits longer than it is told,
+unless a name has to be looked up.
 """
 from __future__ import annotations
 
@@ -36,6 +37,8 @@ _MOST_PARTS = 16
 # For how long the addresses of a name are kept though nothing answers there, and for how long a name isn't looked up
 # again whose look-up took longer than this and found nothing, in seconds.
 _LOOKED_UP_FOR, _QUICKLY = 60.0, 0.25
+# How long a host has to answer at least, though no call waits for it so long, in seconds.
+_ANSWERS = 1.0
 # How long the other end of a TCP port may take to acknowledge what was sent, in milliseconds; and how often it is asked
 # whether it is there, while nothing is sent, in seconds. Else one that was cut off is noticed after minutes or hours.
 _ACKNOWLEDGED_WITHIN, _ASKED_EVERY = 60_000, 10
@@ -47,6 +50,10 @@ _READABLE = select.POLLIN | select.POLLHUP | select.POLLERR | select.POLLNVAL
 
 class PortError(OSError):
     """A port can't be opened, or it was lost: the cable is out, or the device is off."""
+
+
+# An address of a TCP port as `socket` has it: the family and its own address.
+Address = tuple[int, Any]
 
 
 class Keyboard(Protocol):
@@ -103,6 +110,12 @@ class Port:
         return self._file is not None
 
     @property
+    def is_opening(self) -> bool:
+        """Whether `open` has begun to open the port in vain, and goes on with that when it is called again. It may be
+        called with no time then."""
+        return False
+
+    @property
     def is_line(self) -> bool:
         """Whether it is a serial line, as far as is known."""
         return False
@@ -134,18 +147,18 @@ class Port:
         return self._file
 
     def files(self) -> list[int]:
-        """The file descriptor at which something may come, if there is one. A port that gives nothing may be readable all
-        the time."""
+        """The file descriptor at which something may come, if there is one. A port that gives nothing may be readable
+        all the time."""
         return [] if self._file is None or self._was_empty else [self._file]
 
     def open(self, seconds: float = 1.0) -> None:
         """Opens the port, unless it is open.
 
         Args:
-            seconds: How long that may take.
+            seconds: How long the call may take.
 
         Raises:
-            PortError: It can't be opened in that time.
+            PortError: It can't be opened in that time. A TCP port may still be opened (`is_opening`).
         """
         if self._file is not None:
             return
@@ -250,8 +263,8 @@ class Port:
             return 0
 
     def write(self, data: bytes, seconds: float) -> bool:
-        """Writes bytes, and returns whether all are out in that time. If not, some of them may be. What comes while there
-        is no room for them is dropped.
+        """Writes bytes, and returns whether all are out in that time. If not, some of them may be. What comes while
+        there is no room for them is dropped.
 
         Raises:
             PortError: The port was lost. It is closed then.
@@ -295,8 +308,8 @@ class Port:
         return True
 
     def _line_drained(self, end: float) -> bool:
-        """Looks how much waits in a line's driver, in place of waiting for it without an end. A file that was taken for a
-        line may be none."""
+        """Looks how much waits in a line's driver, in place of waiting for it without an end. A file that was taken for
+        a line may be none."""
         while self._ends_empty and self._count_unsent():
             if time.monotonic() >= end:
                 return False
@@ -358,8 +371,8 @@ class FilePort(Port):
 
     def __init__(self, path: Path) -> None:
         super().__init__(os.fspath(path))
-        # Whether `port_of` made it of a path that may be a link to a serial line later, the flow control of such a line,
-        # and the line that it then is.
+        # Whether `port_of` made it of a path that may be a link to a serial line later, the flow control of such a
+        # line, and the line that it then is.
         self._may_be_line, self._flow = False, _FLOW
         self._line: SerialPort | None = None
 
@@ -488,17 +501,35 @@ class TcpPort(Port):
             raise ValueError(f"not a host and a TCP port: {host!r}, {port}")
         super().__init__(f"tcp://[{host}]:{port}" if ":" in host else f"tcp://{host}:{port}")
         self._where = host, port
-        self._addresses: list[tuple[str, int]] = []
+        self._addresses: list[Address] = []
         # When the addresses were found, and until when the name isn't looked up.
         self._looked_up_at, self._looks_up_from = 0.0, 0.0
+        self._joining: _Joining | None = None
+
+    @property
+    def is_opening(self) -> bool:
+        # That of the process from which this one was forked isn't its own.
+        return self._joining is not None and self._joining.process == os.getpid()
+
+    def close(self) -> None:
+        super().close()
+        self._stop_joining()
+
+    def _stop_joining(self) -> None:
+        if self._joining is not None:
+            self._joining.close()
+            self._joining = None
 
     def _opened(self, seconds: float) -> int:
-        if not self._addresses:
-            self._look_up()
+        if not self.is_opening:
+            self._stop_joining()
+            if not self._addresses:
+                self._look_up()
+            self._joining = _Joining(self._addresses, max(seconds, _ANSWERS))
         try:
-            return self._connected(time.monotonic() + max(seconds, 0.001))
+            return self._connected(time.monotonic() + seconds)
         except OSError:
-            if time.monotonic() - self._looked_up_at > _LOOKED_UP_FOR:
+            if not self.is_opening and time.monotonic() - self._looked_up_at > _LOOKED_UP_FOR:
                 # For the next time. The addresses that are known stay if there are no others.
                 with contextlib.suppress(OSError):
                     self._look_up()
@@ -518,30 +549,103 @@ class TcpPort(Port):
             if ended - began > _QUICKLY:
                 self._looks_up_from = ended + _LOOKED_UP_FOR
             raise
-        self._addresses = [(str(address[0]), int(address[1])) for *_, address in found]
+        self._addresses = [(family, address) for family, _, _, _, address in found]
         self._looked_up_at = time.monotonic()
 
     def _connected(self, end: float) -> int:
-        """Connects to the first of the addresses that answers before a time, of which each one gets its part."""
+        """The connection that is being made, if it is there before a time."""
+        assert self._joining is not None
+        try:
+            made = self._joining.made(end)
+        except OSError:
+            self._joining = None
+            raise
+        if made is None:
+            raise TimeoutError(errno.ETIMEDOUT, "timed out")
+        self._joining = None
+        with made:
+            made.setsockopt(socket.IPPROTO_TCP, socket.TCP_NODELAY, 1)
+            made.setsockopt(socket.SOL_SOCKET, socket.SO_KEEPALIVE, 1)
+            made.setsockopt(socket.IPPROTO_TCP, socket.TCP_KEEPIDLE, _ASKED_EVERY)
+            made.setsockopt(socket.IPPROTO_TCP, socket.TCP_KEEPINTVL, _ASKED_EVERY)
+            if not self.is_patient:
+                made.setsockopt(socket.IPPROTO_TCP, _USER_TIMEOUT, _ACKNOWLEDGED_WITHIN)
+            return made.detach()
+
+
+class _Joining:
+    """A connection that is being made, to the first of some addresses that answers.
+
+    Args:
+        addresses: Those of a host.
+        seconds: How long all of them have together, of which each one has its part.
+    """
+
+    def __init__(self, addresses: Sequence[Address], seconds: float) -> None:
+        self.process = os.getpid()
+        self._left = list(addresses)
+        self._ends_at = time.monotonic() + seconds
+        # The connection to the address whose turn it is, and until when that has time.
+        self._made: socket.socket | None = None
+        self._turn_ends_at = 0.0
+
+    def __del__(self) -> None:
+        self.close()
+
+    def made(self, end: float) -> socket.socket | None:
+        """The connection once it is there, if that is before a time; None if an address has time left after it.
+
+        Raises:
+            OSError: None of the addresses answers.
+        """
         fault: OSError = TimeoutError(errno.ETIMEDOUT, "timed out")
-        for place, address in enumerate(self._addresses):
-            left = (end - time.monotonic()) / (len(self._addresses) - place)
-            if left <= 0:
-                break
+        while self._made is not None or self._left:
             try:
-                with socket.create_connection(address, timeout=left) as made:
-                    made.setsockopt(socket.IPPROTO_TCP, socket.TCP_NODELAY, 1)
-                    made.setsockopt(socket.SOL_SOCKET, socket.SO_KEEPALIVE, 1)
-                    made.setsockopt(socket.IPPROTO_TCP, socket.TCP_KEEPIDLE, _ASKED_EVERY)
-                    made.setsockopt(socket.IPPROTO_TCP, socket.TCP_KEEPINTVL, _ASKED_EVERY)
-                    if not self.is_patient:
-                        made.setsockopt(socket.IPPROTO_TCP, _USER_TIMEOUT, _ACKNOWLEDGED_WITHIN)
-                    made.setblocking(False)
-                    return made.detach()
+                if self._made is None:
+                    self._begin()
+                if self._is_made(min(end, self._turn_ends_at)):
+                    return self._taken()
+                if time.monotonic() < self._turn_ends_at:
+                    return None
+                fault = TimeoutError(errno.ETIMEDOUT, "timed out")
             except OSError as found:
-                # One whose time is over has no number.
-                fault = found if found.errno is not None else TimeoutError(errno.ETIMEDOUT, "timed out")
+                fault = found
+            self.close()
         raise fault
+
+    def close(self) -> None:
+        """Lets go of the connection that isn't made."""
+        if self._made is not None:
+            self._taken().close()
+
+    def _taken(self) -> socket.socket:
+        assert self._made is not None
+        made, self._made = self._made, None
+        return made
+
+    def _begin(self) -> None:
+        """Begins to connect to the next address."""
+        now = time.monotonic()
+        self._turn_ends_at = now + (self._ends_at - now) / len(self._left)
+        family, address = self._left.pop(0)
+        self._made = socket.socket(family, socket.SOCK_STREAM | socket.SOCK_NONBLOCK)
+        _check(self._made.connect_ex(address), 0, errno.EINPROGRESS)
+
+    def _is_made(self, end: float) -> bool:
+        """Whether the connection is there before a time."""
+        assert self._made is not None
+        waits = select.poll()
+        waits.register(self._made, select.POLLOUT)
+        if not waits.poll(max(end - time.monotonic(), 0) * 1000):
+            return False
+        _check(self._made.getsockopt(socket.SOL_SOCKET, socket.SO_ERROR), 0)
+        return True
+
+
+def _check(code: int, *wanted: int) -> None:
+    """Raises the error of a system's number, unless it is one of some."""
+    if code not in wanted:
+        raise OSError(code, os.strerror(code))
 
 
 def _is_host(host: str) -> bool:
@@ -577,8 +681,8 @@ def _drop_unsent(file: int) -> None:
 
 
 def _raw(file: int) -> list[Any]:
-    """The attributes of a terminal line through which bytes pass as they are. A line that is cut for a moment isn't a byte
-    of 0."""
+    """The attributes of a terminal line through which bytes pass as they are. A line that is cut for a moment isn't a
+    byte of 0."""
     found = termios.tcgetattr(file)
     found[0], found[1], found[3] = termios.IGNBRK, 0, 0
     found[2] = found[2] & ~(termios.CSIZE | termios.PARENB) | termios.CS8 | termios.CREAD | termios.CLOCAL

@@ -115,8 +115,8 @@ class Till:
             self._session.close()
 
     def _close_file(self) -> None:
-        """Closes the file of totals, if the till has opened it. Its lock ends, though a process that was forked may have
-        the file open too: that can't use it."""
+        """Closes the file of totals, if the till has opened it. Its lock ends, though a process that was forked may
+        have the file open too: that can't use it."""
         if self._session.is_ending:
             # A call that is under way may write into it: it closes the file.
             return
@@ -413,6 +413,7 @@ class Till:
         Raises:
             NoMemoryError: There was no memory. With KIJOLVAR_CUT some of the lines were carried out, or all.
         """
+        self._drives.has_opened = self._drives.has_opened or "open " in lines
         if "attach" not in lines and not (" clear" in lines and _CLEARS.search(lines)):
             return self._carry_out(lines.encode()).decode()
         answers: list[str] = []
@@ -440,8 +441,8 @@ def _ask_later(session: weakref.ref[Session], deed: Callable[[], Callable[[], No
 
 
 def _end_control(till: weakref.ref[Till], category: str, name: str, is_chosen: bool) -> Callable[[], None] | None:
-    """Closes a control that nothing refers to any more. Returns what lets its name be used again, or None if the control
-    couldn't be closed, as without memory: then it may have a claim still."""
+    """Closes a control that nothing refers to any more. Returns what lets its name be used again, or None if the
+    control couldn't be closed, as without memory: then it may have a claim still."""
     found = till()
     if found is None or found.is_closed:
         return _nothing

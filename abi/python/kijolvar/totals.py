@@ -169,8 +169,8 @@ class TotalsFile:
 
 
 class FileClaim:
-    """A claim of a file. At the end of a `with` block the file is released. If the block has disabled the control, that is
-    a DisabledError, and the file stays claimed until the control releases it or is closed."""
+    """A claim of a file. At the end of a `with` block the file is released. If the block has disabled the control, that
+    is a DisabledError, and the file stays claimed until the control releases it or is closed."""
 
     def __init__(self, file: TotalsFile) -> None:
         self._file = file

@@ -125,22 +125,3 @@ fn a_disk_in_a_file(rt: HostRuntime) -> Result<(), Fail> {
     fs::remove_file(&rt, path)?;
     Ok(())
 }
-
-#[test]
-fn lengths_of_files(rt: HostRuntime) -> Result<(), Fail> {
-    let path = "lengths_of_files";
-    fs::write(&rt, path, "abc")?;
-    assert!(rt; open_totals(&rt, path)?.len() == 3);
-    assert!(rt; fs::read(&rt, path)?.as_slice() == b"abc".as_slice());
-    assert!(rt; make_totals(&rt, path)?.len() == 327_680);
-    let bytes = fs::read(&rt, path)?;
-    assert!(rt; bytes.len() == 327_680 && bytes.starts_with(b"abc"));
-    assert!(rt; bytes[3..].iter().all(|byte| *byte == 0));
-    let ones = vec![in rt.alloc(); 1u8; 327_681]?;
-    fs::write(&rt, path, ones.as_slice())?;
-    assert!(rt; make_totals(&rt, path)?.len() == 327_680);
-    assert!(rt; open_totals(&rt, path)?.len() == 327_680);
-    assert!(rt; fs::read(&rt, path)? == ones);
-    fs::remove_file(&rt, path)?;
-    Ok(())
-}

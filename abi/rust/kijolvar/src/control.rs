@@ -89,6 +89,15 @@ impl<'till> Control<'till> {
         self.till.ask(call, Some(self.category), line)
     }
 
+    /// Opens the control by a line. Its till keeps which device it is on, also if there is no memory for the answer.
+    pub(crate) fn open_on(&self, device: &str, line: &Line) -> Result<(), Error> {
+        let done = self.ask("open", line).and_then(|answer| answer.nothing());
+        if done.as_ref().map_or_else(|fault| matches!(fault.cause(), Cause::NoAnswer), |_| true) {
+            self.till.opened_on(self.place, device);
+        }
+        done
+    }
+
     /// Reads a property.
     pub(crate) fn property(&self, property: Property) -> Result<Answer, Error> {
         self.ask(property.name(), &self.line("get").word(property.name()))
@@ -188,10 +197,10 @@ impl<'till> Control<'till> {
         if !is_gone {
             return Err(refusal);
         }
-        // A control that was closed or released meanwhile has nothing left to clear. What printers didn't print is
+        // A control that was closed or released meanwhile has nothing left to clear. What its printer didn't print is
         // given up all the same.
         if error.locus == ErrorLocus::Output {
-            self.till.inner.borrow_mut().give_output_up();
+            self.till.inner.borrow_mut().give_output_up(self.name.as_bytes());
         }
         Ok(())
     }

@@ -93,7 +93,7 @@ impl Control<'_> {
     /// - [`E_NOSERVICE`](ResultCode::NoService): no peripheral is attached to the device.
     pub fn open(&self, device: &str) -> Result<(), Error> {
         let line = self.line("open").name(device);
-        self.ask("open", &line)?.nothing()
+        self.open_on(device, &line)
     }
 
     /// close (Common Properties, Methods and Events): closes the control: it releases the device, deletes its events

@@ -211,7 +211,8 @@ pub trait Driver: Send {
     }
 
     /// An application has given up the output that failed: by clearOutput, or by the reply ER_CLEAR. The next order is
-    /// a new one, though it is the same. The control may be of another printer.
+    /// a new one, though it is the same. Once a line has opened a control
+    /// ([`Till::carry_out`](crate::Till::carry_out)), it may be another printer's.
     fn given_up(&mut self) {}
 
     /// Returns why the port couldn't be opened or was lost the last time, as the system's number (errno).
@@ -349,8 +350,8 @@ fn check(till: &mut DriverTill<'_>, device: &str, settings: &WireSettings, port:
 /// That holds, too, if the control was released or closed meanwhile. The application gives a failed order up by
 /// clearOutput, or by the reply ER_CLEAR. Once it is given up, the same order is a new one, and is printed from its
 /// beginning. If the printer prints the old one all the same, that counts in
-/// [`DriverState::late_orders`](crate::DriverState::late_orders). The failed orders of all printers of the till are
-/// given up together.
+/// [`DriverState::late_orders`](crate::DriverState::late_orders). Once a line has opened a control
+/// ([`Till::carry_out`](crate::Till::carry_out)), the failed orders of all printers of the till are given up together.
 ///
 /// A serial line with flow control holds back what a printer doesn't take, also while the printer is off. So if such a
 /// printer says nothing for 2 seconds, or for the timeout if that is shorter, the lines that it hasn't acknowledged are

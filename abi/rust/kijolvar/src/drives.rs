@@ -84,20 +84,20 @@ pub(crate) struct Drives {
 
 /// What a line does to drivers, once it is done.
 #[derive(Clone, Copy)]
-pub(crate) enum Effect {
+pub(crate) enum Effect<'line> {
     /// The device of the drive at this place has another peripheral.
     Attached(usize),
-    /// A printer's control has given its output up.
-    GaveUp,
+    /// The printer's control of this name has given its output up.
+    GaveUp(&'line [u8]),
 }
 
-impl Effect {
+impl Effect<'_> {
     /// Whether the line is done, by its answer, which is the last one of these.
     fn is_done(&self, answers: &str) -> bool {
         let answer = answers.lines().next_back().unwrap_or("");
         // An ErrorEvent at EL_OUTPUT, which had the reply ER_CLEAR.
         let is_cleared = answer.starts_with("event ErrorEvent ") && answer.ends_with(" 1");
-        answer == "ok" || matches!(self, Effect::GaveUp) && is_cleared
+        answer == "ok" || matches!(self, Effect::GaveUp(_)) && is_cleared
     }
 }
 
@@ -107,7 +107,7 @@ impl Drives {
     }
 
     /// The lines up to the first one that does something to drivers: how many bytes they have, and what that is.
-    pub(crate) fn first_effect(&self, lines: &[u8]) -> (usize, Option<Effect>) {
+    pub(crate) fn first_effect<'line>(&self, lines: &'line [u8]) -> (usize, Option<Effect<'line>>) {
         if self.is_empty() {
             return (lines.len(), None);
         }
@@ -122,12 +122,12 @@ impl Drives {
         (count, None)
     }
 
-    fn effect_of(&self, line: &[u8]) -> Option<Effect> {
+    fn effect_of<'line>(&self, line: &'line [u8]) -> Option<Effect<'line>> {
         let mut words = line.split(|byte| b" \r\n".contains(byte)).filter(|word| !word.is_empty());
         let (verb, name) = (words.next()?, words.next()?);
         match (verb, words.next()) {
             (b"attach", _) => self.list.iter().position(|drive| drive.name.as_bytes() == name).map(Effect::Attached),
-            (b"call", Some(b"clearOutput")) | (b"deliver", Some(b"clear")) => Some(Effect::GaveUp),
+            (b"call", Some(b"clearOutput")) | (b"deliver", Some(b"clear")) => Some(Effect::GaveUp(name)),
             _ => None,
         }
     }
@@ -521,7 +521,7 @@ impl Inner {
     }
 
     /// Does what the last one of lines does to drivers, unless it failed. Without memory for its answer it may be done.
-    pub(crate) fn apply_effect(&mut self, effect: Effect, found: &Result<String, Cause>) {
+    pub(crate) fn apply_effect(&mut self, effect: Effect<'_>, found: &Result<String, Cause>) {
         let is_done = match found {
             Ok(answers) => effect.is_done(answers),
             Err(cause) => !matches!(cause, Cause::NoMemory),
@@ -529,13 +529,19 @@ impl Inner {
         match effect {
             _ if !is_done => {}
             Effect::Attached(place) => self.drive_again(place),
-            Effect::GaveUp => self.give_output_up(),
+            Effect::GaveUp(control) => self.give_output_up(control),
         }
     }
 
-    /// A printer's control has given its output up. Which printer it is on isn't known.
-    pub(crate) fn give_output_up(&mut self) {
-        self.for_each_drive(|_, drive| drive.driver.given_up());
+    /// The control of a name has given its output up: its printer is told, or all are if that isn't known.
+    pub(crate) fn give_output_up(&mut self, control: &[u8]) {
+        let device = self.device_of(control).map(str::to_string);
+        self.for_each_drive(|_, drive| {
+            let is_meant = device.as_ref().is_none_or(|device| *device == drive.name);
+            if drive.category == Category::PosPrinter && is_meant {
+                drive.driver.given_up();
+            }
+        });
     }
 
     pub(crate) fn driver_state(&self, device: &str) -> Result<DriverState, Cause> {

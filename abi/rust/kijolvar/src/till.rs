@@ -35,6 +35,8 @@ struct Entry {
     is_chosen: bool,
     category: Category,
     number: usize,
+    /// The device on which it was opened last, but for lines.
+    device: Option<String>,
     /// Whether it may be handed out again.
     is_free: bool,
     /// How often it was given back.
@@ -58,6 +60,8 @@ pub(crate) struct Inner {
     /// The places of controls that were given back, and aren't closed yet.
     unclosed: Vec<usize>,
     names: u64,
+    /// Whether lines may have opened a control: on which device it is isn't known then.
+    has_opened: bool,
     pub(crate) drives: Drives,
 }
 
@@ -78,7 +82,7 @@ impl Inner {
     fn new(at: Raw, totals: Option<LockedFile>, errand: Vec<u8>) -> Inner {
         let drives = Drives::default();
         let (controls, unclosed) = (Vec::new(), Vec::new());
-        Inner { at, totals, errand, text: vec![0; 256], controls, unclosed, names: 0, drives }
+        Inner { at, totals, errand, text: vec![0; 256], controls, unclosed, names: 0, has_opened: false, drives }
     }
 
     /// A till with totals in memory.
@@ -237,9 +241,16 @@ impl Inner {
                 Err(cause) => return Err(cause),
             }
             let number = self.number_of(&made)?;
-            self.controls.push(Entry { name: made, is_chosen, category, number, is_free: false, turn: 0 });
+            let (device, is_free) = (None, false);
+            self.controls.push(Entry { name: made, is_chosen, category, number, device, is_free, turn: 0 });
             return Ok(self.controls.len() - 1);
         }
+    }
+
+    /// The device on which the control of a name was opened last, if that is known.
+    pub(crate) fn device_of(&self, control: &[u8]) -> Option<&str> {
+        let entry = self.controls.iter().find(|entry| entry.name.as_bytes() == control)?;
+        entry.device.as_deref().filter(|_| !self.has_opened)
     }
 
     /// Whether a control is closed, which is tried. If there is no memory for the answer, that isn't known.
@@ -471,7 +482,9 @@ impl Till {
     /// # Ok::<(), kijolvar::Error>(())
     /// ```
     pub fn carry_out(&self, lines: impl AsRef<[u8]>) -> Result<String, Error> {
-        self.inner.borrow_mut().carry_out(lines.as_ref()).map_err(|cause| Error::new("Till::carry_out", cause))
+        let (mut inner, lines) = (self.inner.borrow_mut(), lines.as_ref());
+        inner.has_opened = inner.has_opened || lines.windows(5).any(|words| words == b"open ");
+        inner.carry_out(lines).map_err(|cause| Error::new("Till::carry_out", cause))
     }
 
     /// Carries out one line: its whole answer.
@@ -498,6 +511,11 @@ impl Till {
         let place = inner.control(category, name).map_err(failed)?;
         let entry = &inner.controls[place];
         Ok((entry.name.clone(), place, entry.turn))
+    }
+
+    /// A control was opened on a device.
+    pub(crate) fn opened_on(&self, place: usize, device: &str) {
+        self.inner.borrow_mut().controls[place].device = Some(device.to_string());
     }
 
     /// Whether a control wasn't given back since its turn began.

@@ -83,10 +83,11 @@ struct Fate {
     says: Vec<String>,
     is_away: bool,
     codes: Vec<Scan>,
+    given_up: u32,
 }
 
 static FATE: Mutex<Fate> =
-    Mutex::new(Fate { left: 0, did: String::new(), says: Vec::new(), is_away: false, codes: Vec::new() });
+    Mutex::new(Fate { left: 0, did: String::new(), says: Vec::new(), is_away: false, codes: Vec::new(), given_up: 0 });
 
 fn fate() -> MutexGuard<'static, Fate> {
     FATE.lock().unwrap()
@@ -126,6 +127,10 @@ impl Driver for Own {
 
     fn attached(&mut self) {
         fate().says = vec!["paper 700".to_string()];
+    }
+
+    fn given_up(&mut self) {
+        fate().given_up += 1;
     }
 }
 
@@ -194,12 +199,27 @@ fn refuse_memory(_: &Words) -> String {
     "not understood".to_string()
 }
 
-/// The control of typed calls, which the first one makes.
-fn control<'p, 't>(till: &'t Till, printer: &'p mut Option<PosPrinter<'t>>) -> Result<&'p PosPrinter<'t>, Error> {
-    if printer.is_none() {
-        *printer = Some(till.pos_printer("r1")?.enabled()?);
+/// The controls of typed calls, and whether those are of r2 and not of r1.
+#[derive(Default)]
+struct Typed<'till> {
+    controls: [Option<PosPrinter<'till>>; 2],
+    is_second: bool,
+}
+
+impl<'till> Typed<'till> {
+    fn place(&mut self) -> &mut Option<PosPrinter<'till>> {
+        &mut self.controls[usize::from(self.is_second)]
     }
-    Ok(printer.as_ref().unwrap())
+
+    /// The control of the printer, which the first typed call makes.
+    fn control(&mut self, till: &'till Till) -> Result<&PosPrinter<'till>, Error> {
+        let name = if self.is_second { "r2" } else { "r1" };
+        let place = self.place();
+        if place.is_none() {
+            *place = Some(till.pos_printer(name)?.enabled()?);
+        }
+        Ok(place.as_ref().unwrap())
+    }
 }
 
 /// Prints bytes by a typed call, or has them printed later.
@@ -235,7 +255,7 @@ fn release_at_error(printer: &PosPrinter<'_>) -> Result<String, Error> {
     Ok(count.to_string())
 }
 
-fn obey<'t>(till: &'t Till, printer: &mut Option<PosPrinter<'t>>, line: &str) -> Result<String, Error> {
+fn obey<'till>(till: &'till Till, typed: &mut Typed<'till>, line: &str) -> Result<String, Error> {
     let (verb, rest) = line.split_once(' ').unwrap_or((line, ""));
     let words = Words(rest.split(' ').filter(|word| !word.is_empty()).collect());
     match verb {
@@ -258,15 +278,20 @@ fn obey<'t>(till: &'t Till, printer: &mut Option<PosPrinter<'t>>, line: &str) ->
             .driver_state(words.0[0])
             .map(|state| format!("{} {}", if state.is_online { "online" } else { "offline" }, state.late_orders)),
         "lines" => till.carry_out(rest.replace(';', "\n")).map(|answers| answers.replace('\n', ";")),
-        "print" | "later" => print(control(till, printer)?, rest, verb == "later"),
-        "clear" => control(till, printer)?.clear_output().map(|()| "ok".to_string()),
-        "release" => control(till, printer)?.release().map(|()| "ok".to_string()),
+        "print" | "later" => print(typed.control(till)?, rest, verb == "later"),
+        "clear" => typed.control(till)?.clear_output().map(|()| "ok".to_string()),
+        "release" => typed.control(till)?.release().map(|()| "ok".to_string()),
         "close" => {
-            *printer = None;
+            *typed.place() = None;
             Ok("ok".to_string())
         }
-        "reply" => reply(control(till, printer)?),
-        "drop" => release_at_error(control(till, printer)?),
+        "swap" => {
+            typed.is_second = !typed.is_second;
+            Ok("ok".to_string())
+        }
+        "given" => Ok(fate().given_up.to_string()),
+        "reply" => reply(typed.control(till)?),
+        "drop" => release_at_error(typed.control(till)?),
         "host" => till.host(rest).map(|()| "ok".to_string()),
         "tear" => till.tear_off(rest).map(|()| "ok".to_string()),
         "memory" => Ok(refuse_memory(&words)),
@@ -300,10 +325,10 @@ fn main() {
     let profile = std::fs::read_to_string(&words[1]).expect("a profile");
     let totals = words.get(2).map_or(Totals::Memory, Totals::create);
     let till = Till::open(&profile, totals).expect("a till");
-    let mut printer = None;
+    let mut typed = Typed::default();
     let mut out = std::io::stdout().lock();
     for line in std::io::stdin().lock().lines() {
-        let answer = obey(&till, &mut printer, &line.expect("a line")).unwrap_or_else(|error| refusal(&error));
+        let answer = obey(&till, &mut typed, &line.expect("a line")).unwrap_or_else(|error| refusal(&error));
         writeln!(out, "{answer}").and_then(|()| out.flush()).expect("somebody who listens");
     }
 }
