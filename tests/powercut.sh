@@ -10,6 +10,8 @@
 # It records `run` by both layouts, over new files, over noise and over what a cut left, also killed and run again; `format`;
 # `migrate`, also cut and done again; and a till in Python over the library, also killed as it creates its file. In these records
 # it leaves out some syncs of every kind, and has to find a file that is amiss. At the harmless kinds it has to find none.
+# It has writes and syncs of the file fail, too, in runs and moves: the change isn't done for the till, which asks the file nothing
+# more until its totals are enabled anew; the file has the change whole or not at all; and another run goes on from it.
 # Usage: tests/powercut.sh [-s STEP] [-r SEED] [PROGRAM [LIBRARY]]. With -s it reads one of STEP files that are left. The seed says
 # which, and which changes are made; it is printed, and -r repeats it. LIBRARY is libkijolvar.a. Without them it builds both, and
 # needs rt. It needs gcc and python3, and takes some minutes, with -s 10 about one. Its last line is 'N passed, M failed', and N + M

@@ -22,5 +22,3 @@ mod rows;
 mod stopped_call;
 #[cfg(test)]
 mod stops;
-#[cfg(test)]
-mod torn;

@@ -16,8 +16,6 @@ pub struct Row {
     pub line: (&'static str, &'static str),
     /// What is printed of each other call behind one in which the disk failed.
     pub refusal: &'static str,
-    /// The handle of the first file that is found then.
-    pub first_found: u8,
     /// The handle of the first file where the call is done.
     pub first_kept: u8,
     /// The files after it.
@@ -29,7 +27,6 @@ pub const ENABLING: Row = Row {
     first: ("", ""),
     line: ("set t DeviceEnabled true\n", "ok\n"),
     refusal: "err 105\n",
-    first_found: 1,
     first_kept: 1,
     after: BEFORE,
 };
@@ -41,7 +38,6 @@ fn changing(line: (&'static str, &'static str), first_kept: u8, after: Files) ->
         first: ("set t DeviceEnabled true\n", "ok\n"),
         line,
         refusal: "err 111\n",
-        first_found: 3,
         first_kept,
         after,
     }

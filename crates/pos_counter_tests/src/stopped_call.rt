@@ -1,11 +1,9 @@
-//! Stops of one call over copies of a disk, crashes behind them, and what new counters find.
+//! Stops of one call over copies of a disk that doesn't work any more, crashes behind them, and what new counters find.
 use crate::counters::told;
 use crate::rows::{BEFORE, Row, look_lines, look_text};
-use crate::torn::Loose;
 use pos_disk::{Fill, FuseDisk, MemDisk};
 use pos_profile::Profile;
 use std::alloc::{AllocError, Global};
-use std::fmt;
 use std::test::Fail;
 
 const OPENING: &str = "new t HardTotals\nopen t t1\n";
@@ -31,58 +29,7 @@ const OTHERS: [&str; 15] = [
     "get t NumberOfFiles\n",
 ];
 
-/// The ways to enable a control anew: the lines before the enabling, and what they print.
-const WAYS: [(&str, &str); 2] = [
-    ("set t DeviceEnabled false\n", "ok\n"),
-    ("close t\nopen t t1\n", "ok\nok\n"),
-];
-
-/// How often the disk fails, one call after another.
-const FAILS: [u64; 4] = [1, 2, 3, u64::MAX];
-
 const FILLS: [Fill; 4] = [Fill::Old, Fill::New, Fill::Byte(0xA5), Fill::Byte(0)];
-
-/// How many choices of bytes for the loose places are tried behind each stop: with the four numbers of failures 100
-/// behind each disk call.
-const SEEDS: u64 = 25;
-
-/// How many stops were made, crashes, and reopenings; and behind calls that weren't done, how many crashes left the
-/// files before the call, and how many those after it.
-#[derive(Drop)]
-pub struct Counts {
-    pub stops: u64,
-    crashes: u64,
-    reopenings: u64,
-    before: u64,
-    after: u64,
-}
-
-impl Counts {
-    pub fn new() -> Self {
-        Counts {
-            stops: 0,
-            crashes: 0,
-            reopenings: 0,
-            before: 0,
-            after: 0,
-        }
-    }
-}
-
-impl fmt::Display for Counts {
-    fn fmt<W: fmt::Write>(&self, f: &mut fmt::Formatter<W>) -> fmt::Result {
-        write!(
-            f,
-            "{} stops, {} crashes, {} reopenings; {} crashes left a call undone, {} did it",
-            self.stops, self.crashes, self.reopenings, self.before, self.after,
-        )
-    }
-}
-
-/// One more.
-fn count(number: &mut u64) {
-    *number = number.saturating_add(1);
-}
 
 /// These texts, one behind another.
 fn joined(alloc: Global, texts: &[&str]) -> Result<String, AllocError> {
@@ -111,22 +58,6 @@ fn check(found: &[u8], wanted: &str) -> Result<(), Fail> {
         Ok(found) => Err(Fail::new(format_args!("wanted: {wanted}found: {found}"))),
         Err(_) => Err(Fail::new("no text")),
     }
-}
-
-/// Which files are found: those before the call, or those after it.
-#[derive(Clone, Copy, PartialEq, Eq)]
-enum Found {
-    Before,
-    After,
-}
-
-/// Which files a text tells of. It has to be one of these two.
-fn tell(text: &[u8], before: &str, after: &str) -> Result<Found, Fail> {
-    if text == after.as_bytes() {
-        return Ok(Found::After);
-    }
-    check(text, before)?;
-    Ok(Found::Before)
 }
 
 /// A call, and the disk of which each stop has a copy.
@@ -158,19 +89,21 @@ impl StoppedCall {
         })
     }
 
-    /// What lines print over a copy of the disk that fails `fail` times after `pass` calls, with that copy.
-    fn fused(
-        &self,
-        (pass, fail): (u64, u64),
-        lines: &[&str],
-    ) -> Result<(Vec<u8>, FuseDisk<MemDisk>), Fail> {
-        let fuse = FuseDisk::new(self.disk.crash(Fill::New)?, pass, fail);
+    /// What lines print over a copy of the disk that works for so many calls, with that copy.
+    fn fused(&self, pass: u64, lines: &[&str]) -> Result<(Vec<u8>, FuseDisk<MemDisk>), Fail> {
+        let fuse = FuseDisk::new(self.disk.crash(Fill::New)?, pass, u64::MAX);
         let lines = joined(self.alloc, lines)?;
         told(self.alloc, &self.profile, fuse, lines.as_bytes())
     }
 
+    /// How many calls of the disk the lines before the call make, or those up to it.
+    fn calls(&self, line: &'static str) -> Result<u64, Fail> {
+        let (_, fuse) = self.fused(u64::MAX, &[OPENING, self.row.first.0, line])?;
+        Ok(fuse.calls())
+    }
+
     /// Stops the call at the disk call with a number, asks all others, and closes: the disk then.
-    fn stop(&self, pass: u64, fail: u64) -> Result<MemDisk, Fail> {
+    fn stop(&self, pass: u64) -> Result<MemDisk, Fail> {
         let row = &self.row;
         let others = joined(self.alloc, &OTHERS)?;
         let lines = [
@@ -180,7 +113,7 @@ impl StoppedCall {
             others.as_str(),
             "close t\n",
         ];
-        let (text, fuse) = self.fused((pass, fail), &lines)?;
+        let (text, fuse) = self.fused(pass, &lines)?;
         let refusals = repeated(self.alloc, row.refusal, OTHERS.len() as u64)?;
         let wanted = [
             "ok\nok\n",
@@ -197,185 +130,37 @@ impl StoppedCall {
     }
 
     /// Makes the call, which meets no fault, looks for the files, and closes: the disk then.
-    fn finish(&self, pass: u64, fail: u64) -> Result<MemDisk, Fail> {
+    fn finish(&self, pass: u64) -> Result<MemDisk, Fail> {
         let row = &self.row;
         let look = look_lines(self.alloc, row.first_kept)?;
         let lines = [OPENING, row.first.0, row.line.0, look.as_str(), "close t\n"];
-        let (text, fuse) = self.fused((pass, fail), &lines)?;
+        let (text, fuse) = self.fused(pass, &lines)?;
         let found = look_text(self.alloc, row.after, row.first_kept)?;
         let wanted = ["ok\nok\n", row.first.1, row.line.1, found.as_str(), "ok\n"];
         check(&text, joined(self.alloc, &wanted)?.as_str())?;
-        if fuse.calls() != pass {
-            return Err(Fail::new("the disk is asked behind the call"));
-        }
         Ok(fuse.into_inner())
     }
 
-    /// The lines of so many enablings, and what they print where the disk fails but in the last one, which is answered
-    /// like this.
-    fn enablings(
-        &self,
-        (before, printed): (&str, &str),
-        times: u64,
-        last: &str,
-    ) -> Result<(String, String), AllocError> {
-        let one = joined(self.alloc, &[before, ENABLING])?;
-        let refused = joined(self.alloc, &[printed, "err 111\n"])?;
-        let refused = repeated(self.alloc, refused.as_str(), times.saturating_sub(1))?;
-        let lines = repeated(self.alloc, one.as_str(), times)?;
-        Ok((
-            lines,
-            joined(self.alloc, &[refused.as_str(), printed, last])?,
-        ))
-    }
-
-    /// Stops the call, and enables the control anew until the disk works: which files are found, and the disk then.
-    fn retry(&self, (pass, fail): (u64, u64), way: (&str, &str)) -> Result<(Found, MemDisk), Fail> {
-        let row = &self.row;
-        let (enablings, printed) = self.enablings(way, fail, "ok\n")?;
-        let look = look_lines(self.alloc, row.first_found)?;
-        let lines = [
-            OPENING,
-            row.first.0,
-            row.line.0,
-            enablings.as_str(),
-            look.as_str(),
-        ];
-        let (text, fuse) = self.fused((pass, fail), &lines)?;
-        let begun = ["ok\nok\n", row.first.1, "err 111\n", printed.as_str()];
-        Ok((self.tell_behind(&text, &begun)?, fuse.into_inner()))
-    }
-
-    /// Which files a text tells of behind these texts.
-    fn tell_behind(&self, text: &[u8], begun: &[&str]) -> Result<Found, Fail> {
-        let begun = joined(self.alloc, begun)?;
-        let before = look_text(self.alloc, BEFORE, self.row.first_found)?;
-        let before = joined(self.alloc, &[begun.as_str(), before.as_str()])?;
-        let after = look_text(self.alloc, self.row.after, self.row.first_found)?;
-        let after = joined(self.alloc, &[begun.as_str(), after.as_str()])?;
-        tell(text, before.as_str(), after.as_str())
-    }
-
-    /// Stops the call over a disk that never works again, and enables the control anew in vain: the disk then.
-    fn give_up(&self, pass: u64, way: (&str, &str)) -> Result<MemDisk, Fail> {
-        let row = &self.row;
-        let (enablings, printed) = self.enablings(way, 4, "err 111\n")?;
-        let others = joined(self.alloc, &OTHERS)?;
-        let lines = [
-            OPENING,
-            row.first.0,
-            row.line.0,
-            enablings.as_str(),
-            others.as_str(),
-        ];
-        let (text, fuse) = self.fused((pass, u64::MAX), &lines)?;
-        let refusals = repeated(self.alloc, "err 105\n", OTHERS.len() as u64)?;
-        let wanted = [
-            "ok\nok\n",
-            row.first.1,
-            "err 111\n",
-            printed.as_str(),
-            refusals.as_str(),
-        ];
-        check(&text, joined(self.alloc, &wanted)?.as_str())?;
-        Ok(fuse.into_inner())
-    }
-
-    /// Which files a new counter finds, and another one behind a further crash. They have to be these, where some are
-    /// given.
-    fn reopen(
-        &self,
-        disk: MemDisk,
-        wanted: Option<Found>,
-        counts: &mut Counts,
-    ) -> Result<(), Fail> {
-        let lines = self.lines.as_bytes();
-        let (text, again) = told(self.alloc, &self.profile, disk, lines)?;
-        let (same, _) = told(self.alloc, &self.profile, again.crash(Fill::Old)?, lines)?;
-        count(&mut counts.crashes);
-        count(&mut counts.reopenings);
-        count(&mut counts.reopenings);
-        if same != text {
-            return Err(Fail::new("a second reopening finds other files"));
-        }
-        let found = tell(&text, self.before.as_str(), self.after.as_str())?;
-        match (wanted, found) {
-            (None, Found::Before) => count(&mut counts.before),
-            (None, Found::After) => count(&mut counts.after),
-            (Some(wanted), found) if wanted != found => {
-                return Err(Fail::new("what was decided is lost"));
-            }
-            _ => {}
-        }
-        Ok(())
-    }
-
-    /// Crashes a disk with each fill.
-    fn crash(
-        &self,
-        disk: &MemDisk,
-        wanted: Option<Found>,
-        counts: &mut Counts,
-    ) -> Result<(), Fail> {
+    /// Crashes a disk with each fill. New counters have to find the files after the call, or, unless it is done, those
+    /// before it.
+    fn crash(&self, disk: &MemDisk, is_done: bool) -> Result<(), Fail> {
         for fill in FILLS {
-            self.reopen(disk.crash(fill)?, wanted, counts)?;
-        }
-        Ok(())
-    }
-
-    /// Crashes a disk with other bytes at each loose place, where there are any.
-    fn tear(&self, disk: &MemDisk, wanted: Option<Found>, counts: &mut Counts) -> Result<(), Fail> {
-        let loose = Loose::of(self.alloc, disk)?;
-        if loose.is_none() {
-            return Ok(());
-        }
-        for seed in 0..SEEDS {
-            let seed = counts.stops.saturating_mul(SEEDS).saturating_add(seed);
-            self.reopen(loose.torn(seed)?, wanted, counts)?;
-        }
-        Ok(())
-    }
-
-    /// A stop, crashes behind it, each way to go on, and crashes behind that.
-    fn stop_once(&self, pass: u64, fail: u64, counts: &mut Counts) -> Result<(), Fail> {
-        let disk = self.stop(pass, fail)?;
-        self.crash(&disk, None, counts)?;
-        self.tear(&disk, None, counts)?;
-        for way in WAYS {
-            if fail == u64::MAX {
-                self.crash(&self.give_up(pass, way)?, None, counts)?;
-            } else {
-                let (found, disk) = self.retry((pass, fail), way)?;
-                self.crash(&disk, Some(found), counts)?;
-                self.tear(&disk, Some(found), counts)?;
+            let lines = self.lines.as_bytes();
+            let (text, _) = told(self.alloc, &self.profile, disk.crash(fill)?, lines)?;
+            if is_done || text.as_slice() != self.before.as_bytes() {
+                check(&text, self.after.as_str())?;
             }
         }
         Ok(())
     }
 
-    /// Stops the call at each of its disk calls in turn, until it meets no fault.
-    pub fn stop_at_each(&self, counts: &mut Counts) -> Result<(), Fail> {
-        let row = &self.row;
-        let begin = self.fused((0, 0), &[OPENING, row.first.0])?.1.calls();
-        // The enabling alone reads the disk: what is refused or buffered after it doesn't.
-        let enabling = if row.first.0.is_empty() { "" } else { ENABLING };
-        if begin != self.fused((0, 0), &[OPENING, enabling])?.1.calls() {
-            return Err(Fail::new("what is refused or buffered asks the disk"));
+    /// Stops the call at each of its disk calls in turn, until it meets no fault: how often.
+    pub fn stop_at_each(&self) -> Result<u64, Fail> {
+        let (begin, end) = (self.calls("")?, self.calls(self.row.line.0)?);
+        for pass in begin..end {
+            self.crash(&self.stop(pass)?, false)?;
         }
-        let end = self
-            .fused((0, 0), &[OPENING, row.first.0, row.line.0])?
-            .1
-            .calls();
-        for fail in FAILS {
-            for pass in begin..end {
-                count(&mut counts.stops);
-                self.stop_once(pass, fail, counts)?;
-            }
-            count(&mut counts.stops);
-            let disk = self.finish(end, fail)?;
-            self.crash(&disk, Some(Found::After), counts)?;
-            self.tear(&disk, Some(Found::After), counts)?;
-        }
-        Ok(())
+        self.crash(&self.finish(end)?, true)?;
+        Ok(end.saturating_sub(begin))
     }
 }

@@ -32,33 +32,48 @@ fn short_transfers_are_faults(rt: HostRuntime) -> Result<(), Fail> {
     Ok(())
 }
 
+/// Whether totals of 16 bytes, each a 1, give what is written to their end.
+fn keeps<D: Disk>(totals: &mut D) -> bool {
+    let mut bytes = [7; 3];
+    if totals.len() != 16 || totals.read(13, &mut bytes).is_err() || bytes != [1, 1, 1] {
+        return false;
+    }
+    totals.write(13, &[2, 3, 4]).is_ok()
+        && totals.sync().is_ok()
+        && totals.read(13, &mut bytes).is_ok()
+        && bytes == [2, 3, 4]
+}
+
 #[test]
 fn totals_in_a_file_in_memory(rt: HostRuntime) -> Result<(), Fail> {
     let mut totals = mirrored(rt.alloc(), disk_over(small_file(rt.alloc())?)?)?;
-    let mut bytes = [7; 3];
-    assert!(rt; totals.len() == 16);
-    if totals.len() == 16 {
-        assert!(rt; totals.read(13, &mut bytes).is_ok() && bytes == [1, 1, 1]);
-        assert!(rt; totals.write(13, &[2, 3, 4]).is_ok() && totals.sync().is_ok());
-        assert!(rt; totals.read(13, &mut bytes).is_ok() && bytes == [2, 3, 4]);
-    }
-    let kept = totals.below().file().bytes();
-    assert!(rt; kept.len() == 16 && kept.starts_with(&[1; 13]) && kept.ends_with(&[2, 3, 4]));
+    let is_kept = keeps(&mut totals);
+    let bytes = totals.below().file().bytes();
+    let is_below = bytes.len() == 16 && bytes.starts_with(&[1; 13]) && bytes.ends_with(&[2, 3, 4]);
+    assert!(rt; is_kept && is_below);
     Ok(())
+}
+
+/// Why a file is no totals.
+fn refusal(alloc: Global, file: MemoryFile) -> Result<Option<FileFault>, FileFault> {
+    Ok(mirrored(alloc, disk_over(file)?).err())
 }
 
 #[test]
 fn files_that_are_no_totals(rt: HostRuntime) -> Result<(), Fail> {
     let mut file = small_file(rt.alloc())?;
     file.sync_fault = Some(ErrorKind::Other);
-    let totals = mirrored(rt.alloc(), disk_over(file)?);
-    assert!(rt; matches!(totals, Err(FileFault::NotSynced)));
+    assert!(rt; matches!(refusal(rt.alloc(), file)?, Some(FileFault::NotSynced)));
     let mut file = small_file(rt.alloc())?;
     file.most = 15;
-    let totals = mirrored(rt.alloc(), disk_over(file)?);
-    assert!(rt; matches!(totals, Err(FileFault::NotRead)));
-    let disk = lengthened(disk_over(small_file(rt.alloc())?)?);
-    assert!(rt; matches!(disk, Err(FileFault::Lengthen(_))));
+    assert!(rt; matches!(refusal(rt.alloc(), file)?, Some(FileFault::NotRead)));
+    Ok(())
+}
+
+#[test]
+fn a_file_that_is_not_lengthened(rt: HostRuntime) -> Result<(), Fail> {
+    let fault = lengthened(disk_over(small_file(rt.alloc())?)?).err();
+    assert!(rt; matches!(fault, Some(FileFault::Lengthen(_))));
     Ok(())
 }
 
