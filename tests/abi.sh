@@ -140,7 +140,7 @@ told "the numbers for Python" "$(python3 "$abi/declare.py" python)" "$(cat "$abi
 runs "what is typed for C" python3 "$abi/typed_c.py" --check
 runs "what is typed for Rust" python3 "$abi/typed_rust.py" --check
 
-(cd "$top/crates/kijolvar" && rt lib > "$work/lib" 2>&1)
+"$top/tools/libraries" archive > "$work/lib" 2>&1
 told "the archive by LLVM" 0 "$?"
 tries "LLVM"
 watches "LLVM"
@@ -171,8 +171,13 @@ python3 -W error "$top/tests/abi_files.py" "$work/libkijolvar.so" "$work/calls.s
   > "$work/files" 2>&1
 told "files, and tills that are killed" "166 passed, 0 failed" "$(cat "$work/files")"
 
+# it is built in the place of the other one, which goes back
+cp -p "$archive" "$work/llvm.a"
 (cd "$top/crates/kijolvar" && rt lib --backend rattle > "$work/lib" 2>&1)
 told "the archive by Rattle's own compiler" 0 "$?"
+mv "$archive" "$work/rattle.a"
+mv "$work/llvm.a" "$archive"
+archive=$work/rattle.a
 tries "Rattle's own compiler"
 watches "Rattle's own compiler"
 

@@ -22,7 +22,7 @@ if ! command -v python3 > /dev/null; then
 fi
 if [ -z "$library" ]; then
   library=$work/libkijolvar.so
-  { env -C "$top/crates/kijolvar" rt lib && gcc -O2 -shared -fPIC -o "$library" -Wl,--whole-archive \
+  { "$top/tools/libraries" archive && gcc -O2 -shared -fPIC -o "$library" -Wl,--whole-archive \
     "$top/crates/kijolvar/out/libkijolvar.a" -Wl,--no-whole-archive "$top/abi/heap.c" "$top/tests/native/scarce_heap.c" \
     -Wl,--wrap=malloc,--wrap=calloc,--wrap=realloc; } > "$work/said" 2>&1 || {
     tail -n 5 "$work/said"

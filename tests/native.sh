@@ -82,7 +82,7 @@ collects() {
   done
 }
 
-[ -n "${KIJOLVAR_ARCHIVE:-}" ] || (cd "$top/crates/kijolvar" && rt lib > "$work/said" 2>&1)
+[ -n "${KIJOLVAR_ARCHIVE:-}" ] || "$top/tools/libraries" archive > "$work/said" 2>&1
 told "the library" 0 "$?"
 runs "the archive" env CFLAGS="-Werror" "$abi/build.sh" "$work"
 strict=(-Wall -Wextra -Werror -pedantic -I "$abi" -I "$abi/c")

@@ -13,7 +13,7 @@ for tool in rt gcc python3 chromium; do
     exit 1
   fi
 done
-(cd "$top/crates/kijolvar" && rt lib > "$work/lib" 2>&1) || tail -n 5 "$work/lib"
+"$top/tools/libraries" archive > "$work/lib" 2>&1 || tail -n 5 "$work/lib"
 gcc -O1 -c -fPIC -o "$work/heap.o" "$top/abi/heap.c"
 gcc -shared -o "$work/libkijolvar.so" "$work/heap.o" -Wl,--whole-archive "$top/crates/kijolvar/out/libkijolvar.a" \
   -Wl,--no-whole-archive

@@ -38,7 +38,7 @@ done
 program=${1:-$top/crates/pos_console/out/pos_console}
 library=${2:-$top/crates/kijolvar/out/libkijolvar.a}
 [ $# -ge 1 ] || (cd "$top/crates/pos_console" && rt run < /dev/null > /dev/null 2>&1) || give_up "rt run built no program"
-[ $# -ge 2 ] || (cd "$top/crates/kijolvar" && rt lib > /dev/null 2>&1) || give_up "rt lib built no library"
+[ $# -ge 2 ] || "$top/tools/libraries" archive > /dev/null 2>&1 || give_up "rt lib built no library"
 [ -x "$program" ] || give_up "$program isn't there: rt run in crates/pos_console builds it"
 [ -f "$library" ] || give_up "$library isn't there: rt lib in crates/kijolvar builds it"
 

@@ -256,6 +256,9 @@ ends 'and once more' 0 '' migrate --disk small.disk
 profile > sound.toml
 rm -f profile.toml
 refuses_profile 'no profile' "can't be read: No such file or directory (os error 2)"
+mkdir profile.toml
+refuses_profile 'a profile that is a folder' "can't be read: Is a directory (os error 21)"
+rmdir profile.toml
 printf '# a\n# \377\n' > profile.toml
 refuses_profile 'a profile that is no text' 'line 2: not UTF-8'
 printf '[[device\n' > profile.toml
@@ -291,6 +294,77 @@ refuses_profile 'a spare by its own number' 'spare 2: columns must be 1 to 80'
 refuses_profile 'a second device of Hard Totals' 'device 4: a second device of category HardTotals'
 sed 's/"p1"/"d1"/' sound.toml > profile.toml
 refuses_profile 'a name twice' 'two devices have the name d1'
+
+# reports_profiles FORMAT: whether the program reports profiles as it should. Each line of standard input has a profile, an
+# arrow, and the message, or `sound`. FORMAT has a place for the profile.
+reports_profiles() {
+  local line
+  mv script kept.script
+  : > script
+  while IFS= read -r line; do
+    # shellcheck disable=SC2059
+    printf "$1" "$(printf '%b' "${line%% -> *}")" > profile.toml
+    if [ "${line#* -> }" = sound ]; then
+      ends "$line" 0 '' run --profile profile.toml --disk till.disk
+    else
+      refuses_profile "$line" "${line#* -> }"
+    fi
+  done
+  mv kept.script script
+}
+reports_profiles '%s\n' <<'DOCUMENTS'
+ -> sound
+spare=[]\ndevice=[] -> sound
+spare=[{category='CashDrawer'},{category='Scanner'}] -> sound
+device=[3]\nx=1 -> unknown key: x
+device=3 -> device must be an array of tables
+device=[3]\nspare='d' -> spare must be an array of tables
+spare=[3]\ndevice=[[]] -> device 1: must be a table
+spare=[{category='Scanner'},3] -> spare 2: must be a table
+spare=[{category='HardTotals'}] -> spare 1: category must be CashDrawer, Scanner, LineDisplay or POSPrinter
+spare=[{category='Scanner',name='s'}] -> spare 1: unknown key: name
+spare=[{category='LineDisplay',rows=1,columns=1,ring=true,flaky=[1,1],record=true}] -> sound
+spare=[{category='Scanner',ring=false}] -> spare 1: unknown key: ring
+device=[{category='HardTotals',name='t',ring=true}] -> device 1: unknown key: ring
+device=[{category='HardTotals',name='t',flaky=[1,1]}] -> device 1: unknown key: flaky
+device=[{category='HardTotals',name='t',record=false}] -> device 1: unknown key: record
+DOCUMENTS
+category="category must be CashDrawer, Scanner, LineDisplay, POSPrinter or HardTotals"
+named='name must be 1 to 16 letters, digits or hyphens'
+flaky='flaky must be an array of two numbers, each 0 to 1000000'
+reports_profiles "device=[{category='HardTotals',name='t'},{%s}]\n" <<DEVICES
+category='CashDrawer',name='a23456789012345Z' -> sound
+category='LineDisplay',name='T',rows=8,columns=80 -> sound
+category='POSPrinter',name='-',chars=255,lines=100000,near=0 -> sound
+category='Scanner',name='t' -> two devices have the name t
+category='HardTotals',name='t' -> device 2: a second device of category HardTotals
+name='d' -> device 2: $category
+category='cashDrawer' -> device 2: $category
+category='Scanner' -> device 2: $named
+category='Scanner',name='' -> device 2: $named
+category='Scanner',name='é' -> device 2: $named
+category='Scanner',name='a234567890123456Z' -> device 2: $named
+category='LineDisplay',name='p',rows=4294967297 -> device 2: rows must be 1 to 8
+category='LineDisplay',name='p',rows=2.0 -> device 2: rows must be 1 to 8
+category='LineDisplay',name='p',rows=8 -> device 2: columns must be 1 to 80
+category='POSPrinter',name='r',chars=0 -> device 2: chars must be 1 to 255
+category='POSPrinter',name='r',chars=1 -> device 2: lines must be 0 to 100000
+category='POSPrinter',name='r',chars=1,lines=0 -> device 2: near must be 0 to 100000
+category='LineDisplay',name='p',rows=1,columns=1,ring=1 -> device 2: ring must be true or false
+category='LineDisplay',name='p',rows=9,columns=1,ring=1 -> device 2: rows must be 1 to 8
+category='CashDrawer',name='d',ring=true -> device 2: unknown key: ring
+category='CashDrawer',name='d',record='true' -> device 2: record must be true or false
+category='CashDrawer',name='d',flaky=true -> device 2: $flaky
+category='CashDrawer',name='d',flaky=[] -> device 2: $flaky
+category='CashDrawer',name='d',flaky=[1] -> device 2: $flaky
+category='CashDrawer',name='d',flaky=[1,1,1] -> device 2: $flaky
+category='CashDrawer',name='d',flaky=[1,1.0] -> device 2: $flaky
+category='CashDrawer',name='d',flaky=[-1,1] -> device 2: $flaky
+category='CashDrawer',name='d',flaky=[1000001,1] -> device 2: $flaky
+category='CashDrawer',name='d',flaky=[1,1000001] -> device 2: $flaky
+DEVICES
+printf '[[device]]\ncategory = "Scanner"\nname = "s"\n"" = 2\n' > profile.toml
+refuses_profile 'an empty key' 'device 1: unknown key: '
 
 # --- the order of faults, and the disk of a run
 ends 'a profile before a disk' 3 "pos_console: none.toml: can't be read: No such file or directory (os error 2)" \

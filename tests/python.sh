@@ -119,7 +119,7 @@ planted "another description" abi/description.json 's/Opens the drawer/Opens a d
   python/generate.py '_controls.py not as'
 
 if [ -z "$library" ]; then
-  runs "the archive" env -C "$top/crates/kijolvar" rt lib
+  runs "the archive" "$top/tools/libraries" archive
   library=$work/libkijolvar.so
   runs "the shared object" gcc -O2 -shared -fPIC -o "$library" -Wl,--whole-archive \
     "$top/crates/kijolvar/out/libkijolvar.a" -Wl,--no-whole-archive "$top/abi/heap.c"

@@ -33,7 +33,7 @@ if [ ! -x "$program" ]; then
   exit 1
 fi
 if [ ! -f "$archive" ]; then
-  (cd "$top/crates/kijolvar" && rt lib > "$work/lib" 2>&1) || tail -n 5 "$work/lib"
+  "$top/tools/libraries" archive > "$work/lib" 2>&1 || tail -n 5 "$work/lib"
 fi
 mkdir -p "$work/bin" "$work/top/crates/kijolvar/out"
 ln -s "$(realpath "$program")" "$work/bin/pos_console"

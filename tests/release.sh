@@ -84,7 +84,7 @@ snapshot() {
   local object
   [ -z "${KIJOLVAR_BUILT:-}" ] || return 0
   mkdir "$work/built"
-  (cd "$top/crates/kijolvar" && rt lib) > "$work/said" 2>&1
+  "$top/tools/libraries" archive > "$work/said" 2>&1
   told "the library is built" 0 "$?"
   cp "$top/crates/kijolvar/out/libkijolvar.a" "$work/built"
   take_object pos_console

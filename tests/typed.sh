@@ -104,7 +104,7 @@ runs "what is typed for Rust" python3 "$abi/typed_rust.py" --check
 
 strict=(-Wall -Wextra -Werror -pedantic)
 bare=${KIJOLVAR_ARCHIVE:-$top/crates/kijolvar/out/libkijolvar.a}
-[ -n "${KIJOLVAR_ARCHIVE:-}" ] || (cd "$top/crates/kijolvar" && rt lib > "$work/said" 2>&1)
+[ -n "${KIJOLVAR_ARCHIVE:-}" ] || "$top/tools/libraries" archive > "$work/said" 2>&1
 told "the library" 0 "$?"
 runs "the archive" env CFLAGS="-Werror" "$abi/build.sh" "$work"
 for header in kij.h kij_controls.h kijolvar.h; do

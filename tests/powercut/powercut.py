@@ -395,7 +395,7 @@ class Recorder:
     def faulted(self, name, start, layout, fault, script, count):
         """A run with the changes of a script in which the disk fails, and another one over what it finds then. The change in
         which it fails is in the file whole or not at all. No later one is done, and the disk is asked nothing more until the
-        totals are enabled anew: in vain once a sync has failed."""
+        totals are enabled anew. That syncs the file, and is in vain for good once a sync has failed."""
         at, is_sync, times = fault
         files = self.reader.read(start).files
         one = Talk(layout, files, self.changes(script, layout, files, count))
@@ -490,8 +490,8 @@ def gate_writes(entries):
 
 
 def faults(chance, entries):
-    """Faults of the disk at what a change does in turn: the write before each kind of sync, and the sync; some that pass and
-    one that doesn't."""
+    """Faults of the disk at what a change does in turn: for each kind of sync, the sync fails; the write before it does; and that
+    write with one or two acts behind it, or all."""
     acts, places, moment = 0, collections.defaultdict(list), cuts.begun(b"")
     for entry in entries:
         if entry.kind in "WS":

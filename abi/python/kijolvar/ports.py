@@ -561,7 +561,7 @@ class TcpPort(Port):
             self._joining = None
             raise
         if made is None:
-            raise TimeoutError(errno.ETIMEDOUT, "timed out")
+            raise _timed_out()
         self._joining = None
         with made:
             made.setsockopt(socket.IPPROTO_TCP, socket.TCP_NODELAY, 1)
@@ -598,7 +598,7 @@ class _Joining:
         Raises:
             OSError: None of the addresses answers.
         """
-        fault: OSError = TimeoutError(errno.ETIMEDOUT, "timed out")
+        fault: OSError = _timed_out()
         while self._made is not None or self._left:
             try:
                 if self._made is None:
@@ -607,7 +607,7 @@ class _Joining:
                     return self._taken()
                 if time.monotonic() < self._turn_ends_at:
                     return None
-                fault = TimeoutError(errno.ETIMEDOUT, "timed out")
+                fault = _timed_out()
             except OSError as found:
                 fault = found
             self.close()
@@ -640,6 +640,10 @@ class _Joining:
             return False
         _check(self._made.getsockopt(socket.SOL_SOCKET, socket.SO_ERROR), 0)
         return True
+
+
+def _timed_out() -> TimeoutError:
+    return TimeoutError(errno.ETIMEDOUT, "timed out")
 
 
 def _check(code: int, *wanted: int) -> None:

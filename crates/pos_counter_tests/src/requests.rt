@@ -75,20 +75,21 @@ fn each_kind_of_request_is_refused_without_memory(rt: HostRuntime) -> Result<(),
 
 #[test]
 fn faults_have_texts(rt: HostRuntime) -> Result<(), Fail> {
-    let (full, input) = (ControlFault::Full, InputFault::WrongInput);
-    let text = format!(in rt.alloc(); "{full}; {input}")?;
-    let want = "there are as many controls as there may be; the device has no such input";
-    assert_eq!(rt; text.as_str(), want);
-    let (input, work) = (InputFault::NoDevice, WorkFault::NoDevice);
-    let text = format!(in rt.alloc(); "{input}; {work}; {}", SnapshotFault::NoDevice)?;
-    let want = "there is no such device; there is no such device; there is no such device";
-    assert_eq!(rt; text.as_str(), want);
-    let (control, input, work) = (
+    let text = format!(in rt.alloc();
+        "{}; {}; {}; {}; {}; {}; {}; {}; {}",
+        ControlFault::Full,
+        InputFault::WrongInput,
+        InputFault::NoDevice,
+        WorkFault::NoDevice,
+        SnapshotFault::NoDevice,
         ControlFault::NoMemory,
         InputFault::NoMemory,
         WorkFault::NoMemory,
-    );
-    let text = format!(in rt.alloc(); "{control}; {input}; {work}; {}", SnapshotFault::NoMemory)?;
-    assert_eq!(rt; text.as_str(), "no memory; no memory; no memory; no memory");
+        SnapshotFault::NoMemory
+    )?;
+    let want =
+        "there are as many controls as there may be; the device has no such input; there is no such device; \
+        there is no such device; there is no such device; no memory; no memory; no memory; no memory";
+    assert_eq!(rt; text.as_str(), want);
     Ok(())
 }

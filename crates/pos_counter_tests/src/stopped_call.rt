@@ -1,6 +1,6 @@
 //! Stops of one call over copies of a disk that doesn't work any more, crashes behind them, and what new counters find.
 use crate::counters::told;
-use crate::rows::{BEFORE, Row, look_lines, look_text};
+use crate::rows::{BEFORE, Files, Row, look_lines, look_text};
 use pos_disk::{Fill, FuseDisk, MemDisk};
 use pos_profile::Profile;
 use std::alloc::{AllocError, Global};
@@ -73,19 +73,28 @@ pub struct StoppedCall {
     after: String,
 }
 
+/// The lines of a new counter that looks for the files.
+fn looking(alloc: Global) -> Result<String, AllocError> {
+    let look = look_lines(alloc, 1)?;
+    joined(alloc, &[OPENING, ENABLING, look.as_str()])
+}
+
+/// What they print where these files are.
+fn found(alloc: Global, files: Files) -> Result<String, AllocError> {
+    let look = look_text(alloc, files, 1)?;
+    joined(alloc, &["ok\nok\nok\n", look.as_str()])
+}
+
 impl StoppedCall {
     pub fn new(alloc: Global, disk: MemDisk, row: Row) -> Result<Self, Fail> {
-        let look = look_lines(alloc, 1)?;
-        let before = look_text(alloc, BEFORE, 1)?;
-        let after = look_text(alloc, row.after, 1)?;
         Ok(StoppedCall {
             alloc,
             profile: Profile::built(alloc)?,
             disk,
             row,
-            lines: joined(alloc, &[OPENING, ENABLING, look.as_str()])?,
-            before: joined(alloc, &["ok\nok\nok\n", before.as_str()])?,
-            after: joined(alloc, &["ok\nok\nok\n", after.as_str()])?,
+            lines: looking(alloc)?,
+            before: found(alloc, BEFORE)?,
+            after: found(alloc, row.after)?,
         })
     }
 
@@ -96,57 +105,63 @@ impl StoppedCall {
         told(self.alloc, &self.profile, fuse, lines.as_bytes())
     }
 
-    /// How many calls of the disk the lines before the call make, or those up to it.
-    fn calls(&self, line: &'static str) -> Result<u64, Fail> {
-        let (_, fuse) = self.fused(u64::MAX, &[OPENING, self.row.first.0, line])?;
+    /// How many calls of the disk these lines make behind an opening.
+    fn calls(&self, first: &'static str, line: &'static str) -> Result<u64, Fail> {
+        let (_, fuse) = self.fused(u64::MAX, &[OPENING, first, line])?;
         Ok(fuse.calls())
     }
 
-    /// Stops the call at the disk call with a number, asks all others, and closes: the disk then.
-    fn stop(&self, pass: u64) -> Result<MemDisk, Fail> {
-        let row = &self.row;
-        let others = joined(self.alloc, &OTHERS)?;
-        let lines = [
-            OPENING,
-            row.first.0,
-            row.line.0,
-            others.as_str(),
-            "close t\n",
-        ];
-        let (text, fuse) = self.fused(pass, &lines)?;
-        let refusals = repeated(self.alloc, row.refusal, OTHERS.len() as u64)?;
-        let wanted = [
-            "ok\nok\n",
-            row.first.1,
-            "err 111\n",
-            refusals.as_str(),
-            "ok\n",
-        ];
-        check(&text, joined(self.alloc, &wanted)?.as_str())?;
-        if fuse.calls() != pass.saturating_add(1) {
-            return Err(Fail::new("the disk is asked behind its fault"));
+    /// Runs lines over a copy of the disk that works for so many calls. They have to print these texts, and to make so
+    /// many calls: the disk then.
+    fn asked(
+        &self,
+        pass: u64,
+        lines: &[&str],
+        wanted: &[&str],
+        calls: u64,
+    ) -> Result<MemDisk, Fail> {
+        let (text, fuse) = self.fused(pass, lines)?;
+        check(&text, joined(self.alloc, wanted)?.as_str())?;
+        if fuse.calls() != calls {
+            return Err(Fail::new("the disk is asked too often"));
         }
         Ok(fuse.into_inner())
     }
 
-    /// Makes the call, which meets no fault, looks for the files, and closes: the disk then.
+    /// Stops the call at the disk call with a number, asks all others, which leave the disk alone, and closes.
+    fn stop(&self, pass: u64) -> Result<MemDisk, Fail> {
+        let (first, line) = (self.row.first, self.row.line.0);
+        let others = joined(self.alloc, &OTHERS)?;
+        let refusals = repeated(self.alloc, self.row.refusal, OTHERS.len() as u64)?;
+        let lines = [OPENING, first.0, line, others.as_str(), "close t\n"];
+        let wanted = ["ok\nok\n", first.1, "err 111\n", refusals.as_str(), "ok\n"];
+        self.asked(pass, &lines, &wanted, pass.saturating_add(1))
+    }
+
+    /// Makes the call, which meets no fault, looks for the files, which leaves the disk alone, and closes.
     fn finish(&self, pass: u64) -> Result<MemDisk, Fail> {
-        let row = &self.row;
-        let look = look_lines(self.alloc, row.first_kept)?;
-        let lines = [OPENING, row.first.0, row.line.0, look.as_str(), "close t\n"];
-        let (text, fuse) = self.fused(pass, &lines)?;
-        let found = look_text(self.alloc, row.after, row.first_kept)?;
-        let wanted = ["ok\nok\n", row.first.1, row.line.1, found.as_str(), "ok\n"];
-        check(&text, joined(self.alloc, &wanted)?.as_str())?;
-        Ok(fuse.into_inner())
+        let (first, line) = (self.row.first, self.row.line);
+        let look = look_lines(self.alloc, self.row.first_kept)?;
+        let found = look_text(self.alloc, self.row.after, self.row.first_kept)?;
+        let lines = [OPENING, first.0, line.0, look.as_str(), "close t\n"];
+        let wanted = ["ok\nok\n", first.1, line.1, found.as_str(), "ok\n"];
+        self.asked(pass, &lines, &wanted, pass)
+    }
+
+    /// What a new counter over a disk prints that looks for the files, and the disk then.
+    fn looked(&self, disk: MemDisk) -> Result<(Vec<u8>, MemDisk), Fail> {
+        told(self.alloc, &self.profile, disk, self.lines.as_bytes())
     }
 
     /// Crashes a disk with each fill. New counters have to find the files after the call, or, unless it is done, those
-    /// before it.
+    /// before it; and others behind a further crash the same.
     fn crash(&self, disk: &MemDisk, is_done: bool) -> Result<(), Fail> {
         for fill in FILLS {
-            let lines = self.lines.as_bytes();
-            let (text, _) = told(self.alloc, &self.profile, disk.crash(fill)?, lines)?;
+            let (text, again) = self.looked(disk.crash(fill)?)?;
+            let (same, _) = self.looked(again.crash(Fill::Old)?)?;
+            if same != text {
+                return Err(Fail::new("a second reopening finds other files"));
+            }
             if is_done || text.as_slice() != self.before.as_bytes() {
                 check(&text, self.after.as_str())?;
             }
@@ -156,7 +171,13 @@ impl StoppedCall {
 
     /// Stops the call at each of its disk calls in turn, until it meets no fault: how often.
     pub fn stop_at_each(&self) -> Result<u64, Fail> {
-        let (begin, end) = (self.calls("")?, self.calls(self.row.line.0)?);
+        let (first, line) = (self.row.first.0, self.row.line.0);
+        let (begin, end) = (self.calls(first, "")?, self.calls(first, line)?);
+        // The enabling alone reads the disk: what is refused or buffered after it doesn't.
+        let enabling = if first.is_empty() { "" } else { ENABLING };
+        if begin != self.calls(enabling, "")? {
+            return Err(Fail::new("what is refused or buffered asks the disk"));
+        }
         for pass in begin..end {
             self.crash(&self.stop(pass)?, false)?;
         }

@@ -1,7 +1,7 @@
 //! Each call that reaches the disk is stopped at each of its disk calls. Then the totals are off and the disk is left
 //! alone, and crashes leave the files before the call or after the whole of it.
 use crate::counters::told;
-use crate::rows::{ENABLING, changes};
+use crate::rows::{ENABLING, Row, changes};
 use crate::stopped_call::StoppedCall;
 use pos_disk::{FuseDisk, MemDisk};
 use pos_image::new_disk;
@@ -44,26 +44,29 @@ fn without_room(alloc: Global) -> Result<MemDisk, Fail> {
     Ok(told(alloc, &profile, with_room(alloc)?, lines.as_bytes())?.1)
 }
 
+/// Stops a call at each of its disk calls, over a disk whose log has room or hasn't: how often.
+fn stop_call(alloc: Global, has_room: bool, row: Row) -> Result<u64, Fail> {
+    let disk = if has_room {
+        with_room(alloc)
+    } else {
+        without_room(alloc)
+    };
+    StoppedCall::new(alloc, disk?, row)?.stop_at_each()
+}
+
 #[test]
 fn an_enabling_is_stopped(rt: HostRuntime) -> Result<(), Fail> {
-    let alloc = rt.alloc();
-    for disk in [with_room(alloc)?, without_room(alloc)?] {
-        assert_eq!(rt; StoppedCall::new(alloc, disk, ENABLING)?.stop_at_each()?, 7);
+    for has_room in [true, false] {
+        assert_eq!(rt; stop_call(rt.alloc(), has_room, ENABLING)?, 7);
     }
     Ok(())
 }
 
-/// Stops each change at each of its disk calls, over a disk whose log has room or hasn't: how often.
+/// Stops each change: how often in all.
 fn stop_changes(alloc: Global, has_room: bool) -> Result<u64, Fail> {
     let mut stops: u64 = 0;
     for row in changes() {
-        let disk = if has_room {
-            with_room(alloc)?
-        } else {
-            without_room(alloc)?
-        };
-        let more = StoppedCall::new(alloc, disk, row)?.stop_at_each()?;
-        stops = stops.saturating_add(more);
+        stops = stops.saturating_add(stop_call(alloc, has_room, row)?);
     }
     Ok(stops)
 }

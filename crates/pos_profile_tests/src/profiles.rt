@@ -64,25 +64,14 @@ fn what_texts_are_answered(rt: HostRuntime) -> Result<(), Fail> {
 }
 
 #[test]
-fn what_is_told_of_documents(rt: HostRuntime) -> Result<(), Fail> {
+fn what_is_told_of_texts(rt: HostRuntime) -> Result<(), Fail> {
     for case in [
-        " -> 0 and 0",
-        "spare=[]\ndevice=[] -> 0 and 0",
         "spare=[{category='CashDrawer'},{category='Scanner'}] -> 0 and 2",
         "device=[ -> the profile is no TOML document",
-        "device=[]\ndevice=[] -> the profile is no TOML document",
         "device=[3]\nx=1 -> profile: unknown key: x",
-        "device=3 -> profile: device must be an array of tables",
-        "device=[3]\nspare='d' -> profile: spare must be an array of tables",
-        "spare=[3]\ndevice=[[]] -> device 1: must be a table",
         "spare=[{category='Scanner'},3] -> spare 2: must be a table",
-        "spare=[{category='HardTotals'}] -> spare 1: category must be CashDrawer, Scanner, LineDisplay or POSPrinter",
-        "spare=[{category='Scanner',name='s'}] -> spare 1: unknown key: name",
-        "spare=[{category='LineDisplay',rows=1,columns=1,ring=true,flaky=[1,1],record=true}] -> 0 and 1",
-        "spare=[{category='Scanner',ring=false}] -> spare 1: unknown key: ring",
-        "device=[{category='HardTotals',name='t',ring=true}] -> device 1: unknown key: ring",
-        "device=[{category='HardTotals',name='t',flaky=[1,1]}] -> device 1: unknown key: flaky",
-        "device=[{category='HardTotals',name='t',record=false}] -> device 1: unknown key: record",
+        "device=[{category='HardTotals',name='t'},{name='d'}] -> device 2: category must be CashDrawer, \
+        Scanner, LineDisplay, POSPrinter or HardTotals",
     ] {
         let (text, wanted) = case.split_once(" -> ").expect(&rt, "an arrow");
         let line = told(rt.alloc(), text)?;
@@ -92,82 +81,24 @@ fn what_is_told_of_documents(rt: HostRuntime) -> Result<(), Fail> {
 }
 
 #[test]
-fn what_is_told_of_a_device_behind_totals(rt: HostRuntime) -> Result<(), Fail> {
-    for case in [
-        "category='CashDrawer',name='a23456789012345Z' -> 2 and 0",
-        "category='LineDisplay',name='T',rows=8,columns=80 -> 2 and 0",
-        "category='POSPrinter',name='-',chars=255,lines=100000,near=0 -> 2 and 0",
-        "category='Scanner',name='t' -> two devices of the profile have the name t",
-        "category='HardTotals',name='t' -> device 2: a second device of category HardTotals",
-        "name='d' -> device 2: category must be CashDrawer, Scanner, LineDisplay, POSPrinter or HardTotals",
-        "category='cashDrawer' -> device 2: category must be CashDrawer, Scanner, LineDisplay, \
-        POSPrinter or HardTotals",
-        "category='Scanner' -> device 2: name must be 1 to 16 letters, digits or hyphens",
-        "category='Scanner',name='' -> device 2: name must be 1 to 16 letters, digits or hyphens",
-        "category='Scanner',name='\u{e9}' -> device 2: name must be 1 to 16 letters, digits or hyphens",
-        "category='Scanner',name='a234567890123456Z' -> device 2: name must be 1 to 16 letters, digits or hyphens",
-        "category='Scanner',name='s',''=2 -> device 2: unknown key: ",
-        "category='LineDisplay',name='p',rows=4294967297 -> device 2: rows must be 1 to 8",
-        "category='LineDisplay',name='p',rows=2.0 -> device 2: rows must be 1 to 8",
-        "category='LineDisplay',name='p',rows=8 -> device 2: columns must be 1 to 80",
-        "category='POSPrinter',name='r',chars=0 -> device 2: chars must be 1 to 255",
-        "category='POSPrinter',name='r',chars=1 -> device 2: lines must be 0 to 100000",
-        "category='POSPrinter',name='r',chars=1,lines=0 -> device 2: near must be 0 to 100000",
-        "category='LineDisplay',name='p',rows=1,columns=1,ring=1 -> device 2: ring must be true or false",
-        "category='LineDisplay',name='p',rows=9,columns=1,ring=1 -> device 2: rows must be 1 to 8",
-        "category='CashDrawer',name='d',ring=true -> device 2: unknown key: ring",
-        "category='CashDrawer',name='d',record='true' -> device 2: record must be true or false",
-        "category='CashDrawer',name='d',flaky=true -> device 2: flaky must be an array of two numbers, \
-        each 0 to 1000000",
-        "category='CashDrawer',name='d',flaky=[] -> device 2: flaky must be an array of two numbers, each 0 to 1000000",
-        "category='CashDrawer',name='d',flaky=[1] -> device 2: flaky must be an array of two numbers, \
-        each 0 to 1000000",
-        "category='CashDrawer',name='d',flaky=[1,1,1] -> device 2: flaky must be an array of two numbers, \
-        each 0 to 1000000",
-        "category='CashDrawer',name='d',flaky=[1,1.0] -> device 2: flaky must be an array of two numbers, \
-        each 0 to 1000000",
-        "category='CashDrawer',name='d',flaky=[-1,1] -> device 2: flaky must be an array of two numbers, \
-        each 0 to 1000000",
-        "category='CashDrawer',name='d',flaky=[1000001,1] -> device 2: flaky must be an array of two numbers, \
-        each 0 to 1000000",
-        "category='CashDrawer',name='d',flaky=[1,1000001] -> device 2: flaky must be an array of two numbers, \
-        each 0 to 1000000",
-    ] {
-        let (device, wanted) = case.split_once(" -> ").expect(&rt, "an arrow");
-        let text = format!(in rt.alloc();
-            "device=[{{category='HardTotals',name='t'}},{{{device}}}]"
-        )?;
-        let line = told(rt.alloc(), text.as_str())?;
-        assert_eq!(rt; line.as_str(), wanted, "{case}");
-    }
-    Ok(())
-}
-
-#[test]
 fn texts_of_faults(rt: HostRuntime) -> Result<(), Fail> {
-    let alloc = rt.alloc();
-    let line = format!(in alloc; "{}; {}", ProfileFault::BadEntry(7), ProfileFault::NoMemory)?;
+    let line = format!(in rt.alloc();
+        "{}; {}; {}; {}; {}; {}; {}; {}",
+        ProfileFault::BadEntry(7),
+        ProfileFault::NoMemory,
+        AttachFault::Unknown,
+        AttachFault::KindDiffers,
+        AttachFault::InUse,
+        DetachFault::Unknown,
+        DetachFault::Vacant,
+        DetachFault::InUse
+    )?;
     assert_eq!(rt;
         line.as_str(),
-        "entry 7 of the profile is not sound; no memory"
+        "entry 7 of the profile is not sound; no memory; there is no such device; the peripheral is of another kind; \
+        the device has its peripheral; there is no such device; the device has no peripheral; \
+        a control has the device open"
     );
-    for (fault, wanted) in [
-        (AttachFault::Unknown, "there is no such device"),
-        (
-            AttachFault::KindDiffers,
-            "the peripheral is of another kind",
-        ),
-        (AttachFault::InUse, "the device has its peripheral"),
-    ] {
-        assert_eq!(rt; format!(in alloc; "{fault}")?.as_str(), wanted);
-    }
-    for (fault, wanted) in [
-        (DetachFault::Unknown, "there is no such device"),
-        (DetachFault::Vacant, "the device has no peripheral"),
-        (DetachFault::InUse, "a control has the device open"),
-    ] {
-        assert_eq!(rt; format!(in alloc; "{fault}")?.as_str(), wanted);
-    }
     Ok(())
 }
 

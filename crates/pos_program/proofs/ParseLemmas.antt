@@ -1,11 +1,11 @@
 -- What a parse of the program's words tells of them.
-use Rattle.std.proofs.Common.{◌≡◌, ◌∷◌, ◌∙◌, ap₂, [], Bool, List, eqb, length, Some, None, Option, Err, Ok, true, false}
+use Rattle.std.proofs.Common.{◌≡◌, ◌∷◌, ◌∙◌, [], Bool, List, eqb, length, Some, None, Option, Err, Ok, true, false}
 use Rattle.std.proofs.Common.{map, codes, refl, ap, subst, inl, inr}
-use Rattle.std.specs.Prelude.{◌≢◌, ◌⊎◌, find, option_map, Result, IfOk, is_some}
+use Rattle.std.specs.Prelude.{◌≢◌, ◌⊎◌, find, option_map, is_some}
 use Rattle.clap.specs.declared.parser.matches.ArgMatches.{ArgMatches}
 use Rattle.clap.specs.Words.{App, HasKind, HasMatchesOf, IsAmong, Row, Shape, Text, fault_of, is_simple}
-use Rattle.clap.specs.Words.{is_simple_and_free, kind_of, AddsSubcommand, app_of, first_value, new_app, rows_of}
-use Rattle.clap.specs.Words.{subcommand_rows_of, with_subcommand}
+use Rattle.clap.specs.Words.{is_simple_and_free, kind_of, app_of, first_value, new_app, rows_of}
+use Rattle.clap.specs.Words.{subcommand_rows_of}
 use Rattle.clap.specs.Simple.{app_of_fields, argument_words, built, entered, label_of, names_of, on_top, rows_at}
 use Rattle.clap.specs.declared.builder.command.Command.{Command}
 use Rattle.clap.specs.declared.builder.command.Command.TheViews.{out-Command as fields_of}
@@ -22,7 +22,8 @@ use Rattle.pos_program.specs.declared.choice_fault.ChoiceFault.TheVariants.{Word
 use Rattle.pos_program.specs.declared.choice_fault.WordsFault.TheVariants.{Help, Refused, NotUtf8}
 use Rattle.pos_program.specs.declared.words.Task.{Task}
 use Rattle.pos_program.specs.declared.words.Task.TheVariants.{Demo, Run, Format, Migrate, Files}
-use Rattle.pos_program.specs.Choices.{Asks, Chooses, IsCommand, IsKnown, ReportsWhy, command_in, path_in, program_line}
+use Rattle.pos_program.specs.Choices.{Asks, Chooses, IsCommand, IsKnown, ReportsWhy, bare_line, command_in}
+use Rattle.pos_program.specs.Choices.{path_in, program_line}
 
 -- the program's is a command line of which `clap` says when it refuses words and what it finds in them
 pub program_known : (is_simple_and_free program_line ≡ true) × (is_simple program_line ≡ true)
@@ -163,31 +164,17 @@ module _ {app : App} (words : List Text) (same : app ≡ program_line) where
 -- ---- the program's command line, as it is built
 
 -- its head
-pub bare : {name : Text} (new unnamed plain started : Command) → app_of new ≡ new_app name
-    → fields_of unnamed ≡ record (fields_of new) { no_binary_name = true }
-    → fields_of plain ≡ record (fields_of unnamed) { disable_help_subcommand = true } → fields_of started
-    ≡ record (fields_of plain) { subcommand_required = true } → app_of started ≡ on_top (λ s. record s {
-      no_binary_name = true;
-      disable_help_subcommand = true;
-      subcommand_required = true;
-    }) (new_app name)
-bare new unnamed plain started is first second third =
-    ap app_of_fields third ∙ ap (on_top (λ s. record s { subcommand_required = true }))
-    (ap app_of_fields second ∙ ap (on_top (λ s. record s { disable_help_subcommand = true }))
-    (ap app_of_fields first ∙ ap (on_top (λ s. record s { no_binary_name = true })) is))
-
--- one command more
-pub with_command : (old sub new : Command) (before line : App) → app_of old ≡ before → app_of sub ≡ line
-    → (fields_of sub).has_globals ≡ false → AddsSubcommand old sub new → app_of new ≡ with_subcommand before line.top
-with_command old sub new before line is same local adds =
-    adds.shape local ∙ ap₂ with_subcommand is (ap (λ (a : App). a.top) same)
-
-pub last_command : {E : Type 0} (old sub : Command) (result : Result Command E) (before line : App)
-    → app_of old ≡ before → app_of sub ≡ line → (fields_of sub).has_globals ≡ false
-    → IfOk result (λ new. AddsSubcommand old sub new)
-    → IfOk result (λ new. app_of new ≡ with_subcommand before line.top)
-last_command old sub (Ok new) before line is same local adds = with_command old sub new before line is same local adds
-last_command old sub (Err why) before line is same local adds = tt
+pub bare : (new unnamed plain started : Command) → app_of new ≡ new_app (codes "pos_console")
+    → (fields_of new).has_globals ≡ false → fields_of unnamed ≡ record (fields_of new) { no_binary_name = true }
+    → fields_of plain ≡ record (fields_of unnamed) { disable_help_subcommand = true }
+    → fields_of started ≡ record (fields_of plain) { subcommand_required = true }
+    → (app_of started ≡ bare_line) × ((fields_of started).has_globals ≡ false)
+bare new unnamed plain started is local first second third = (
+  ap app_of_fields third ∙ ap (on_top (λ s. record s { subcommand_required = true }))
+      (ap app_of_fields second ∙ ap (on_top (λ s. record s { disable_help_subcommand = true }))
+      (ap app_of_fields first ∙ ap (on_top (λ s. record s { no_binary_name = true })) is)),
+  ap (λ f. f.has_globals) third ∙ ap (λ f. f.has_globals) second ∙ ap (λ f. f.has_globals) first ∙ local,
+)
 
 -- ---- a path in the matches of a command
 

@@ -1,5 +1,6 @@
 pub mod Answers
 pub mod Choices
+pub mod CommandLines
 pub mod Faults
 pub mod Formats
 pub mod Locks

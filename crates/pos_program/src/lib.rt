@@ -1,6 +1,7 @@
 //! What the program `pos_console` needs of words, files and profiles.
 //!
 //! - [`choice`] returns the [`Task`] that the words of the command line ask for.
+//! - [`CommandLine`] is made in steps, by [`begin_line`], [`with_word`] and [`with_command`].
 //! - [`FileSystem`] and [`NamedFiles`] are the files that those words name. [`TotalsDisk`] is the disk in one of them.
 //! - [`format_file`], [`migrate_file`] and [`NamedFiles::read_disk`] format a totals file, move it to layout 2, and
 //!   read it. [`profile_of_bytes`] and [`open_run`] read a profile.
@@ -11,6 +12,7 @@
 #![tactic(auto)]
 
 mod choice_fault;
+mod command_lines;
 mod fault;
 mod file_fault;
 mod file_system;
@@ -27,6 +29,7 @@ mod totals_file;
 mod words;
 
 pub use choice_fault::{ChoiceFault, WordsFault};
+pub use command_lines::{CommandLine, begin_line, with_command, with_word};
 pub use fault::{Fault, status_of};
 pub use file_fault::FileFault;
 pub use file_system::FileSystem;

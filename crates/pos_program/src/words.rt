@@ -1,15 +1,16 @@
 //! What the words of the command line ask for.
-ghost use Rattle.std.specs.Prelude.{◌≡◌, IfErr, IfOk, codes, false, map};
+ghost use Rattle.std.specs.Prelude.{◌≡◌, IfErr, codes, map};
 ghost use Rattle.std.specs.IoError.{error_kind};
-ghost use Rattle.clap.specs.Words.{app_of, found_of, rows_of, rule_of, subcommand_rows_of};
-ghost use Rattle.clap.specs.declared.builder.command.Command.TheViews.{out-Command as fields_of};
+ghost use Rattle.clap.specs.Words.{found_of, rows_of, subcommand_rows_of};
 ghost use Rattle.pos_program.specs.Choices.{AreUnread, Asks, Chooses, IsKnown, ReportsUnread, ReportsWhy};
 ghost use Rattle.pos_program.specs.Choices.{disk_line, path_in, path_rule, program_line, run_line};
+ghost use Rattle.pos_program.specs.CommandLines.{IsLine, IsWord};
 
 use crate::choice_fault::{ChoiceFault, WordsFault};
+use crate::command_lines::{CommandLine, begin_line, with_command, with_word};
 use clap::error::ErrorKind;
 use clap::{Arg, ArgAction, ArgMatches, Command};
-use std::alloc::{AllocError, Global};
+use std::alloc::Global;
 use std::convert::AsStr;
 use std::rt::Env;
 use std::{env, io};
@@ -59,8 +60,7 @@ pub fn read_words<R: Env + AllocGlobal>(rt: &R) -> Result<Vec<String>, ChoiceFau
 
 // Returns an option `--NAME FILE` that must be given.
 fn path_option<'a>(alloc: Global, name: &'a str) -> Arg<'a>
-    ensures rule { rule_of result ≡ path_rule name.entry.now }
-    ensures local { result.global ≡ false }
+    ensures { IsWord result (path_rule name.entry.now) }
 {
     Arg::new(alloc, name)
         .long(name)
@@ -69,33 +69,31 @@ fn path_option<'a>(alloc: Global, name: &'a str) -> Arg<'a>
 }
 
 // Returns the command line of `run`.
-fn run_line<'a>(alloc: Global) -> Result<Command<'a>, AllocError>
-    ensures app { IfOk result (λ line. app_of line ≡ run_line) }
-    ensures local { IfOk result (λ line. (fields_of line).has_globals ≡ false) }
+fn run_line<'a>(alloc: Global) -> CommandLine<'a>
+    ensures { IsLine result run_line }
 {
-    let started = Command::new(alloc, "run").arg(path_option(alloc, "profile"))?;
-    started.arg(path_option(alloc, "disk"))
+    let profiled = with_word(begin_line(alloc, "run"), path_option(alloc, "profile"));
+    with_word(profiled, path_option(alloc, "disk"))
 }
 
 // Returns the command line of a command that has a disk alone.
-fn disk_line<'a>(alloc: Global, command: &'a str) -> Result<Command<'a>, AllocError>
-    ensures app { IfOk result (λ line. app_of line ≡ disk_line command.entry.now) }
-    ensures local { IfOk result (λ line. (fields_of line).has_globals ≡ false) }
+fn disk_line<'a>(alloc: Global, command: &'a str) -> CommandLine<'a>
+    ensures { IsLine result (disk_line command.entry.now) }
 {
-    Command::new(alloc, command).arg(path_option(alloc, "disk"))
+    with_word(begin_line(alloc, command), path_option(alloc, "disk"))
 }
 
 // Returns the command line of the program.
-fn program_line<'a>(alloc: Global) -> Result<Command<'a>, AllocError>
-    ensures { IfOk result (λ line. app_of line ≡ program_line) }
+fn program_line<'a>(alloc: Global) -> CommandLine<'a>
+    ensures { IsLine result program_line }
 {
     let bare = Command::new(alloc, "pos_console").no_binary_name(true);
     let plain = bare.disable_help_subcommand(true);
     let started = plain.subcommand_required(true);
-    let runs = started.subcommand(run_line(alloc)?)?;
-    let formats = runs.subcommand(disk_line(alloc, "format")?)?;
-    let migrates = formats.subcommand(disk_line(alloc, "migrate")?)?;
-    migrates.subcommand(disk_line(alloc, "files")?)
+    let runs = with_command(Ok(started), run_line(alloc));
+    let formats = with_command(runs, disk_line(alloc, "format"));
+    let migrates = with_command(formats, disk_line(alloc, "migrate"));
+    with_command(migrates, disk_line(alloc, "files"))
 }
 
 // Returns why `clap` gave no matches.

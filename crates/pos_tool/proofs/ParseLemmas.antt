@@ -1,13 +1,10 @@
 -- What a parse of the program's words tells of them.
-use Rattle.std.proofs.Common.{◌≡◌, [], ◌∙◌, List, Err, Ok, true, false, refl, ap, inl, inr, subst}
-use Rattle.std.specs.Prelude.{◌≢◌, IfOk, None, Result, Some, option_map}
+use Rattle.std.proofs.Common.{◌≡◌, [], ◌∙◌, List, Err, Ok, true, false, refl, ap, inl, inr}
+use Rattle.std.specs.Prelude.{◌≢◌, IfOk, None, Result, Some, codes, option_map}
 use Rattle.std.specs.Borrow.{Bor}
 use Rattle.clap.specs.declared.parser.matches.ArgMatches.{ArgMatches}
 use Rattle.clap.specs.Words.{App, HasKind, HasMatchesOf, IsAmong, Text, fault_of, is_simple, is_simple_and_free}
 use Rattle.clap.specs.Words.{kind_of, app_of, matched_of, new_app, raw_values, rows_of, subcommand_rows_of}
-use Rattle.clap.specs.Words.{with_subcommand}
-use Rattle.pos_program.proofs.ParseLemmas.{with_command}
-use Rattle.std.specs.declared.alloc.AllocError.{AllocError}
 use Rattle.clap.specs.declared.parser.matches.Found.{Found}
 use Rattle.clap.proofs.WalkLemmas.{raw_values-rows}
 use Rattle.clap.specs.Simple.{app_of_fields, on_top}
@@ -17,7 +14,7 @@ use Rattle.clap.specs.declared.error.Error.{Error}
 use Rattle.clap.specs.declared.error.kind.ErrorKind.TheVariants.{OutOfMemory}
 use Rattle.clap.proofs.OnLiterals.{clap_on_literals}
 use Rattle.pos_tool.specs.Commands.{Chooses, PrintsWhy, command_in, words_in}
-use Rattle.pos_tool.specs.Lines.{Adds, program_line}
+use Rattle.pos_tool.specs.Lines.{bare_line, program_line}
 use Rattle.pos_tool.specs.declared.commands.Task.{Task}
 use Rattle.pos_tool.specs.declared.commands.Task.TheVariants.{Help, Version, Explain, Ask, Create, Migrate, Backup}
 use Rattle.pos_tool.specs.declared.commands.Task.TheVariants.{Restore, Diff, Load, Salvage, Run, Test, Completions, Man}
@@ -70,32 +67,18 @@ module _ (app : App) (words : List Text) (same : app ≡ program_line) where
   told error (Err NotUtf8) kinds why = absurd why
   told error (Err NoMemory) kinds why = tt
 
--- a program's command line as it begins: its name isn't among the words, and `clap`'s own `help` is no command
-pub begun : (name : Text) (new unnamed started : Command) → app_of new ≡ new_app name
-    → fields_of unnamed ≡ record (fields_of new) { no_binary_name = true }
-    → fields_of started ≡ record (fields_of unnamed) { disable_help_subcommand = true }
-    → app_of started ≡ on_top (λ s. record s { no_binary_name = true; disable_help_subcommand = true }) (new_app name)
-begun name new unnamed started is first second =
-    ap app_of_fields second ∙ ap (on_top (λ s. record s { disable_help_subcommand = true }))
-    (ap app_of_fields first ∙ ap (on_top (λ s. record s { no_binary_name = true })) is)
-
--- one command more, which was made
-module _ (old : Command) (made : Result Command AllocError) (before line : App) (is : app_of old ≡ before)
-    (same : IfOk made (λ c. app_of c ≡ line)) (local : IfOk made (λ c. (fields_of c).has_globals ≡ false)) where
-  pub added : (new : Command) → Adds old made new → app_of new ≡ with_subcommand before line.top
-  added new (command, ok, adds) = with_command old command new before line is
-      (subst (λ r. IfOk r (λ c. app_of c ≡ line)) ok same)
-      (subst (λ r. IfOk r (λ c. (fields_of c).has_globals ≡ false)) ok local) adds
-
-  pub last_added : {E : Type 0} (result : Result Command E) → IfOk result (λ new. Adds old made new)
-      → IfOk result (λ new. app_of new ≡ with_subcommand before line.top)
-  last_added (Ok new) adds = added new adds
-  last_added (Err why) adds = tt
-
--- a version on a command line
-pub versioned : (text : Bor Text) (old new : Command) (before : App) → app_of old ≡ before → fields_of new
-    ≡ record (fields_of old) { version = Some text } → app_of new ≡ on_top (λ s. record s { has_version = true }) before
-versioned text old new before is third = ap app_of_fields third ∙ ap (on_top (λ s. record s { has_version = true })) is
+-- the program's command line as it begins
+pub begun : (text : Bor Text) (new named plain bare : Command) → app_of new ≡ new_app (codes "kijolvar")
+    → (fields_of new).has_globals ≡ false → fields_of named ≡ record (fields_of new) { no_binary_name = true }
+    → fields_of plain ≡ record (fields_of named) { disable_help_subcommand = true }
+    → fields_of bare ≡ record (fields_of plain) { version = Some text }
+    → (app_of bare ≡ bare_line) × ((fields_of bare).has_globals ≡ false)
+begun text new named plain bare is local first second third = (
+  ap app_of_fields third ∙ ap (on_top (λ s. record s { has_version = true }))
+      (ap app_of_fields second ∙ ap (on_top (λ s. record s { disable_help_subcommand = true }))
+      (ap app_of_fields first ∙ ap (on_top (λ s. record s { no_binary_name = true })) is)),
+  ap (λ f. f.has_globals) third ∙ ap (λ f. f.has_globals) second ∙ ap (λ f. f.has_globals) first ∙ local,
+)
 
 -- the words of a place in the matches of a command
 pub words_there : (found : Found) (place : Text) (words : List Text)

@@ -1,16 +1,9 @@
 -- The program's command line (docs/reference/tool.md).
-use Rattle.std.specs.Prelude.{◌∷◌, [], true, Some, codes, Result, Ok, ◌≡◌}
-use Rattle.std.specs.declared.alloc.AllocError.{AllocError}
-use Rattle.clap.specs.Built.{AddsSubcommand}
-use Rattle.clap.specs.declared.builder.command.Command.{Command}
+use Rattle.std.specs.Prelude.{◌∷◌, [], true, Some, codes}
 use Rattle.clap.specs.Words.{App, Rule, Text, new_app, new_rule, with_rule, with_subcommand}
 use Rattle.clap.specs.Lexer.{usize_max}
 use Rattle.clap.specs.Simple.{on_top}
 use Rattle.clap.specs.declared.builder.ArgAction.TheVariants.{Append, Set, SetTrue}
-
--- a command line with one command more, which was made
-abbrev pub Adds : Command → Result Command AllocError → Command → Type 0
-Adds old made new = (command : Command) × (made ≡ Ok command) × AddsSubcommand old command new
 
 -- a word that has to be there, by its place
 abbrev pub place_rule : Text → Rule

@@ -376,39 +376,54 @@ impl fmt::Display for Cause<'_> {
     }
 }
 
-impl fmt::Display for Fault<'_> {
-    fn fmt<W: fmt::Write>(&self, f: &mut fmt::Formatter<W>) -> fmt::Result {
-        let mut line = OneLine::over(f);
+// Writes why scripts can't be run.
+fn tell_run<W: Write>(fault: &RunFault<'_>, line: &mut W) -> fmt::Result {
+    match fault {
+        RunFault::Script { path, cause } => write!(line, "{path}: can't be read: {cause}"),
+        RunFault::Profile { path, cause } => write!(line, "{path}: {cause}"),
+        RunFault::Totals { path, cause } => write!(line, "{path}: {cause}"),
+        RunFault::Stopped(cause) => write!(line, "{cause}"),
+    }
+}
+
+// Writes why a script can't be tried.
+fn tell_trial<W: Write>(fault: &TrialFault, line: &mut W) -> fmt::Result {
+    match fault {
+        TrialFault::Script { path, cause } => write!(line, "{path}: can't be read: {cause}"),
+        TrialFault::Wanted { path, cause } => write!(line, "{path}.stdout: can't be read: {cause}"),
+        TrialFault::NoMemory => write!(line, "no memory"),
+    }
+}
+
+impl Fault<'_> {
+    // Writes what is wrong.
+    fn tell<W: Write>(&self, line: &mut W) -> fmt::Result {
         match self {
-            Fault::Words(fault) => write!(line, "{fault}")?,
-            Fault::File { path, cause } => write!(line, "{path}: {cause}")?,
+            Fault::Words(fault) => write!(line, "{fault}"),
+            Fault::File { path, cause } => write!(line, "{path}: {cause}"),
             Fault::Totals { path, cause } => {
                 let cause = Cause(cause);
-                write!(line, "{path}: {cause}")?;
+                write!(line, "{path}: {cause}")
             }
-            Fault::Whole { path, cause } => write!(line, "{path}: {cause}")?,
-            Fault::Load { path, cause } => write!(line, "{path}: {cause}")?,
-            Fault::NoFile { path, name } => write!(line, "{path}: no file has the name {name}")?,
-            Fault::NoCode { code } => write!(line, "no code is {code}")?,
-            Fault::NoShell { shell } => write!(line, "no completions for {shell}")?,
-            Fault::Run(RunFault::Script { path, cause }) => {
-                write!(line, "{path}: can't be read: {cause}")?
-            }
-            Fault::Run(RunFault::Profile { path, cause }) => write!(line, "{path}: {cause}")?,
-            Fault::Run(RunFault::Totals { path, cause }) => write!(line, "{path}: {cause}")?,
-            Fault::Run(RunFault::Stopped(cause)) => write!(line, "{cause}")?,
-            Fault::Trial(TrialFault::Script { path, cause }) => {
-                write!(line, "{path}: can't be read: {cause}")?
-            }
-            Fault::Trial(TrialFault::Wanted { path, cause }) => {
-                write!(line, "{path}.stdout: can't be read: {cause}")?
-            }
-            Fault::Folder { path, cause } => write!(line, "{path}: can't be listed: {cause}")?,
-            Fault::NoScripts { path } => write!(line, "{path}: no script is in this folder")?,
-            Fault::NoColour { word } => write!(line, "no choice of colour is {word}")?,
-            Fault::Write => write!(line, "the output can't be written")?,
-            Fault::Trial(TrialFault::NoMemory) | Fault::NoMemory => write!(line, "no memory")?,
+            Fault::Whole { path, cause } => write!(line, "{path}: {cause}"),
+            Fault::Load { path, cause } => write!(line, "{path}: {cause}"),
+            Fault::NoFile { path, name } => write!(line, "{path}: no file has the name {name}"),
+            Fault::NoCode { code } => write!(line, "no code is {code}"),
+            Fault::NoShell { shell } => write!(line, "no completions for {shell}"),
+            Fault::NoColour { word } => write!(line, "no choice of colour is {word}"),
+            Fault::Run(fault) => tell_run(fault, line),
+            Fault::Trial(fault) => tell_trial(fault, line),
+            Fault::Folder { path, cause } => write!(line, "{path}: can't be listed: {cause}"),
+            Fault::NoScripts { path } => write!(line, "{path}: no script is in this folder"),
+            Fault::Write => write!(line, "the output can't be written"),
+            Fault::NoMemory => write!(line, "no memory"),
         }
+    }
+}
+
+impl fmt::Display for Fault<'_> {
+    fn fmt<W: fmt::Write>(&self, f: &mut fmt::Formatter<W>) -> fmt::Result {
+        self.tell(&mut OneLine::over(f))?;
         let hint = self.hint();
         write!(f, "\nhint: {hint}")
     }

@@ -8,12 +8,13 @@ pub returns-in-Ok-task_of : goal.returns-in-Ok-task_of
 returns-in-Ok-task_of g c =
     let words = map g.S.AsStr.text c.args.words.now in
     let parse = c.in-Ok-try_get_matches_from in
+    let same = c.in-Ok.ensures.0 in
     inl (
-      accepted (app_of c.in-Ok.line) words c.in-Ok.ensures parse.ensures.kinds,
+      accepted (app_of c.in-Ok.line) words same parse.ensures.kinds,
       subst (λ found. Asks found c.in-Ok-task_of.task)
-          (met (app_of c.in-Ok.line) words c.in-Ok.ensures parse.matches parse.ensures.matches) c.in-Ok-task_of.ensures,
+          (met (app_of c.in-Ok.line) words same parse.matches parse.ensures.matches) c.in-Ok-task_of.ensures,
     )
 
 pub returns-in-Err : goal.returns-in-Err
-returns-in-Err g c = told (app_of c.in-Ok.line) (map g.S.AsStr.text c.args.words.now) c.in-Ok.ensures c.in-Err.error
+returns-in-Err g c = told (app_of c.in-Ok.line) (map g.S.AsStr.text c.args.words.now) c.in-Ok.ensures.0 c.in-Err.error
     c.task_of_error.result c.in-Err.ensures.kinds c.task_of_error.ensures

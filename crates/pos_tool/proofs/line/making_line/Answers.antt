@@ -1,16 +1,10 @@
-use Rattle.pos_tool.proofs.ParseLemmas.{added, last_added}
 use Rattle.pos_tool.proofs.line.making_line.Goals as goal
 
 pub returns : goal.returns
 returns c =
-    let creates = added _ _ _ _ c.in_ok-reads.ensures c.place_line.ensures.app c.place_line.ensures.local _
-    c.in_ok-creates.ensures in
-    let migrates = added _ _ _ _ creates c.place_line-2.ensures.app c.place_line-2.ensures.local _
-    c.in_ok-migrates.ensures in
-    let backs_up = added _ _ _ _ migrates c.two_line.ensures.app c.two_line.ensures.local _
-    c.in_ok-backs_up.ensures in
-    let restores = added _ _ _ _ backs_up c.flagged_two_line.ensures.app c.flagged_two_line.ensures.local _
-    c.in_ok-restores.ensures in
-    let loads = added _ _ _ _ restores c.two_line-2.ensures.app c.two_line-2.ensures.local _
-    c.in_ok-loads.ensures in
-    last_added _ _ _ _ loads c.two_line-3.ensures.app c.two_line-3.ensures.local _ c.add-6.ensures
+    let creates = c.with_command-creates.ensures _ _ c.reading_line.ensures c.place_line.ensures in
+    let migrates = c.with_command-migrates.ensures _ _ creates c.place_line-2.ensures in
+    let backs_up = c.with_command-backs_up.ensures _ _ migrates c.two_line.ensures in
+    let restores = c.with_command-restores.ensures _ _ backs_up c.flagged_two_line.ensures in
+    let loads = c.with_command-loads.ensures _ _ restores c.two_line-2.ensures in
+    c.with_command.ensures _ _ loads c.two_line-3.ensures
