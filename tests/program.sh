@@ -265,6 +265,9 @@ printf '[[device\n' > profile.toml
 "$program" run --profile profile.toml --disk till.disk < script > out 2> err
 told 'a profile that is no TOML: status' 3 $?
 told 'a profile that is no TOML: message' 1 "$(grep -c '^pos_console: profile.toml: line 1: not TOML: .' err)"
+printf 'device = []\ndevice = []\n' > profile.toml
+"$program" run --profile profile.toml --disk till.disk < script > out 2> err
+told 'a profile that has a key twice' 1 "$(grep -c '^pos_console: profile.toml: line 2: not TOML: .' err)"
 printf '# a\n\n[[device\n' > profile.toml
 "$program" run --profile profile.toml --disk till.disk < script > out 2> err
 told 'a profile that is no TOML further down' 1 "$(grep -c '^pos_console: profile.toml: line 3: not TOML: .' err)"
