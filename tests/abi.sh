@@ -171,7 +171,7 @@ python3 -W error "$top/tests/abi_files.py" "$work/libkijolvar.so" "$work/calls.s
   > "$work/files" 2>&1
 told "files, and tills that are killed" "166 passed, 0 failed" "$(cat "$work/files")"
 
-# it is built in the place of the other one, which goes back
+# rt lib builds it in the place of LLVM's, which is put back
 cp -p "$archive" "$work/llvm.a"
 (cd "$top/crates/kijolvar" && rt lib --backend rattle > "$work/lib" 2>&1)
 told "the archive by Rattle's own compiler" 0 "$?"

@@ -298,24 +298,35 @@ refuses_profile 'a second device of Hard Totals' 'device 4: a second device of c
 sed 's/"p1"/"d1"/' sound.toml > profile.toml
 refuses_profile 'a name twice' 'two devices have the name d1'
 
-# reports_profiles FORMAT: whether the program reports profiles as it should. Each line of standard input has a profile, an
-# arrow, and the message, or `sound`. FORMAT has a place for the profile.
+# opens_devices NAME COUNT: whether the devices of a sound profile, so many, open, and one that it hasn't doesn't
+opens_devices() {
+  {
+    grep -o "category='[A-Za-z]*',name='[^']*'" profile.toml |
+      awk -F"'" '{ print "new c" NR " " $2; print "open c" NR " " $4 }'
+    printf 'new none Scanner\nopen none d1\n'
+  } > script
+  ends "$1" 0 '' run --profile profile.toml --disk till.disk
+  told "$1: devices" "$(yes ok | head -n $((2 * $2 + 1)); echo err 109)" "$(cat out)"
+}
+
+# reports_profiles FORMAT COUNT: whether the program reports profiles as it should. Each line of standard input has a profile,
+# an arrow, and the message, or `sound`. FORMAT has a place for the profile. A sound one has so many devices.
 reports_profiles() {
   local line
   mv script kept.script
-  : > script
   while IFS= read -r line; do
     # shellcheck disable=SC2059
     printf "$1" "$(printf '%b' "${line%% -> *}")" > profile.toml
     if [ "${line#* -> }" = sound ]; then
-      ends "$line" 0 '' run --profile profile.toml --disk till.disk
+      opens_devices "$line" "$2"
     else
+      : > script
       refuses_profile "$line" "${line#* -> }"
     fi
   done
   mv kept.script script
 }
-reports_profiles '%s\n' <<'DOCUMENTS'
+reports_profiles '%s\n' 0 <<'DOCUMENTS'
  -> sound
 spare=[]\ndevice=[] -> sound
 spare=[{category='CashDrawer'},{category='Scanner'}] -> sound
@@ -335,7 +346,7 @@ DOCUMENTS
 category="category must be CashDrawer, Scanner, LineDisplay, POSPrinter or HardTotals"
 named='name must be 1 to 16 letters, digits or hyphens'
 flaky='flaky must be an array of two numbers, each 0 to 1000000'
-reports_profiles "device=[{category='HardTotals',name='t'},{%s}]\n" <<DEVICES
+reports_profiles "device=[{category='HardTotals',name='t'},{%s}]\n" 2 <<DEVICES
 category='CashDrawer',name='a23456789012345Z' -> sound
 category='LineDisplay',name='T',rows=8,columns=80 -> sound
 category='POSPrinter',name='-',chars=255,lines=100000,near=0 -> sound
