@@ -73,14 +73,14 @@ pub struct StoppedCall {
     after: String,
 }
 
-/// The lines of a new counter that looks for the files.
-fn looking(alloc: Global) -> Result<String, AllocError> {
+/// The lines of a new counter that opens and enables the totals, and looks for the files.
+fn reopening_lines(alloc: Global) -> Result<String, AllocError> {
     let look = look_lines(alloc, 1)?;
     joined(alloc, &[OPENING, ENABLING, look.as_str()])
 }
 
-/// What they print where these files are.
-fn found(alloc: Global, files: Files) -> Result<String, AllocError> {
+/// What these lines print if there are these files.
+fn reopening_text(alloc: Global, files: Files) -> Result<String, AllocError> {
     let look = look_text(alloc, files, 1)?;
     joined(alloc, &["ok\nok\nok\n", look.as_str()])
 }
@@ -92,9 +92,9 @@ impl StoppedCall {
             profile: Profile::built(alloc)?,
             disk,
             row,
-            lines: looking(alloc)?,
-            before: found(alloc, BEFORE)?,
-            after: found(alloc, row.after)?,
+            lines: reopening_lines(alloc)?,
+            before: reopening_text(alloc, BEFORE)?,
+            after: reopening_text(alloc, row.after)?,
         })
     }
 
@@ -105,15 +105,15 @@ impl StoppedCall {
         told(self.alloc, &self.profile, fuse, lines.as_bytes())
     }
 
-    /// How many calls of the disk these lines make behind an opening.
+    /// How many calls of the disk these lines make after an opening.
     fn calls(&self, first: &'static str, line: &'static str) -> Result<u64, Fail> {
         let (_, fuse) = self.fused(u64::MAX, &[OPENING, first, line])?;
         Ok(fuse.calls())
     }
 
-    /// Runs lines over a copy of the disk that works for so many calls. They have to print these texts, and to make so
-    /// many calls: the disk then.
-    fn asked(
+    /// Runs lines over a copy of the disk that works for so many calls, and returns that copy. They have to print these
+    /// texts, and to make so many calls.
+    fn run_checked(
         &self,
         pass: u64,
         lines: &[&str],
@@ -123,7 +123,7 @@ impl StoppedCall {
         let (text, fuse) = self.fused(pass, lines)?;
         check(&text, joined(self.alloc, wanted)?.as_str())?;
         if fuse.calls() != calls {
-            return Err(Fail::new("the disk is asked too often"));
+            return Err(Fail::new("another number of calls of the disk"));
         }
         Ok(fuse.into_inner())
     }
@@ -135,7 +135,7 @@ impl StoppedCall {
         let refusals = repeated(self.alloc, self.row.refusal, OTHERS.len() as u64)?;
         let lines = [OPENING, first.0, line, others.as_str(), "close t\n"];
         let wanted = ["ok\nok\n", first.1, "err 111\n", refusals.as_str(), "ok\n"];
-        self.asked(pass, &lines, &wanted, pass.saturating_add(1))
+        self.run_checked(pass, &lines, &wanted, pass.saturating_add(1))
     }
 
     /// Makes the call, which meets no fault, looks for the files, which leaves the disk alone, and closes.
@@ -145,20 +145,20 @@ impl StoppedCall {
         let found = look_text(self.alloc, self.row.after, self.row.first_kept)?;
         let lines = [OPENING, first.0, line.0, look.as_str(), "close t\n"];
         let wanted = ["ok\nok\n", first.1, line.1, found.as_str(), "ok\n"];
-        self.asked(pass, &lines, &wanted, pass)
+        self.run_checked(pass, &lines, &wanted, pass)
     }
 
-    /// What a new counter over a disk prints that looks for the files, and the disk then.
-    fn looked(&self, disk: MemDisk) -> Result<(Vec<u8>, MemDisk), Fail> {
+    /// What a new counter over a disk prints as it looks for the files, with its disk.
+    fn look(&self, disk: MemDisk) -> Result<(Vec<u8>, MemDisk), Fail> {
         told(self.alloc, &self.profile, disk, self.lines.as_bytes())
     }
 
     /// Crashes a disk with each fill. New counters have to find the files after the call, or, unless it is done, those
-    /// before it; and others behind a further crash the same.
+    /// before it. After a second crash others have to find the same.
     fn crash(&self, disk: &MemDisk, is_done: bool) -> Result<(), Fail> {
         for fill in FILLS {
-            let (text, again) = self.looked(disk.crash(fill)?)?;
-            let (same, _) = self.looked(again.crash(Fill::Old)?)?;
+            let (text, again) = self.look(disk.crash(fill)?)?;
+            let (same, _) = self.look(again.crash(Fill::Old)?)?;
             if same != text {
                 return Err(Fail::new("a second reopening finds other files"));
             }

@@ -62,7 +62,7 @@ fn an_enabling_is_stopped(rt: HostRuntime) -> Result<(), Fail> {
     Ok(())
 }
 
-/// Stops each change: how often in all.
+/// Stops each change at each of its disk calls: how often in all.
 fn stop_changes(alloc: Global, has_room: bool) -> Result<u64, Fail> {
     let mut stops: u64 = 0;
     for row in changes() {
