@@ -7,7 +7,7 @@ use Rattle.pos_run.specs.declared.waiting_lines.LineProgress.TheVariants.{Printe
 abbrev pub ok : ℕ
 ok = 0
 
--- there was no memory, and nothing was done
+-- there was no memory, and nothing was done but lines before one that is held
 abbrev pub no_memory : ℕ
 no_memory = 1
 

@@ -27,7 +27,8 @@ use Rattle.kijolvar.specs.LineAnswers.{AnswersAs}
 use Rattle.kijolvar.specs.TillDisks.{HostedDisk}
 use Rattle.kijolvar.specs.Tills.{KeepsRest, Undone, session_in, settlement_of}
 
--- The device whose order the host has takes the report that it is done, or is not. Nothing else changes.
+-- The first device with an order takes the report that it is done, or is not, if the host has that order. Nothing else
+-- changes.
 pub record IsReported (hosts : Device → Course) (peripherals : Ghosts Device) (is_done : Bool)
     (old new : Counter HostedDisk Device) : Type 0 where
   pub stays : Stays peripherals old new

@@ -8,7 +8,7 @@ use pos_streams::WriteFault;
 /// The call did what it says.
 pub(crate) const OK: u32 = 0;
 
-/// Memory ran out, and nothing was done. Lines before one that is held may have been carried out.
+/// Memory ran out, and nothing was done but lines before one that is held.
 pub(crate) const NO_MEMORY: u32 = 1;
 
 /// The profile is refused (docs/reference/profile.md).

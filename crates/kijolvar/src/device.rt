@@ -1,6 +1,9 @@
 //! The devices of a till.
-ghost use Rattle.std.specs.Prelude.{◌≡◌};
-ghost use Rattle.kijolvar.specs.Orders.{device_state, mounts_device};
+ghost use Rattle.std.specs.Prelude.{◌≡◌, ◌≢◌, false, true, Ok};
+ghost use Rattle.pos_service.specs.Peripherals.{Asked, Fed, Parks, input_fits, order_fits};
+ghost use Rattle.pos_drive.specs.Courses.{MovesOn};
+ghost use Rattle.pos_drive.specs.declared.courses.Course.TheVariants.{Free, Reported};
+ghost use Rattle.kijolvar.specs.Orders.{device_course, device_state, mounts_device};
 
 use crate::order_queue::{OrderQueue, OrderSender};
 use pos_drive::{Awaits, Driven, Hosted, Progress};
@@ -43,7 +46,17 @@ impl Peripheral for Device {
         self.driven.signs()
     }
 
-    fn ask(&mut self, order: &Order) -> Result<Reply, NoMemory> {
+    fn ask(&mut self, order: &Order) -> Result<Reply, NoMemory>
+        ensures asked { (device_state self.old).is_parked ≡ false
+            → order_fits (device_state self.old).kind order.now ≡ true
+            → Asked (device_state self.old) order.now result (device_state self.new) }
+        ensures only_reported { (device_state self.old).is_parked ≡ false
+            → order_fits (device_state self.old).kind order.now ≡ true
+            → device_course self.old ≢ Free → result ≡ Ok Reply.Done
+            → device_course self.old ≡ Reported order.now true }
+        ensures moves_on { device_course self.old ≢ Free
+            → MovesOn (device_course self.old) order.now result (device_course self.new) }
+    {
         self.asks = self.asks.saturating_add(1);
         match &self.order_sender {
             Some(order_sender) if self.driven.progress() == Progress::Free => {
@@ -53,7 +66,12 @@ impl Peripheral for Device {
         }
     }
 
-    fn feed(&mut self, input: &Input) -> Result<Taken, NoMemory> {
+    fn feed(&mut self, input: &Input) -> Result<Taken, NoMemory>
+        ensures fed { (device_state self.old).is_parked ≡ false
+            → input_fits (device_state self.old).kind input.now ≡ true
+            → Fed (device_state self.old) input.now result (device_state self.new) }
+        ensures course { device_course self.new ≡ device_course self.old }
+    {
         self.driven.feed(input)
     }
 
@@ -61,7 +79,10 @@ impl Peripheral for Device {
         self.driven.snapshot()
     }
 
-    fn park(&mut self) {
+    fn park(&mut self)
+        ensures parked { Parks (device_state self.old) (device_state self.new) }
+        ensures course { device_course self.new ≡ device_course self.old }
+    {
         self.driven.park();
     }
 
@@ -71,8 +92,6 @@ impl Peripheral for Device {
 }
 
 impl Awaits for Device {
-    ghost use Rattle.kijolvar.specs.Orders.{device_course};
-
     ghost course = { device_course };
 
     fn progress(&self) -> Progress {

@@ -1,6 +1,8 @@
 -- How a peripheral stands to its host, and what becomes of that.
-use Rattle.std.specs.Prelude.{Bool, Option, Some, None}
+use Rattle.std.specs.Prelude.{◌≡◌, ◌⊎◌, Bool, Option, Some, None, Result, Ok, Err}
+use Rattle.pos_service.specs.declared.faults.NoMemory.{NoMemory}
 use Rattle.pos_service.specs.declared.order.Order.{Order}
+use Rattle.pos_service.specs.declared.order.Reply.{Reply}
 use Rattle.pos_drive.specs.declared.courses.Course.{Course}
 use Rattle.pos_drive.specs.declared.courses.Course.TheVariants.{Free, Ready, Waits, HandedOut, Reported}
 use Rattle.pos_drive.specs.declared.courses.Progress.{Progress}
@@ -41,3 +43,8 @@ reported_course is_done course = course
 abbrev pub settled_course : Course → Course
 settled_course Free = Free
 settled_course course = Ready
+
+-- an answer settles the order that was given; otherwise nothing has changed, or the order waits from now on
+abbrev pub MovesOn : Course → Order → Result Reply NoMemory → Course → Type 0
+MovesOn old asked (Ok said) new = new ≡ settled_course old
+MovesOn old asked (Err want) new = (new ≡ old) ⊎ (new ≡ Waits asked)

@@ -1,7 +1,7 @@
 //! Simulated peripherals that stand for a host's.
 ghost use Rattle.std.specs.Prelude.{◌≡◌, ◌≢◌, true, false, Ok, MatchResult};
-ghost use Rattle.pos_service.specs.Peripherals.{Asked, order_fits};
-ghost use Rattle.pos_drive.specs.Courses.{settled_course};
+ghost use Rattle.pos_service.specs.Peripherals.{Asked, Fed, Parks, input_fits, order_fits};
+ghost use Rattle.pos_drive.specs.Courses.{MovesOn, settled_course};
 ghost use Rattle.pos_drive.specs.DrivenPeripherals.{Answers, Keeps, Passes, PutsOff, driven_of, driven_state, has_order};
 
 use crate::awaits::Awaits;
@@ -109,6 +109,7 @@ impl<P: Preview> Peripheral for Driven<P> {
         ensures settles { MatchResult result
             (λ said. self.new.course ≡ settled_course self.old.course)
             (λ want. has_order self.new ≡ false → self.new.course ≡ self.old.course) }
+        ensures moves_on { MovesOn self.old.course order.now result self.new.course }
     {
         self.asks = self.asks.saturating_add(1);
         if self.course.waiting().is_some() {
@@ -132,7 +133,12 @@ impl<P: Preview> Peripheral for Driven<P> {
         Ok(reply)
     }
 
-    fn feed(&mut self, input: &Input) -> Result<Taken, NoMemory> {
+    fn feed(&mut self, input: &Input) -> Result<Taken, NoMemory>
+        ensures fed { let state = driven_state P.Peripheral in
+            (state self.old).is_parked ≡ false → input_fits (state self.old).kind input.now ≡ true →
+            Fed (state self.old) input.now result (state self.new) }
+        ensures course { self.new.course ≡ self.old.course }
+    {
         self.twin.feed(input)
     }
 
@@ -140,7 +146,10 @@ impl<P: Preview> Peripheral for Driven<P> {
         self.twin.snapshot()
     }
 
-    fn park(&mut self) {
+    fn park(&mut self)
+        ensures parked { Parks (driven_state P.Peripheral self.old) (driven_state P.Peripheral self.new) }
+        ensures course { self.new.course ≡ self.old.course }
+    {
         self.twin.park();
     }
 

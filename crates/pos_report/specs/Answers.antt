@@ -1,5 +1,5 @@
 -- What is answered to a question about the bytes of a totals file (docs/reference/tool.md).
-use Rattle.std.specs.Prelude.{◌≡◌, ◌++◌, ℕ, Bool, true, false, List, [], Some, None, codes, ⊤}
+use Rattle.std.specs.Prelude.{◌≡◌, ◌≢◌, ◌++◌, ℕ, Bool, true, false, List, [], Some, None, codes, ⊤}
 use Rattle.hex.specs.Hex.{encode_lower}
 use Rattle.pos_dir.specs.declared.file.File.{File}
 use Rattle.pos_survey.specs.Damages.{Breaks}
@@ -70,11 +70,12 @@ pub record IsAnswer (question : Question) (bytes text : List ℕ) : Type 0 where
   pub tells : Describes bytes survey
   pub answer : AnswersSound question survey text
 
--- What a check finds of bytes that break a rule.
+-- What a check finds of bytes that break a rule. Want of memory is none.
 pub record IsFound (question : Question) (bytes : List ℕ) (finding : Finding) (text : List ℕ) : Type 0 where
-  pub fault : SurveyFault
-  pub breaks : Breaks bytes fault
-  pub answer : AnswersBroken question fault finding text
+  pub why : SurveyFault
+  pub is_rule : why ≢ fault.NoMemory
+  pub breaks : Breaks bytes why
+  pub answer : AnswersBroken question why finding text
 
 -- what is answered to a question about bytes: what was found, and a text
 abbrev pub Answers : Question → List ℕ → Finding → List ℕ → Type 0

@@ -1,6 +1,6 @@
 -- Scripts that are run one after another.
-use Rattle.std.proofs.Common.{ap, append-nil, drop, get_or, inl, length, map, sym, take, ◌+◌, ◌<◌, ◌++◌}
-use Rattle.std.proofs.Common.{◌∙◌, ◌∷◌, ◌≡◌, List, [], ℕ}
+use Rattle.std.proofs.Common.{ap, append-nil, append_assoc, drop, get_or, inl, length, map, refl, subst, sym, take}
+use Rattle.std.proofs.Common.{◌+◌, ◌<◌, ◌++◌, ◌∙◌, ◌∷◌, ◌≡◌, List, [], ℕ}
 use Rattle.std.specs.Prelude.{flat_map}
 use Rattle.std.proofs.lemmas.List.{drop_more, map-append, take-append-drop, take_more}
 use Rattle.std.specs.Borrow.{Bor}
@@ -9,10 +9,10 @@ use Rattle.pos_shell.specs.Runs.{AreRead, ReadsScript}
 use Rattle.std.proofs.lemmas.Grind.{flat_map-append}
 use Rattle.pos_counter.specs.Steps.{Request, Response}
 use Rattle.pos_run.proofs.Common.{Appends-trans}
-use Rattle.pos_run.proofs.LineLemmas.{prints_join}
 use Rattle.pos_run.specs.Transcript.{LinesPrint, Session}
 use Rattle.pos_shell.specs.Outputs.{IsWritten, Output}
-use Rattle.pos_shell.specs.Scripts.{AreTurns, PrintsTurns, Turn, script_of, script_run, turn_lines, turn_text}
+use Rattle.pos_shell.specs.Scripts.{AreTurns, PrintsTurns, Turn, TurnsPrint, script_of, script_run, turn_lines}
+use Rattle.pos_shell.specs.Scripts.{turn_text}
 use Rattle.pos_shell.specs.declared.scripts.Script.{Script}
 use Rattle.pos_shell.specs.declared.answer_texts.AnswerStyle.{AnswerStyle}
 
@@ -48,15 +48,36 @@ pub one_more : {A : Type 0} (f : Turn → List A) (turns : List Turn) (turn : Tu
     → flat_map f (turns ++ turn ∷ []) ≡ flat_map f turns ++ f turn
 one_more f turns turn = flat_map-append f turns (turn ∷ []) ∙ ap (λ xs. flat_map f turns ++ xs) (append-nil (f turn))
 
+-- the answers of turns, and then of one more
+pub turns_more : (turns : List Turn) (turn : Turn) (session middle left : Session)
+    (first last : List (Request × Response)) → TurnsPrint session turns first middle
+    → LinesPrint middle (turn_lines turn) last turn.answers left
+    → TurnsPrint session (turns ++ turn ∷ []) (first ++ last) left
+turns_more [] turn session middle left first last (none, same) prints = (
+  last,
+  [],
+  left,
+  subst (λ s. LinesPrint s (turn_lines turn) last turn.answers left) same prints,
+  (refl, refl),
+  ap (λ steps. steps ++ last) none ∙ sym (append-nil last),
+)
+turns_more (other ∷ turns) turn session middle left first last (own, more, between, printed, rest, are) prints = (
+  own,
+  more ++ last,
+  between,
+  printed,
+  turns_more turns turn between middle left more last rest prints,
+  ap (λ steps. steps ++ last) are ∙ append_assoc own more last,
+)
+
 -- scripts, and then one more
 pub turns_join : {style : AnswerStyle} (turns : List Turn) (turn : Turn) {session middle left : Session}
     {first : List (Request × Response)} (last : List (Request × Response)) {old between new : Output}
     → PrintsTurns style turns session first old between middle
     → LinesPrint middle (turn_lines turn) last turn.answers left → IsWritten between new (turn_text style turn)
     → PrintsTurns style (turns ++ turn ∷ []) session (first ++ last) old new left
-turns_join {style} turns turn last done prints written = record {
-  prints = rw (one_more turn_lines turns turn, one_more (λ (t : Turn). t.answers) turns turn)
-      (prints_join _ (flat_map turn_lines turns) _ _ _ (turn_lines turn) _ _ _ done.prints prints);
+turns_join {style} turns turn {session} {middle} {left} {first} last done prints written = record {
+  prints = turns_more turns turn session middle left first last done.prints prints;
   given = rw (one_more (turn_text style) turns turn)
       (Appends-trans _ _ _ (flat_map (turn_text style) turns) (turn_text style turn) done.given written.0);
   flushed = inl written.1;

@@ -4,11 +4,11 @@ use Rattle.std.specs.Prelude.{flat_map, length, ⊤}
 use Rattle.std.specs.List.{list_all}
 use Rattle.pos_streams.specs.Streams.{Appends, Taken, end_after, read_fault_after, taken_after}
 use Rattle.pos_counter.specs.Steps.{Request, Response}
-use Rattle.pos_run.specs.Transcript.{LinesPrint, Session}
+use Rattle.pos_run.specs.Transcript.{Session}
 use Rattle.pos_script.specs.LineBuffers.{is_no_feed}
 use Rattle.pos_script.specs.Lines.{lines_of, words_of}
 use Rattle.pos_shell.specs.Outputs.{IsCutOff, IsWritten, Output, Streams}
-use Rattle.pos_shell.specs.Scripts.{PrintsText, Turn, turn_text}
+use Rattle.pos_shell.specs.Scripts.{PrintsText, Turn, TurnsPrint, turn_text}
 use Rattle.pos_shell.specs.AnswerTexts.{is_command}
 use Rattle.pos_shell.specs.declared.conversation.Next.{Next}
 use Rattle.pos_shell.specs.declared.conversation.Next.TheVariants.{Asked, Ended, Quit}
@@ -114,13 +114,13 @@ abbrev pub typed : List Turn → List ℕ
 typed turns = flat_map (λ turn. turn.script) turns
 
 -- Lines were typed, each was run and told, from one session to another. What was taken is their text, one run of steps
--- prints its answers, and what was given is a prompt and what is told of each.
+-- prints the answers of each, and what was given is a prompt and what is told of each.
 pub record AnswersLines (style : AnswerStyle) (turns : List Turn) (session : Session)
     (steps : List (Request × Response))
     (old new : Streams) (left : Session) : Type 0 where
   pub ended : AreEndedLines turns
   pub taken : new.taken ≡ taken_after old.taken (typed turns)
-  pub prints : LinesPrint session (lines_of (typed turns)) steps (flat_map (λ turn. turn.answers) turns) left
+  pub prints : TurnsPrint session turns steps left
   pub given : Appends old.output.given new.output.given (flat_map (exchange_text style) turns)
   pub flushed : (new.output.unflushed ≡ []) ⊎ (new.output ≡ old.output)
 

@@ -51,10 +51,18 @@ PrintsText style name text session steps old new (Err fault.Write) left =
 PrintsText style name text session steps old new (Err fault.NoMemory) left = new ≡ old
 PrintsText style name text session steps old new (Err fault.Read) left = ⊥
 
--- Scripts were run from one session to another, and all that they were answered is told.
+-- from one session to another, the lines of each turn print its answers, one turn after another
+abbrev pub TurnsPrint : Session → List Turn → List (Request × Response) → Session → Type 0
+TurnsPrint session [] steps left = (steps ≡ []) × (left ≡ session)
+TurnsPrint session (turn ∷ turns) steps left =
+    (first : List (Request × Response)) × (more : List (Request × Response)) × (middle : Session)
+    × LinesPrint session (turn_lines turn) first turn.answers middle × TurnsPrint middle turns more left
+    × (steps ≡ first ++ more)
+
+-- Scripts were run from one session to another, and all that each was answered is told.
 pub record PrintsTurns (style : AnswerStyle) (turns : List Turn) (session : Session) (steps : List (Request × Response))
     (old new : Output) (left : Session) : Type 0 where
-  pub prints : LinesPrint session (flat_map turn_lines turns) steps (flat_map (λ turn. turn.answers) turns) left
+  pub prints : TurnsPrint session turns steps left
   pub given : Appends old.given new.given (flat_map (turn_text style) turns)
   pub flushed : (new.unflushed ≡ []) ⊎ (new ≡ old)
 

@@ -59,6 +59,11 @@ abbrev pub GivesBytes : Given → List ℕ → Result ℕ WriteFault → Given �
 GivesBytes old bytes (Ok count) new = (0 < count) × (count ≤ length bytes) × (new ≡ given_after old (take count bytes))
 GivesBytes old bytes (Err fault) new = new ≡ write_fault_after old
 
+-- what a write gave isn't flushed yet; if it failed, nothing was given
+abbrev pub HoldsBack : List ℕ → List ℕ → Result ℕ WriteFault → List ℕ → Type 0
+HoldsBack old bytes (Ok count) new = new ≡ old ++ take count bytes
+HoldsBack old bytes (Err fault) new = new ≡ old
+
 -- a flush gave nothing; or it failed
 abbrev pub Flushes : Given → Result (Unit {0}) WriteFault → Given → Type 0
 Flushes old (Ok u) new = new ≡ old

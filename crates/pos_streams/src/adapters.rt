@@ -6,7 +6,7 @@
 //! Over memory the clauses `known` say it too.
 ghost use Rattle.std.specs.Prelude.{◌≡◌, [], OnOk, None};
 ghost use Rattle.std.specs.Io.KnownBytes.{Keeps, ReadConsumes, WriteAppends};
-ghost use Rattle.pos_streams.specs.Streams.{Flushes, GivesBytes, TakesBytes, given_with, taken_with};
+ghost use Rattle.pos_streams.specs.Streams.{Flushes, GivesBytes, HoldsBack, TakesBytes, given_with, taken_with};
 ghost use Rattle.pos_streams.specs.Transfers.{given_by, taken_by};
 
 use crate::sink::{Sink, WriteFault};
@@ -76,6 +76,7 @@ impl<W: Write> Sink for WriterSink<W> {
     #[inline(always)]
     fn write(&mut self, bytes: &[u8]) -> Result<usize, WriteFault>
         ensures given { GivesBytes (given_by self.old.given) bytes.now result (given_by self.new.given) }
+        ensures unflushed { HoldsBack self.old.given.unflushed.bytes bytes.now result self.new.given.unflushed.bytes }
         ensures known { WriteAppends (W.contents self.old.writer) (W.contents self.new.writer) result bytes.now }
     {
         let answer = self.writer.write(bytes);

@@ -1,6 +1,6 @@
 //! The traces that the adapters keep: each answer of a reader or a writer is added once, and returned.
 ghost use Rattle.std.specs.Prelude.{◌≡◌, ◌≤◌, ◌<◌, [], IfOk, Ok, MatchResult, OnErr, OnOk, is_err, length, true, None};
-ghost use Rattle.pos_streams.specs.Streams.{Flushes, GivesBytes, TakesBytes, given_with, taken_with};
+ghost use Rattle.pos_streams.specs.Streams.{Flushes, GivesBytes, HoldsBack, TakesBytes, given_with, taken_with};
 ghost use Rattle.pos_streams.specs.Transfers.{given_by, taken_by};
 
 use crate::sink::WriteFault;
@@ -96,6 +96,7 @@ impl GivenTrace {
         ensures ok { IfOk result (λ count. answer ≡ Ok count) }
         ensures err { OnErr result (IfOk answer (λ count. count ≡ 0)) }
         ensures given { GivesBytes (given_by self.old) bytes.now result (given_by self.new) }
+        ensures unflushed { HoldsBack self.old.unflushed.bytes bytes.now result self.new.unflushed.bytes }
     {
         match answer {
             Ok(0) | Err(_) => {

@@ -25,7 +25,7 @@ explain completions man version help" -- "$word"))
     return
   fi
   compopt -o filenames
-  COMPREPLY=($(compgen -f -- "$word"))
+  mapfile -t COMPREPLY < <(compgen -f -- "$word")
 }
 complete -F _kijolvar kijolvar
 "#;

@@ -19,7 +19,7 @@ loop-turn-init g c = (
   [],
   refl,
   refl,
-  record { ended = tt; taken = taken_none _; prints = (refl, refl, refl); given = Appends-nil _; flushed = inr refl },
+  record { ended = tt; taken = taken_none _; prints = (refl, refl); given = Appends-nil _; flushed = inr refl },
 )
 
 pub loop-turn-preserved : goal.loop-turn-preserved

@@ -15,7 +15,7 @@ loop-script-init g c = (
   [],
   refl,
   refl,
-  record { prints = (refl, refl, refl); given = Appends-nil _; flushed = inr refl },
+  record { prints = (refl, refl); given = Appends-nil _; flushed = inr refl },
 )
 
 pub returns-in-Err-clause-told : goal.returns-in-Err-clause-told

@@ -1,5 +1,4 @@
 use Rattle.pos_tool.proofs.line.flagged_line.Goals as goal
 
 pub returns : goal.returns
-returns c =
-    c.with_word.ensures _ _ c.place_line.ensures c.flag.ensures
+returns c = c.with_word.ensures _ _ c.place_line.ensures c.flag.ensures
