@@ -11,6 +11,7 @@ import argparse
 import contextlib
 import ctypes
 import errno
+import fcntl
 import gc
 import io
 import os
@@ -106,6 +107,12 @@ def port_of(device, kind="usb"):
     if kind != "serial" and "holds" not in kind:
         return device.path
     return SerialPort(device.path, 115200, flow="none" if kind == "serial" else "rts-cts")
+
+
+def of_system(call):
+    """A function in the place of one of the system: what it raises isn't taken for what a signal's handler raises."""
+    names = {**globals(), "__package__": kijolvar.__package__}
+    return types.FunctionType(call.__code__, names, call.__name__, call.__defaults__, call.__closure__)
 
 
 def signs_of(device):
@@ -1879,6 +1886,76 @@ def try_left_settings():
         os.close(line)
 
 
+def refusal(port):
+    """What opening a port is refused with: the system's number and the text, or None."""
+    try:
+        port.open()
+    except kijolvar.PortError as fault:
+        return fault.errno, fault.strerror
+    return None
+
+
+def is_exclusive(line):
+    """Whether only a program of root can open the line again (TIOCGEXCL)."""
+    return any(fcntl.ioctl(line, 0x80045440, bytes(4)))
+
+
+def without_rights(call):
+    """What a call returns in a process that was forked and isn't root's, as a text."""
+    said, says = os.pipe()
+    child = os.fork()
+    if child == 0:
+        try:
+            if os.getuid() == 0:
+                os.setuid(65534)
+            os.write(says, repr(call()).encode())
+        finally:
+            os._exit(0)
+    os.close(says)
+    with open(said) as text:
+        found = text.read()
+    os.waitpid(child, 0)
+    return found
+
+
+@of_system
+def fails_to_set(*_):
+    raise termios.error(errno.EIO, "refused")
+
+
+def try_lines_in_use():
+    """A serial line is open for one port at a time. A port that is refused changes nothing of it."""
+    for made in (SerialPort, kijolvar.FilePort):
+        with contextlib.ExitStack() as stack:
+            device, name = stack.enter_context(Scanner(cable())), made.__name__
+            path = os.path.realpath(device.path)
+            os.chmod(path, 0o666)
+            line = os.open(path, os.O_RDWR | os.O_NOCTTY)
+            stack.callback(os.close, line)
+            port, other, in_use = made(path), SerialPort(path, 115200), (errno.EBUSY, f"{path} is in use")
+            told(f"a {name} opens a line", (None, True), (refusal(port), is_exclusive(line)))
+            before = termios.tcgetattr(line)
+            device.garbage(b"4006381")
+            told(f"a {name}: bytes have come", True, until(lambda: device.cable.unread() == 7))
+            told(f"a {name}: another port", in_use, refusal(other))
+            told(f"a {name}: the line is as it was", (before, b"4006381"),
+                 (termios.tcgetattr(line), port.read(PATIENCE)))
+            told(f"a {name}: another program", repr((errno.EBUSY, in_use)), without_rights(
+                lambda: (errno_of(os.open, path, os.O_RDWR | os.O_NOCTTY), refusal(other))))
+            told(f"a {name}: a process that was forked frees nothing", (in_use, True),
+                 (refusal(other), is_exclusive(line)))
+            copy = os.dup(port.fileno())
+            port.close()
+            told(f"a {name}: the line is free, though its file is open", (False, None),
+                 (is_exclusive(line), refusal(other)))
+            other.close()
+            os.close(copy)
+            with mock.patch("termios.tcsetattr", fails_to_set):
+                told(f"a {name}: a line that can't be set up", errno.EIO, refusal(port)[0])
+            told(f"a {name}: it is free, too", (False, None), (is_exclusive(line), refusal(other)))
+            other.close()
+
+
 def try_disturbed_bytes():
     """A byte that came with a wrong parity: a printer's or a display's is dropped, and a scanner's reads as 0."""
     for made, wanted in ((EscPosPrinter, True), (SerialDisplay, True), (WedgeScanner, False)):
@@ -1918,7 +1995,8 @@ def try_disturbed_scans():
 
 def try_scanner():
     """Scanners: on a serial line, and as a keyboard."""
-    codes = [(b"]E04006381333931", 104, b"4006381333931"), (b"]C1" + b"0104006381333931", 110, b"0104006381333931"),
+    codes = [(b"]E04006381333931", 104, b"4006381333931"), (b"]C1" + b"0104006381333931", 120, b"0104006381333931"),
+             (b"]C0AB12", 110, b"AB12"), (b"]E3400638133393112", 119, b"400638133393112"),
              (b"]E450123452", 103, b"50123452"), (b"12345", 0, b"12345"), (b"]d1A b", 203, b"A b")]
     for keys in (False, True):
         with contextlib.ExitStack() as stack:
@@ -1951,6 +2029,32 @@ def try_scanner():
             device.types(b"7") if keys else device.scan(b"7")
             until(lambda: scans() or found)
             told("a scanner is back", [(b"7", 0, b"7")], found)
+
+
+def try_keyboard_links():
+    """A link to a keyboard is one, also if it leads there only later."""
+    link, later = CHECKS.work / "scanner", CHECKS.work / "later"
+    os.symlink("/dev/input/event99", link)
+    told("a link to a keyboard, and one that leads nowhere", [True, False],
+         [isinstance(WedgeScanner(path).port, kijolvar.drivers._KeyPort) for path in (link, later)])
+    finds = os.path.realpath
+
+    def finds_keyboard(path, **named):
+        return "/dev/input/event99" if os.fspath(path) == os.fspath(later) else finds(path, **named)
+    with Scanner(cable()) as device:
+        driver = WedgeScanner(later, pause=0.0)
+        driver.poll()
+        os.symlink(finds(device.path), later)
+        with mock.patch("os.path.realpath", finds_keyboard):
+            driver.poll()
+        device.types(b"4006381")
+        until(lambda: driver.poll() or driver.is_online and driver._found)
+        told("a link that leads to one later", [b"4006381"], [scan.label for scan in driver.scans()])
+        driver.close()
+        driver.poll()
+        told("a link to a port then", (True, False),
+             (driver.is_online, isinstance(driver.port, kijolvar.drivers._KeyPort)))
+        driver.close()
 
 
 def pressed(*keys, values=(1, 0)):
@@ -2128,13 +2232,20 @@ def try_typed_within_the_loop():
 
 def try_scan_codes():
     """The scan code of each key is left out of a keyboard's events. One that refuses that opens too."""
-    with Scanner(cable()) as device, mock.patch("fcntl.ioctl", side_effect=OSError(errno.EINVAL, "refused")) as asked:
+    asked, number = [], errno.EINVAL
+
+    @of_system
+    def refuses(file, *words):
+        asked.append(words)
+        raise OSError(number, "refused")
+    with Scanner(cable()) as device, mock.patch("fcntl.ioctl", refuses):
         port = kijolvar.drivers._KeyPort(device.path)
         port.open()
-        told("what is asked of a keyboard", [(0x40044590, 1), (0x40104593, struct.pack("=IIQ", 4, 0, 0))],
-             [call.args[1:] for call in asked.call_args_list])
+        told("what is asked of a keyboard", [(0x40044590, 1), (0x40104593, struct.pack("=IIQ", 4, 0, 0))], asked)
         told("it is open", True, port.is_open)
-    port.close()
+        port.close()
+        number = errno.EBUSY
+        told("one that another program has", (number, f"{device.path} is in use"), refusal(port))
 
 
 class Forgetful:
@@ -2414,22 +2525,25 @@ def try_ports_again():
         told("one of two addresses doesn't answer", ["PortError", None], second_answers(server.getsockname()))
     told("nothing answers", "PortError", name_of(port.open))
     port._looked_up_at -= 61
-    known = list(port._addresses)
-    with mock.patch("socket.getaddrinfo", side_effect=socket.gaierror(socket.EAI_AGAIN, "nobody answers")) as asked:
+    known, took, asked = list(port._addresses), 0.0, []
+
+    @of_system
+    def fails(name, *words, **named):
+        asked.append(name)
+        time.sleep(took)
+        raise socket.gaierror(socket.EAI_AGAIN, "nobody answers")
+    with mock.patch("socket.getaddrinfo", fails):
         told("nothing answers for a minute, nor does the name server", ("PortError", known),
              (name_of(port.open), port._addresses))
-        told("it was asked", ["localhost"], [call.args[0] for call in asked.call_args_list if call.args[0] == "localhost"])
-    for took, wanted in ((0.0, 3), (0.3, 1)):
-        def fails(*words, took=took, **named):
-            time.sleep(took)
-            raise socket.gaierror(socket.EAI_AGAIN, "nobody answers")
-        with mock.patch("socket.getaddrinfo", side_effect=fails) as asked:
+        told("it was asked", 1, asked.count("localhost"))
+        for took, wanted in ((0.0, 3), (0.3, 1)):
+            asked.clear()
             port = kijolvar.TcpPort("printer")
             faults = [name_of(port.open) for _ in range(3)]
-            told(f"a look-up that fails after {took} s", (["PortError"] * 3, wanted), (faults, asked.call_count))
+            told(f"a look-up that fails after {took} s", (["PortError"] * 3, wanted), (faults, len(asked)))
             port._looks_up_from -= 61
             told(f"a look-up that fails after {took} s, a minute later", ("PortError", wanted + 1),
-                 (name_of(port.open), asked.call_count))
+                 (name_of(port.open), len(asked)))
 
 
 def try_raising_handlers():
@@ -2460,10 +2574,107 @@ def try_raising_handlers():
     signal.signal(signal.SIGUSR1, before)
 
 
+def fault_of(call, *words):
+    """What a call raises, or None."""
+    try:
+        call(*words)
+    except Exception as fault:
+        return fault
+    return None
+
+
+def rings_once(call):
+    """A call of the system before which a signal comes the first time."""
+    left = [signal.SIGUSR1]
+
+    @of_system
+    def rings(*words, **named):
+        if left:
+            signal.raise_signal(left.pop())
+        return call(*words, **named)
+    return rings
+
+
+def try_handlers_at_openings():
+    """An error that a signal's handler raises as a port opens, or closes, isn't taken for one of the port."""
+    def blocks(*_):
+        raise BlockingIOError("the handler would wait")
+    before = signal.signal(signal.SIGUSR1, blocks)
+    with Scanner(cable()) as device, mock.patch("fcntl.flock", rings_once(fcntl.flock)):
+        told("a handler as a line is locked", "BlockingIOError", name_of(SerialPort(device.path).open))
+    signal.signal(signal.SIGUSR1, late)
+    for name, call in (("os.open", os.open), ("fcntl.flock", fcntl.flock), ("termios.tcsetattr", termios.tcsetattr),
+                       ("fcntl.ioctl", fcntl.ioctl)):
+        with Scanner(cable()) as device:
+            port, other = SerialPort(device.path), SerialPort(device.path)
+            with mock.patch(name, rings_once(call)):
+                told(f"a handler in {name} as a line opens", "InterruptedError", name_of(port.open))
+            told(f"a handler in {name}: the line is free", None, refusal(other))
+            with mock.patch("fcntl.ioctl", rings_once(fcntl.ioctl)):
+                told("a handler as a line is closed", "InterruptedError", name_of(other.close))
+            told("it is closed and free", (False, False, None),
+                 (other.is_open, is_exclusive(device.cable._slave), refusal(port)))
+            port.close()
+    ioctl, number = fcntl.ioctl, 0
+
+    @of_system
+    def rings_then(file, what, *words):
+        if what == number:
+            signal.raise_signal(signal.SIGUSR1)
+        return ioctl(file, what, *words)
+    with Scanner(cable()) as device, mock.patch("fcntl.ioctl", rings_then):
+        for number in (0x40044590, 0x40104593):
+            told(f"a handler in {number:#x} as a keyboard opens", "InterruptedError", name_of(
+                kijolvar.drivers._KeyPort(device.path).open))
+    with opened() as till:
+        paths = {name: CHECKS.work / name for name in ("p1", "r1", "s1")}
+        for name, kind in zip(paths, (SerialDisplay, EscPosPrinter, WedgeScanner)):
+            till.drive(name, kind(paths[name], pause=0.0))
+            with mock.patch("os.open", rings_once(os.open)):
+                told(f"a handler in the loop, as {name} is looked for", "InterruptedError", name_of(till.run_devices))
+            till._drives.remove(name)
+    signal.signal(signal.SIGUSR1, before)
+
+
+def try_handlers_at_connections():
+    """The same at a TCP port: as a host is waited for, and as its name is looked up."""
+    before = signal.signal(signal.SIGUSR1, late)
+    alarm = signal.signal(signal.SIGALRM, late)
+    with SilentHost() as silent:
+        port, files = kijolvar.TcpPort("printer"), len(os.listdir("/proc/self/fd"))
+        found = [(socket.AF_INET, socket.SOCK_STREAM, 6, "", silent.address)] * 2
+        for is_old in (False, True):
+            with mock.patch("socket.getaddrinfo", return_value=found) as asked:
+                signal.setitimer(signal.ITIMER_REAL, 0.05)
+                fault = fault_of(port.open, 2.0)
+            told("a handler while a host is waited for", InterruptedError, type(fault))
+            told("nothing is left of that, and nothing looked up", (False, files, not is_old), (
+                port.is_opening, len(os.listdir("/proc/self/fd")), asked.called))
+            port._looked_up_at -= 61
+    asked = []
+
+    def rings(name, *words, **named):
+        asked.append(name)
+        time.sleep(0.3)
+        signal.raise_signal(signal.SIGUSR1)
+    port = kijolvar.TcpPort("printer")
+    with mock.patch("socket.getaddrinfo", rings):
+        told("a handler while a name is looked up", ["InterruptedError"] * 2, [name_of(port.open) for _ in range(2)])
+        told("it is looked up again", ["printer"] * 2, asked)
+        with socket.create_server(("127.0.0.1", 0)) as server:
+            port._addresses = [(socket.AF_INET, server.getsockname())]
+        told("a handler while it is, as nothing answers", "InterruptedError", name_of(port.open))
+        told("it is looked up for the next time", ["printer"] * 3, asked)
+    signal.signal(signal.SIGUSR1, before)
+    signal.signal(signal.SIGALRM, alarm)
+
+
 def try_interrupted_openings():
     """An interrupt as a port is opened leaves no file open."""
     for name, call, kind in (("a keyboard", "fcntl.ioctl", kijolvar.drivers._KeyPort),
-                             ("a line", "termios.tcsetattr", kijolvar.FilePort)):
+                             ("a line", "termios.tcsetattr", kijolvar.FilePort),
+                             ("a line that is locked", "fcntl.ioctl", kijolvar.FilePort),
+                             ("a line that is ready", "os.getpid", kijolvar.FilePort)):
         with Scanner(cable()) as device, mock.patch(call, side_effect=KeyboardInterrupt):
             port, files, found = kind(device.path), len(os.listdir("/proc/self/fd")), "no interrupt"
             try:
@@ -2497,6 +2708,19 @@ def try_forked():
             os.close(end)
         told("it is closed in a process that was forked, and the driver isn't", 0, os.waitpid(child, 0)[1])
         driver.close = lambda: None
+
+
+def try_forked_connections():
+    """A process that is forked closes a connection that is being made."""
+    with SilentHost() as silent:
+        port = kijolvar.port_of(silent.path)
+        told("a host doesn't answer yet", (errno.ETIMEDOUT, True), (errno_of(port.open, 0), port.is_opening))
+        file = port._joining._made.fileno()
+        told("its connection in a process that was forked", repr(errno.EBADF), without_rights(
+            lambda: errno_of(os.fstat, file)))
+        told("it is made on", (errno.ETIMEDOUT, True, file),
+             (errno_of(port.open, 0), port.is_opening, port._joining._made.fileno()))
+        port.close()
 
 
 def second_answers(address):
@@ -2843,6 +3067,8 @@ def try_killed():
             host.kill()
             said += [line.split() for line in host.stdout.read().splitlines() if len(line.split()) == 2]
             host.wait()
+            # A line that nobody has open is free for all. The emulator has this one.
+            fcntl.ioctl(device.cable._slave, termios.TIOCNXCL)
             counted = max([int(count) for what, count in said if what == "counted"], default=0)
             printed = max([int(count) for what, count in said if what == "printed"], default=0)
             kept = int.from_bytes(kijolvar.files(path, library=LIBRARY).files[b"COUNT"], "big")

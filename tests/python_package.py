@@ -254,6 +254,33 @@ def try_fork():
     os.waitpid(child, 0)
     told("as long as it has it", None, raised(lambda: opened(totals=path).close()))
     os.close(waits)
+    try_killed_till(path)
+
+
+# A till that forks a process, and then waits for its end.
+FORKS = """
+import os, signal, sys, kijolvar
+till = kijolvar.open(totals=sys.argv[1])
+if os.fork() == 0:
+    print("forked", flush=True)
+    print(sys.stdin.read() + "ended", flush=True)
+    os._exit(0)
+signal.pause()
+"""
+
+
+def try_killed_till(path):
+    """A process that was forked doesn't keep the totals of a till that was killed."""
+    words = [sys.executable, "-c", FORKS, path]
+    paths = {**os.environ, "PYTHONPATH": str(TOP / "abi/python"), "KIJOLVAR_LIBRARY": LIBRARY}
+    with subprocess.Popen(words, stdin=subprocess.PIPE, stdout=subprocess.PIPE, text=True, env=paths) as till:
+        told("a till forks", "forked\n", till.stdout.readline())
+        told("it has its totals", "BlockingIOError", name_of(opened, totals=path))
+        till.kill()
+        till.wait()
+        told("it was killed: its totals are free", None, raised(lambda: opened(totals=path).close()))
+        till.stdin.close()
+        told("the process has gone on until now", "ended\n", till.stdout.read())
 
 
 ARGUMENTS = {"number": 0, "bytes": b"", "truth": False, "device": "d1"}
@@ -1108,6 +1135,34 @@ def try_closing_handlers():
     told("has ended", (True, True), (till.is_closed, till._file.closed))
 
 
+def try_forking_handlers():
+    """A handler that forks during a call: the process that goes on with the call writes into no file."""
+    other = WORK / "not the totals"
+    other.write_bytes(b"Bread")
+    for number in range(1, 4):
+        said, says = os.pipe()
+        with opened(totals=WORK / f"forking-{number}", create=True) as till:
+            totals, children, session = till.totals("t1"), [], till._session
+
+            def forks():
+                if not children:
+                    children.append(os.fork())
+                    if children[0] == 0:
+                        # One of these would get the number of a file that was closed.
+                        children.extend([open(other, "r+b") for _ in range(5)])
+            session._library = Signalled(session._library, forks, "kijolvar_next_errand", number)
+            fault = name_of(totals.create, "A", 1)
+            if children[0] == 0:
+                os.write(says, str(fault).encode())
+                os._exit(0)
+            os.close(says)
+            with open(said) as text:
+                told(f"a call in a process that was forked after {number} errands", "ThreadError", text.read())
+            told("the process ends well", 0, os.waitpid(children[0], 0)[1])
+            told("and has written nothing", (5, b"Bread"), (other.stat().st_size, other.read_bytes()[:5]))
+            told("the till's call is done", (None, [b"A"]), (fault, list(totals)))
+
+
 def try_files():
     path = WORK / "told"
     told("no file to tell of", ("FileNotFoundError",) * 3,
@@ -1149,9 +1204,20 @@ def try_files():
     told("the files stay", (2, 1, held), (found.layout, found.sequence, found.files))
     told("the slots of layout 1 stay", True, path.read_bytes()[:65536] == before[:65536])
     told("moved already", "MovedError", name_of(kijolvar.migrate, path, LIBRARY))
-    with opened(totals=path) as till:
-        totals = till.totals("t1")
-        told("a till finds them", held, {name: totals[name].read() for name in totals})
+    parts, reads = [], os.pread
+
+    def reads_some(file, count, at):
+        parts.append(at)
+        return reads(file, min(count, 100_000), at)
+
+    def finds():
+        with opened(totals=path) as till:
+            totals = till.totals("t1")
+            return {name: totals[name].read() for name in totals}
+    told("a till finds them", held, finds())
+    with mock.patch("os.pread", reads_some):
+        fault = raised(lambda: told("a till whose file the system gives in parts finds them", held, finds()))
+    told("it reads on", (None, True), (fault, len(parts) > 3))
     disk = bytearray(path.read_bytes())
     disk[found.slot + 9:found.slot + 17] = b"\xff" * 8
     path.write_bytes(disk)
@@ -1170,6 +1236,53 @@ def try_files():
         told(f"a file that is {name}", (wanted,) * 3,
              tuple(name_of(call, path, LIBRARY) for call in (kijolvar.files, kijolvar.check, kijolvar.migrate)))
         told(f"a file that is {name} stays", content, path.read_bytes())
+
+
+def try_replaced_totals():
+    """Another file gets the name of the totals before they are locked, as `kijolvar restore --replace` gives it."""
+    path, old, new = (WORK / name for name in ("replaced", "replaced.old", "replaced.new"))
+    locks = fcntl.flock
+
+    def makes(file, name):
+        with opened(totals=file, create=True) as till:
+            till.totals("t1").create(name, 1)
+
+    def replaces(file, how):
+        if new.exists():
+            os.link(path, old)
+            os.replace(new, path)
+        return locks(file, how)
+    makes(path, "A")
+    makes(new, "B")
+    with mock.patch("fcntl.flock", replaces):
+        makes(path, "C")
+    told("a till has the new file", ([b"B", b"C"], [b"A"]),
+         tuple(list(kijolvar.files(file, LIBRARY).files) for file in (path, old)))
+    old.unlink()
+    makes(new, "D")
+    with mock.patch("fcntl.flock", replaces):
+        told("what is told of it", [b"D"], list(kijolvar.files(path, LIBRARY).files))
+
+    def replaces_always(file, how):
+        shutil.copy(path, new)
+        os.replace(new, path)
+        return locks(file, how)
+
+    def removes(file, how):
+        path.unlink(missing_ok=True)
+        return locks(file, how)
+
+    def refused(lock, call, *words):
+        shutil.copy(old, path)
+        with mock.patch("fcntl.flock", lock):
+            fault = raised(call, path, *words)
+        return type(fault).__name__, getattr(fault, "filename", None)
+    files = len(os.listdir("/proc/self/fd"))
+    for name, lock, wanted in (("a file that is replaced again and again", replaces_always, "BlockingIOError"),
+                               ("a file that is removed", removes, "FileNotFoundError")):
+        told(name, [(wanted, str(path))] * 2, [refused(lock, kijolvar.open_totals),
+                                               refused(lock, kijolvar.files, LIBRARY)])
+    told("no file stays open", files, len(os.listdir("/proc/self/fd")))
 
 
 def try_any_event():
@@ -1687,6 +1800,19 @@ def try_help():
     told("each function has types", [], untyped)
 
 
+def try_texts():
+    """A text that can't be encoded is refused as a whole, whatever its lines are."""
+    for last in ("show \udc80", "attach \udc80 1", "call \udc80 clearOutput"):
+        with opened() as till:
+            drawer = till.drawer("d1")
+            fault = name_of(till.carry_out, f"call {drawer.name} openDrawer\n{last}\n")
+            told(f"a text with {last!a}", ("UnicodeEncodeError", False), (fault, drawer.drawer_opened))
+    with opened() as till:
+        drawer = till.drawer("d1")
+        found = till.carry_out(f"call {drawer.name} openDrawer\nshow K\u00e4se\rBread\n\nattach d1 9\nshow d1")
+        told("lines end at line feeds alone", "ok\nbad line\nbad spare\nok open\n", found)
+
+
 def try_devices():
     with opened() as till:
         told("a drawer and a scanner", [kijolvar.DrawerView(False), kijolvar.ScannerView()],
@@ -1769,6 +1895,41 @@ def try_order_bytes():
     told("a setting in their repr", True, "feed=3" in repr(HARDWARE) and "raw" not in repr(HARDWARE))
 
 
+def interrupted_before(number, names, call, *words):
+    """The name of an interrupt that comes before the line of this number of some functions, or None if none does."""
+    left = number
+
+    def trace(frame, event, _):
+        nonlocal left
+        if frame.f_code.co_name not in names:
+            return None
+        left -= event == "line"
+        if left == 0 and event == "line":
+            raise KeyboardInterrupt
+        return trace
+    sys.settrace(trace)
+    try:
+        return interrupted(call, *words)
+    finally:
+        sys.settrace(None)
+
+
+def try_interrupted_room():
+    """An interrupt as room is made for many bytes of an order: the next order has its own bytes."""
+    number, found = 0, ""
+    while found is not None:
+        number, sent = number + 1, []
+        with opened() as till:
+            till.drive("r1", Sender(till, sent))
+            till.device("r1").paper(5000)
+            with till.printer("r1").in_use() as printer:
+                found = interrupted_before(number, ("_lengthen", "_room_of"), printer.print, b"A\n" * 230)
+                sent.clear()
+                told(f"an order after an interrupt before step {number}", (None, ["1b6100" + b"Bread\n".hex()]),
+                     (raised(printer.print, b"Bread\n"), sent))
+    told("each step was interrupted", True, number > 3)
+
+
 def try_reply_lines():
     with opened() as till:
         till.device("r1").paper(100)
@@ -1807,12 +1968,13 @@ def main():
     try:
         for try_it in (try_scripts, try_threads, try_fork, try_closed, try_replies, try_events, try_listeners,
                        try_kept_listeners, try_claims,
-                       try_misuse, try_many_controls, try_totals, try_files, try_handlers, try_closing_handlers, try_any_event,
+                       try_misuse, try_many_controls, try_totals, try_files, try_replaced_totals, try_handlers,
+                       try_closing_handlers, try_forking_handlers, try_any_event,
                        try_lines_without_memory, try_orders_without_memory, try_order_without_memory,
                        try_scan_before_power, try_lost_answers, try_faults_of_drivers, try_orders_in_polls,
                        try_closed_drivers, try_closed_in_a_round,
                        try_profiles, try_library,
-                       try_help, try_devices, try_order_bytes, try_reply_lines):
+                       try_help, try_texts, try_devices, try_order_bytes, try_interrupted_room, try_reply_lines):
             try_it()
     finally:
         shutil.rmtree(WORK)

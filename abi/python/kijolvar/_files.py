@@ -7,11 +7,14 @@ import errno
 import fcntl
 import os
 from collections.abc import Iterator
-from typing import BinaryIO
+from typing import BinaryIO, Literal
 
 from ._constants import KIJOLVAR_DISK_LENGTH
 from ._library import Path
-from ._session import Session, write_whole
+from ._session import Session, read_whole, write_whole
+
+# How often a file is opened whose name another program gives to another file meanwhile.
+_TRIES = 10
 
 
 @contextlib.contextmanager
@@ -28,7 +31,32 @@ def _lock(totals: BinaryIO, path: str, how: int = fcntl.LOCK_EX) -> None:
     try:
         fcntl.flock(totals, how | fcntl.LOCK_NB)
     except BlockingIOError as fault:
-        raise BlockingIOError(fault.errno, "is in use: close the other program that has it open", path) from None
+        raise _in_use(fault.errno, path) from None
+
+
+def _in_use(code: int, path: str) -> BlockingIOError:
+    return BlockingIOError(code, "is in use: close the other program that has it open", path)
+
+
+def _locked(path: str, mode: Literal["rb", "r+b"], how: int) -> BinaryIO:
+    """Opens a file and locks it. Before it has the lock, another program may give the name to another file, as
+    `kijolvar restore --replace` does: then that one is opened."""
+    for _ in range(_TRIES):
+        with contextlib.ExitStack() as undo:
+            totals = undo.enter_context(open(path, mode, buffering=0, opener=_open_at_once))
+            _lock(totals, path, how)
+            if _has_name(totals, path):
+                undo.pop_all()
+                return totals
+    raise _in_use(errno.EAGAIN, path)
+
+
+def _has_name(totals: BinaryIO, path: str) -> bool:
+    """Whether a path is that of an open file."""
+    try:
+        return os.path.samestat(os.fstat(totals.fileno()), os.stat(path))
+    except FileNotFoundError:
+        return False
 
 
 def open_totals(path: Path) -> BinaryIO:
@@ -43,8 +71,7 @@ def open_totals(path: Path) -> BinaryIO:
     """
     name = os.fspath(path)
     with contextlib.ExitStack() as undo, _folder(name) as folder:
-        totals = undo.enter_context(open(name, "r+b", buffering=0))
-        _lock(totals, name)
+        totals = undo.enter_context(_locked(name, "r+b", fcntl.LOCK_EX))
         os.fsync(folder)
         undo.pop_all()
     return totals
@@ -92,8 +119,7 @@ def read_totals(path: Path) -> bytes:
         OSError: It is no regular file, or can't be synced or read.
     """
     name = os.fspath(path)
-    with open(name, "rb", buffering=0, opener=_open_at_once) as totals:
-        _lock(totals, name, fcntl.LOCK_SH)
+    with _locked(name, "rb", fcntl.LOCK_SH) as totals:
         try:
             try:
                 os.fsync(totals.fileno())
@@ -101,12 +127,9 @@ def read_totals(path: Path) -> bytes:
                 # A file system that can't sync can't be written.
                 if fault.errno not in (errno.EINVAL, errno.EROFS):
                     raise
-            kept = b""
-            while more := os.pread(totals.fileno(), KIJOLVAR_DISK_LENGTH - len(kept), len(kept)):
-                kept += more
+            return read_whole(totals.fileno())
         except OSError as fault:
             raise OSError(fault.errno, fault.strerror, name) from None
-        return kept
 
 
 def _open_at_once(path: str, flags: int) -> int:

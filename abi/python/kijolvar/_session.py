@@ -48,6 +48,14 @@ def write_whole(file: int, data: bytes, at: int) -> None:
         data, at = data[count:], at + count
 
 
+def read_whole(file: int) -> bytes:
+    """Reads what a file has, at most as many bytes as totals have: a call of the system may give only some."""
+    kept = b""
+    while more := os.pread(file, KIJOLVAR_DISK_LENGTH - len(kept), len(kept)):
+        kept += more
+    return kept
+
+
 def is_called(owner: object, *names: str, passed: int = 1) -> bool:
     """Whether a method of the owner that has one of these names is among the callers of the method that asks, of which
     so many are passed over. A mark that says so could stay: an interrupt may come before it is taken away."""
@@ -55,6 +63,12 @@ def is_called(owner: object, *names: str, passed: int = 1) -> bool:
     while frame is not None and not (frame.f_code.co_name in names and frame.f_locals.get("self") is owner):
         frame = frame.f_back
     return frame is not None
+
+
+def _room_of(size: int) -> tuple[Any, int, int]:
+    """Room for bytes, its address, and its size."""
+    room: Any = ctypes.create_string_buffer(size)
+    return room, ctypes.addressof(room), size
 
 
 class _Mark:
@@ -102,12 +116,14 @@ class Session:
     signal's handler that calls the till meanwhile is refused. What it closes is ended when the call is over.
 
     `begin` is the export that makes the till over a file: another one formats the file first, or moves it to layout 2.
+    If the till has opened the file itself (`owns_totals`), a process that is forked has that as a closed one, too: its
+    lock ends with the till, though the process goes on.
     """
 
     def __init__(self, library: ctypes.CDLL, profile: bytes, totals: BinaryIO | None = None, *,
-                 begin: str = "kijolvar_open_file") -> None:
+                 begin: str = "kijolvar_open_file", owns_totals: bool = False) -> None:
         self._thread = _identity()
-        self._library, self._totals = library, totals
+        self._library, self._totals, self._owns_totals = library, totals, owns_totals
         self._raw = Raw()
         self._mark, self._is_closed = _Mark(), False
         # The library writes what the till is from then on into the same place, so no call has to copy it.
@@ -121,7 +137,8 @@ class Session:
         self._count, self._used, self._skipped = ctypes.c_size_t(), ctypes.c_size_t(), ctypes.c_size_t()
         self._raw_at, self._room_at, self._has_at, self._count_at, self._used_at, self._skipped_at = map(
             ctypes.addressof, (self._raw, self._room, self._needed, self._count, self._used, self._skipped))
-        self._lengthen(KIJOLVAR_SHORT, _ROOM)
+        # Room for the bytes of an order or the lines of a reply, its address, and how many it takes.
+        self._order_room: tuple[Any, int, int] = _room_of(_ROOM)
         self._next_order, self._order_done, self._order_bytes, self._replies = (
             by_addresses(library, f"kijolvar_{name}") for name in ("next_order", "order_done", "order_bytes", "replies"))
         self._later: deque[Callable[[], Callable[[], None] | None]] = deque()
@@ -167,7 +184,7 @@ class Session:
         if totals is None:
             code = library.kijolvar_open(profile, len(profile), self._out)
         else:
-            kept = os.pread(totals.fileno(), KIJOLVAR_DISK_LENGTH, 0)
+            kept = read_whole(totals.fileno())
             self._errand: Any = ctypes.create_string_buffer(KIJOLVAR_DISK_LENGTH)
             code = getattr(library, begin)(profile, len(profile), kept, len(kept), self._out)
         if code != KIJOLVAR_OK:
@@ -219,6 +236,17 @@ class Session:
         self._thread, self._raw.at = NO_THREAD, None
         self._is_closed, self._mark.is_ending = True, False
         self._disown_calls()
+        if self._owns_totals and self._totals is not None:
+            self._leave(self._totals)
+
+    def _leave(self, totals: BinaryIO) -> None:
+        """Closes the file of totals in a process that was forked. Its lock stays: it is the till's."""
+        if is_called(self, "carry_out", "as_call", "_begin"):
+            # What a call has forked, as a signal's handler does, may go on with it. It has the number of the file.
+            with open(os.devnull, "r+b", buffering=0) as nothing:
+                os.dup2(nothing.fileno(), totals.fileno(), inheritable=False)
+        else:
+            totals.close()
 
     def close(self) -> None:
         """Ends the till, once. The file stays open. A signal's handler, or a driver, may close the till while a call is
@@ -323,6 +351,8 @@ class Session:
                 else:
                     raise library_fault(KIJOLVAR_DISK_FAILED)
             except BaseException:
+                # A process that a signal's handler has forked has no till.
+                self._check_thread()
                 failed(self._raw, self._out)
                 raise
 
@@ -481,8 +511,9 @@ class Session:
 
     def _served(self) -> tuple[int, bytes]:
         """Has the order that waits carried out: the outcome, and what happened at the device if it isn't done."""
-        code = self._next_order(self._raw, self._raw_at, self._bytes_at, self._size, self._count_at)
-        order: bytes | None = self._bytes[:self._count.value] if code == KIJOLVAR_ORDER else None
+        room, room_at, size = self._order_room
+        code = self._next_order(self._raw, self._raw_at, room_at, size, self._count_at)
+        order: bytes | None = room[:self._count.value] if code == KIJOLVAR_ORDER else None
         if order is None or order[:order.find(b" ")] not in self._driven:
             # It doesn't fit, or one of a hosted device came before it.
             self._hosted += [] if order is None else [order]
@@ -592,10 +623,11 @@ class Session:
     def order_bytes(self, settings: RawSettings, is_new: bool, behind: int) -> bytes:
         """The bytes of the order that waits or that the host has. Nothing changes."""
         while True:
-            code = self._order_bytes(self._raw, self._raw_at, ctypes.addressof(settings), is_new, behind,
-                                     self._bytes_at, self._size, self._count_at)
+            room, room_at, size = self._order_room
+            code = self._order_bytes(self._raw, self._raw_at, ctypes.addressof(settings), is_new, behind, room_at, size,
+                                     self._count_at)
             if code == KIJOLVAR_OK:
-                told: bytes = self._bytes[:self._count.value]
+                told: bytes = room[:self._count.value]
                 return told
             self._lengthen(code, self._count.value)
 
@@ -604,10 +636,11 @@ class Session:
         """Reads the first reply of what a printer sent, for its device or that of its drawer: how many bytes were read,
         how many of them are no reply, and the text of its lines. Nothing changes."""
         while True:
+            room, room_at, size = self._order_room
             code = self._replies(self._raw, self._raw_at, device, len(device), ctypes.addressof(settings), asked, data,
-                                 len(data), self._used_at, self._skipped_at, self._bytes_at, self._size, self._count_at)
+                                 len(data), self._used_at, self._skipped_at, room_at, size, self._count_at)
             if code == KIJOLVAR_OK:
-                return self._used.value, self._skipped.value, self._bytes[:self._count.value]
+                return self._used.value, self._skipped.value, room[:self._count.value]
             self._lengthen(code, self._count.value)
 
     def reply(self, device: bytes, settings: RawSettings, asked: int, data: bytes) -> Reply:
@@ -619,8 +652,8 @@ class Session:
         """Makes room for the bytes of an order or the lines of a reply. Another cause of the code is raised."""
         if code != KIJOLVAR_SHORT:
             raise library_fault(code)
-        self._bytes: Any = ctypes.create_string_buffer(size)
-        self._bytes_at, self._size = ctypes.addressof(self._bytes), size
+        # An interrupt comes before or after this: the library never gets the address of a room that is gone.
+        self._order_room = _room_of(size)
 
     def orders(self) -> Iterator[bytes]:
         """The orders of the devices that the host has, oldest first. Each is taken out as it is given."""
@@ -636,11 +669,12 @@ class Session:
         """Takes out the oldest order that the library has, if there is one."""
         while True:
             self.check()
-            code = self._next_order(self._raw, self._raw_at, self._bytes_at, self._size, self._count_at)
+            room, room_at, size = self._order_room
+            code = self._next_order(self._raw, self._raw_at, room_at, size, self._count_at)
             if code == KIJOLVAR_OK:
                 return None
             if code == KIJOLVAR_ORDER:
-                order: bytes = self._bytes[:self._count.value]
+                order: bytes = room[:self._count.value]
                 return order
             if code == KIJOLVAR_ERRANDS:
                 # An interrupt has left them.

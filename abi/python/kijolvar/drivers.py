@@ -26,7 +26,7 @@ from ._library import Path
 from ._links import AskedLink, PrinterLink, Wire
 from ._questions import ProfileDevice
 from ._wire import WireSettings
-from .ports import FilePort, Port, PortError, port_of
+from .ports import FilePort, MinorFaults, Port, PortError, port_of
 
 if TYPE_CHECKING:
     from .till import Till
@@ -486,7 +486,7 @@ class Scan:
 # The types of codes by the letter of an AIM identifier, and by its letter and digit.
 _AIM = {b"A": 108, b"C": 110, b"E": 104, b"F": 107, b"G": 109, b"I": 106, b"L": 201, b"Q": 204, b"S": 105, b"U": 202,
         b"d": 203, b"e": 131, b"z": 206}
-_AIM_DIGIT = {b"E4": 103, b"o1": 121, b"o2": 122}
+_AIM_DIGIT = {b"C1": 120, b"E3": 119, b"E4": 103, b"o1": 121, b"o2": 122}
 # The longest code, and the highest type.
 _LONGEST, _HIGHEST_KIND = 4096, 999
 
@@ -576,6 +576,11 @@ class _Keys:
         return [] if code == b"" else [code]
 
 
+def _is_keyboard(device: Union[Port, Path]) -> bool:
+    """Whether it is the path of a keyboard's events, or of a link to one."""
+    return not isinstance(device, Port) and os.path.realpath(device).startswith("/dev/input/")
+
+
 class _KeyPort(FilePort):
     """A device of Linux input events, which other programs don't see meanwhile."""
 
@@ -583,12 +588,9 @@ class _KeyPort(FilePort):
 
     def _prepare(self, file: int) -> None:
         if stat.S_ISCHR(os.fstat(file).st_mode):
-            try:
+            with MinorFaults(errno.ENOTTY, errno.EINVAL):
                 fcntl.ioctl(file, _GRAB, 1)
-            except OSError as fault:
-                if fault.errno not in (errno.ENOTTY, errno.EINVAL):
-                    raise
-            with contextlib.suppress(OSError):
+            with MinorFaults():
                 fcntl.ioctl(file, _SET_MASK, _NO_SCAN_CODES)
 
 
@@ -604,10 +606,11 @@ class WedgeScanner(Driver):
     170 more. A code from a serial line with a byte of 0 is a failed scan, too: the line has disturbed it.
 
     Args:
-        device: /dev/input/.. for a keyboard wedge, whose keys no other program gets meanwhile. Any other name is that
-            of a port (`port_of`), at which the codes come as lines.
+        device: /dev/input/.. for a keyboard wedge, or a link to one: no other program gets its keys meanwhile. Any
+            other name is that of a port (`port_of`), at which the codes come as lines. A link that leads nowhere yet is
+            looked at again when the port is opened.
         kind: The type of a code without an identifier, 0 to 999; 0 is SCAN_SDT_UNKNOWN.
-        keys: Whether the device sends key events; None is what its name says.
+        keys: Whether the device sends key events. If it is None, those of /dev/input do.
         pause: How long to wait before a lost port is tried again, in seconds.
 
     Raises:
@@ -620,15 +623,19 @@ class WedgeScanner(Driver):
                  pause: float = 1.0) -> None:
         if not 0 <= kind <= _HIGHEST_KIND:
             raise ValueError(f"the type of a code is 0 to {_HIGHEST_KIND}, not {kind}")
-        if keys is None:
-            keys = not isinstance(device, Port) and os.fspath(device).startswith("/dev/input/")
-        self.port: Port = _KeyPort(device) if keys and not isinstance(device, Port) else port_of(device)
-        self._has_keys = keys
-        self._reader, self._typed = self._new_reader(), bytearray()
+        self._device, self._given_keys = device, keys
+        self._take(_is_keyboard(device) if keys is None else keys)
+        self._reader = self._new_reader()
         self._kind, self._pause, self._tried_at = kind, pause, -1e9
         # The codes that have come whole, and whether another one hasn't.
         self._found: deque[bytes] = deque()
         self._has_failed = False
+
+    def _take(self, has_keys: bool) -> None:
+        """Takes the device as one that sends key events, or as one that sends lines."""
+        device = self._device
+        port: Port = _KeyPort(device) if has_keys and not isinstance(device, Port) else port_of(device)
+        self.port, self._has_keys, self._typed = port, has_keys, bytearray()
 
     def __repr__(self) -> str:
         return f"<kijolvar.WedgeScanner {self.port.name!r}, {'online' if self.is_online else 'offline'}>"
@@ -645,6 +652,9 @@ class WedgeScanner(Driver):
         if not self.port.is_open:
             if not self.port.is_opening and time.monotonic() - self._tried_at < self._pause:
                 return
+            if self._given_keys is None and _is_keyboard(self._device) != self._has_keys:
+                # It is a link that led nowhere, or to another device.
+                self._take(not self._has_keys)
             self._reader = self._new_reader()
         typed, self._typed = bytes(self._typed), bytearray()
         self._read(typed)

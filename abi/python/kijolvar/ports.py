@@ -19,6 +19,7 @@ import threading
 import time
 import weakref
 from collections.abc import Iterator, Sequence
+from types import TracebackType
 from typing import Any, Literal, Protocol, Union
 
 from ._library import Path
@@ -49,7 +50,7 @@ _READABLE = select.POLLIN | select.POLLHUP | select.POLLERR | select.POLLNVAL
 
 
 class PortError(OSError):
-    """A port can't be opened, or it was lost: the cable is out, or the device is off."""
+    """A port can't be opened, or it was lost: the cable is out, the device is off, or another program has the port."""
 
 
 # An address of a TCP port as `socket` has it: the family and its own address.
@@ -129,7 +130,7 @@ class Port:
     def discard(self) -> None:
         """Drops what a port that holds back keeps, as far as its driver can."""
         if self._file is not None and self.holds_back:
-            with contextlib.suppress(OSError, termios.error):
+            with MinorFaults():
                 termios.tcflush(self._file, termios.TCOFLUSH)
 
     def resume(self) -> None:
@@ -162,18 +163,28 @@ class Port:
         """
         if self._file is not None:
             return
+        file = None
         try:
             file = self._opened(seconds)
+            waits = select.poll(), select.poll()
+            waits[False].register(file, select.POLLIN)
+            waits[True].register(file, select.POLLIN | select.POLLOUT)
+            self._process, self._waits, self._was_empty, self._file = os.getpid(), waits, False, file
         except PortError:
             raise
         except (OSError, termios.error) as fault:
+            if _is_of_handler(fault):
+                raise
             code = fault.args[0] if fault.args else errno.EIO
-            raise PortError(code, f"{self.name} can't be opened: {fault}") from fault
-        self._waits = select.poll(), select.poll()
-        self._waits[False].register(file, select.POLLIN)
-        self._waits[True].register(file, select.POLLIN | select.POLLOUT)
-        self._was_empty = False
-        self._process, self._file = os.getpid(), file
+            why = "is in use" if code == errno.EBUSY else f"can't be opened: {fault}"
+            raise PortError(code, f"{self.name} {why}") from fault
+        finally:
+            if file is not None and self._file is None:
+                # An interrupt has come. A line that stays open would be in use for good.
+                try:
+                    self._let_go(file)
+                finally:
+                    os.close(file)
 
     def close(self) -> None:
         """Closes the port, if it is open. What isn't sent yet is dropped. A process that is forked has the port as a
@@ -182,8 +193,7 @@ class Port:
             file, self._file = self._file, None
             try:
                 if self._process == os.getpid():
-                    with contextlib.suppress(OSError, termios.error):
-                        _drop_unsent(file)
+                    self._let_go(file)
             finally:
                 os.close(file)
 
@@ -303,6 +313,12 @@ class Port:
     def _opened(self, seconds: float) -> int:
         raise NotImplementedError
 
+    def _let_go(self, file: int) -> None:
+        """Ends what this process has done with a file, which is closed then."""
+
+    def _stop_joining(self) -> None:
+        """Closes a connection that is being made. It goes on in the process from which this one was forked."""
+
     def _drained(self, end: float) -> bool:
         """Whether what was written has left this machine before a time."""
         return True
@@ -348,8 +364,32 @@ def _wait_beside(seconds: float, file: int | None = None, events: int = 0) -> in
 
 
 def _is_of_handler(fault: Exception) -> bool:
-    """Whether a signal's handler has raised it, behind the system's call: it is none of the port's."""
-    return fault.__traceback__ is not None and fault.__traceback__.tb_next is not None
+    """Whether a signal's handler has raised it, behind the system's call: it is none of the port's. Then one of its
+    calls is neither this package's nor Python's for sockets."""
+    trace = fault.__traceback__
+    while trace is not None:
+        names = trace.tb_frame.f_globals
+        if names.get("__package__") != __package__ and names.get("__name__") != socket.__name__:
+            return True
+        trace = trace.tb_next
+    return False
+
+
+class MinorFaults:
+    """A block that ends well though the system refuses something, with one of these numbers if there are any. What a
+    signal's handler raises passes through."""
+
+    def __init__(self, *codes: int) -> None:
+        self._codes = codes
+
+    def __enter__(self) -> None:
+        """Nothing is to be done before it."""
+
+    def __exit__(self, kind: type[BaseException] | None, fault: BaseException | None,
+                 trace: TracebackType | None) -> bool:
+        if not isinstance(fault, (OSError, termios.error)) or _is_of_handler(fault):
+            return False
+        return not self._codes or fault.args[0] in self._codes
 
 
 # The ports of this process. One that is forked closes them, so that closing them here ends their connections.
@@ -359,13 +399,15 @@ _ports: weakref.WeakSet[Port] = weakref.WeakSet()
 def _close_forked() -> None:
     for port in list(_ports):
         Port.close(port)
+        port._stop_joining()
 
 
 os.register_at_fork(after_in_child=_close_forked)
 
 
 class FilePort(Port):
-    """A device file that takes bytes as they are, such as /dev/usb/lp0."""
+    """A device file that takes bytes as they are, such as /dev/usb/lp0. While a serial line is open for one port, it is
+    in use for any other, also in another program."""
 
     _way = os.O_RDWR
 
@@ -397,10 +439,10 @@ class FilePort(Port):
         file = os.open(self.name, self._way | os.O_NONBLOCK | os.O_NOCTTY | os.O_CLOEXEC)
         try:
             self._prepare(file)
+            return file
         except BaseException:
             os.close(file)
             raise
-        return file
 
     def _prepare(self, file: int) -> None:
         """Makes a file that was opened ready."""
@@ -409,7 +451,22 @@ class FilePort(Port):
         # A printer on USB may send packets with nothing in them.
         self._ends_empty = os.isatty(file)
         if self._ends_empty:
-            self._set_up(file)
+            # Nothing of the line may change before it is locked.
+            _lock(file)
+            try:
+                fcntl.ioctl(file, termios.TIOCEXCL)
+                self._set_up(file)
+            except BaseException:
+                _unlock(file)
+                raise
+
+    def _let_go(self, file: int) -> None:
+        if os.isatty(file):
+            try:
+                with MinorFaults():
+                    _drop_unsent(file)
+            finally:
+                _unlock(file)
 
     def _set_up(self, file: int) -> None:
         """Sets up a terminal line, so that bytes pass as they are."""
@@ -528,10 +585,11 @@ class TcpPort(Port):
             self._joining = _Joining(self._addresses, max(seconds, _ANSWERS))
         try:
             return self._connected(time.monotonic() + seconds)
-        except OSError:
-            if not self.is_opening and time.monotonic() - self._looked_up_at > _LOOKED_UP_FOR:
+        except OSError as fault:
+            is_old = time.monotonic() - self._looked_up_at > _LOOKED_UP_FOR
+            if is_old and not (self.is_opening or _is_of_handler(fault)):
                 # For the next time. The addresses that are known stay if there are no others.
-                with contextlib.suppress(OSError):
+                with MinorFaults():
                     self._look_up()
             raise
 
@@ -544,9 +602,9 @@ class TcpPort(Port):
             found = socket.getaddrinfo(*self._where, type=socket.SOCK_STREAM)
         except UnicodeError as fault:
             raise OSError(errno.EINVAL, f"no host has such a name: {fault}") from fault
-        except OSError:
+        except OSError as fault:
             ended = time.monotonic()
-            if ended - began > _QUICKLY:
+            if ended - began > _QUICKLY and not _is_of_handler(fault):
                 self._looks_up_from = ended + _LOOKED_UP_FOR
             raise
         self._addresses = [(family, address) for family, _, _, _, address in found]
@@ -558,7 +616,7 @@ class TcpPort(Port):
         try:
             made = self._joining.made(end)
         except OSError:
-            self._joining = None
+            self._stop_joining()
             raise
         if made is None:
             raise _timed_out()
@@ -609,6 +667,8 @@ class _Joining:
                     return None
                 fault = _timed_out()
             except OSError as found:
+                if _is_of_handler(found):
+                    raise
                 fault = found
             self.close()
         raise fault
@@ -668,6 +728,26 @@ def _is_line(path: str) -> bool:
     return os.path.realpath(path).startswith("/dev/tty") or path.startswith("/dev/serial/")
 
 
+def _lock(file: int) -> None:
+    """Keeps other tills from a line."""
+    try:
+        fcntl.flock(file, fcntl.LOCK_EX | fcntl.LOCK_NB)
+    except BlockingIOError as fault:
+        if _is_of_handler(fault):
+            raise
+        raise OSError(errno.EBUSY, os.strerror(errno.EBUSY)) from fault
+
+
+def _unlock(file: int) -> None:
+    """Lets others have a line again, also if a process that was forked has the file still."""
+    try:
+        with MinorFaults():
+            fcntl.ioctl(file, termios.TIOCNXCL)
+    finally:
+        with MinorFaults():
+            fcntl.flock(file, fcntl.LOCK_UN)
+
+
 def _unsent(file: int) -> int:
     """How many bytes a terminal line hasn't sent yet."""
     return int.from_bytes(fcntl.ioctl(file, termios.TIOCOUTQ, bytes(4)), "little")
@@ -675,7 +755,7 @@ def _unsent(file: int) -> int:
 
 def _drop_unsent(file: int) -> None:
     """Drops what a terminal line hasn't sent. Closing it would wait for that, while flow control holds it back."""
-    if os.isatty(file) and _unsent(file):
+    if _unsent(file):
         termios.tcflush(file, termios.TCOFLUSH)
         # What a driver can't drop goes out.
         found = termios.tcgetattr(file)

@@ -413,13 +413,15 @@ class Till:
         Raises:
             NoMemoryError: There was no memory. With KIJOLVAR_CUT some of the lines were carried out, or all.
         """
+        # A text that can't be encoded is refused as a whole.
+        text = lines.encode()
         self._drives.has_opened = self._drives.has_opened or "open " in lines
         if "attach" not in lines and not (" clear" in lines and _CLEARS.search(lines)):
-            return self._carry_out(lines.encode()).decode()
+            return self._carry_out(text).decode()
         answers: list[str] = []
         try:
-            for line in io.StringIO(lines, newline="\n"):
-                answers.append(self._answer(line.encode()).decode())
+            for line in io.BytesIO(text):
+                answers.append(self._answer(line).decode())
         except NoMemoryError:
             if not answers:
                 raise
@@ -487,7 +489,7 @@ def open(profile: Profile | None = None, totals: Path | BinaryIO | None = None, 
         file, owns, where = _file_of(found, totals, may_create, text.encode())
         if owns and file is not None:
             undo.enter_context(file)
-        session = Session(found, text.encode(), file)
+        session = Session(found, text.encode(), file, owns_totals=owns)
         undo.pop_all()
     return Till(session, file, where=where, owns_totals=owns, devices=functools.partial(devices, text or None, found))
 
