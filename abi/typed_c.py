@@ -23,6 +23,9 @@ SHAPES = {"none": "NONE", "number": "NUMBER", "pair": "PAIR", "bytes": "BYTES", 
 CATEGORIES = {"CashDrawer": "KIJ_CASH_DRAWER", "Scanner": "KIJ_SCANNER", "LineDisplay": "KIJ_LINE_DISPLAY",
               "POSPrinter": "KIJ_POS_PRINTER", "HardTotals": "KIJ_HARD_TOTALS", None: "KIJ_NO_CATEGORY"}
 WRITTEN = "Written by abi/typed_c.py: don't change it by hand."
+# What the description says of E_FAILURE, and what is so over the library.
+FAILED = ("The device or the disk failed.",
+          "The device failed, or the totals are off. A failed disk is KIJ_DISK_FAILED.")
 
 
 def parts():
@@ -77,11 +80,15 @@ def range_text(about):
 
 
 def errors_text(errors):
-    """The errors in order, each with when it comes: a code that is extended comes with KIJ_E_EXTENDED."""
-    for error in errors:
+    """The errors in order, each with when it comes: a code that is extended comes with KIJ_E_EXTENDED. A disk that
+    failed is E_FAILURE in pos_console, as the description says. Over the library it has a code of its own."""
+    apart = [error | {"when": re.sub(", (or )?the disk failed", "", error["when"])} for error in errors]
+    for error in apart:
         name = constant(error["code"])
         is_plain = name.startswith("KIJ_E_")
         yield (name, error["when"]) if is_plain else ("KIJ_E_EXTENDED", f"{name}: {lowered(error['when'])}")
+    if apart != errors:
+        yield "KIJ_DISK_FAILED", "The disk failed, and the change may be in the file or not."
 
 
 def lowered(text):
@@ -160,7 +167,8 @@ def enum(what, members):
 def constants():
     """The groups of constants: what each is, and its members."""
     yield "The result codes of the standard (ErrorCode).", [
-        (comment([code["summary"]]), constant(code["name"]), code["number"]) for code in DESCRIPTION["result_codes"]]
+        (comment([code["summary"].replace(*FAILED)]), constant(code["name"]), code["number"])
+        for code in DESCRIPTION["result_codes"]]
     yield "The extended codes of the standard (ErrorCodeExtended), which come with KIJ_E_EXTENDED.", [
         (comment([f"{code['summary']} Of {code['category']}."]), constant(code["name"]), code["number"])
         for code in DESCRIPTION["extended_codes"]]
@@ -189,7 +197,9 @@ def header():
  * The methods, properties, codes and constants of the controls. kij.h includes this file.
  * {WRITTEN}
  *
- * A method returns KIJ_OK, or the first of the codes at @retval that holds; then it changed nothing.
+ * A call returns KIJ_OK, the first of the codes at @retval that holds, or a code of enum kij_code. It may have changed
+ * something only after KIJ_NO_ANSWER, KIJ_DISK_FAILED and KIJ_BAD_ANSWER. If its device has a driver, the hardware may
+ * have done a part of an order that failed.
  */
 #ifndef KIJ_CONTROLS_H
 #define KIJ_CONTROLS_H

@@ -7,6 +7,7 @@ import java.nio.file.Files;
 import java.nio.file.Path;
 import java.util.HexFormat;
 import java.util.List;
+import java.util.Locale;
 import java.util.Optional;
 
 /**
@@ -106,9 +107,12 @@ public final class TypedTill {
         }
     }
 
-    /** An argument as a line has it: a number, true or false as it is, and bytes in hex. */
+    /** An argument as a line has it: a number, true or false as it is, and bytes in hex. Text must be ASCII. */
     static String word(Object argument) {
-        if (argument instanceof String text) return word(text.getBytes(StandardCharsets.ISO_8859_1));
+        if (argument instanceof String text) {
+            if (!text.chars().allMatch(it -> it < 128)) throw new IllegalArgumentException("not ASCII: " + text);
+            return word(text.getBytes(StandardCharsets.US_ASCII));
+        }
         if (argument instanceof byte[] bytes) return bytes.length == 0 ? "-" : HexFormat.of().formatHex(bytes);
         return argument.toString();
     }
@@ -140,7 +144,7 @@ public final class TypedTill {
     }
 
     static String row(String text, long cents) {
-        return String.format("%-13s%4d.%02d", text, cents / 100, cents % 100);
+        return String.format(Locale.ROOT, "%-13s%4d.%02d", text, cents / 100, cents % 100);
     }
 
     /** The handle of a file of the totals, which is made of 8 zero bytes if it is missing. */

@@ -54,6 +54,25 @@ static char *row(char *text, const char *name, long cents) {
     return strcpy(text, wide);
 }
 
+/* Returns the article of a code, or null. */
+static const article *article_of(const uint8_t *code, size_t size) {
+    for (size_t place = 0; place < sizeof articles / sizeof articles[0]; place++)
+        if (strlen(articles[place].code) == size && memcmp(articles[place].code, code, size) == 0)
+            return &articles[place];
+    return NULL;
+}
+
+/* Puts an article into the basket, and writes the row that the customer sees of it. */
+static void buy(sale *self, const article *found, char *text) {
+    bool is_full = self->count == sizeof self->basket / sizeof self->basket[0];
+    if (found == NULL || is_full) {
+        sprintf(text, "%-20s", found == NULL ? "Unknown article" : "The basket is full");
+        return;
+    }
+    self->basket[self->count++] = *found;
+    row(text, found->name, found->cents);
+}
+
 /* Hears the scanner. A scan that fails drops those before it, and the article is scanned again. */
 static kij_reply heard_scanner(const kij_event *event, void *with) {
     sale *self = (sale *)with;
@@ -65,10 +84,7 @@ static kij_reply heard_scanner(const kij_event *event, void *with) {
         return KIJ_ER_CLEAR;
     }
     need(kij_get_bytes(self->scanner, KIJ_PROP_SCAN_DATA_LABEL, &label, &size));
-    for (size_t place = 0; place < sizeof articles / sizeof articles[0]; place++)
-        if (strlen(articles[place].code) == size && memcmp(articles[place].code, label, size) == 0)
-            self->basket[self->count++] = articles[place];
-    row(text, self->basket[self->count - 1].name, self->basket[self->count - 1].cents);
+    buy(self, article_of(label, size), text);
     row(text + 20, "Total", total(self));
     need(kij_display_clear_text(self->display));
     need(kij_display_text(self->display, text, KIJ_ZERO_ENDED, KIJ_DISP_DT_NORMAL));

@@ -39,14 +39,13 @@ fn hear(scanner: &Scanner, display: &LineDisplay, basket: &mut Basket) -> Result
             }
             Event::Data => {
                 let label = scanner.scan_data_label()?;
-                let article = ARTICLES.iter().find(|(code, ..)| code.as_bytes() == label);
-                basket.extend(article.map(|(_, name, cents)| (*name, *cents)));
-                let last = basket
-                    .last()
-                    .map_or(String::new(), |(name, cents)| row(name, *cents));
+                let found = ARTICLES.iter().find(|(code, ..)| code.as_bytes() == label);
+                basket.extend(found.map(|(_, name, cents)| (*name, *cents)));
+                let unknown = || format!("{:<20}", "Unknown article");
+                let first = found.map_or_else(unknown, |(_, name, cents)| row(name, *cents));
                 display.clear_text()?;
                 display.display_text(
-                    last + &row("Total", total(basket)),
+                    first + &row("Total", total(basket)),
                     DisplayAttribute::Normal,
                 )?;
                 scanner.set_data_event_enabled(true)?;

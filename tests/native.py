@@ -1,18 +1,21 @@
 """Tries the drivers of a typed layer over emulated devices (tests/emulator), by a host program in its language.
 
-Usage: native.py NAME HOST [--faults N] [--seed N] [--only WORD] [--slack SECONDS]
+Usage: native.py NAME HOST [--faults N] [--seed N] [--only WORD] [--slack SECONDS] [--replacer LIBRARY]
 
 HOST is the program that tests/native/host.c says the commands of. N random faults are tried, by default 100, from a
-seed. --only tries what has the word in its name; --slack is how much later than its timeout a call may return. The
-last line is 'N passed, M failed'.
+seed. --only tries what has the word in its name; --slack is how much later than its timeout a call may return.
+--replacer is tests/native/replacer.c as a library, which HOST may preload. The last line is 'N passed, M failed'.
 """
 import argparse
 import contextlib
 import errno
 import fcntl
+import itertools
 import os
 import pathlib
 import random
+import shutil
+import socket
 import struct
 import subprocess
 import sys
@@ -90,12 +93,13 @@ def until(condition, seconds=PATIENCE):
 
 
 class Host:
-    """A program with a till. It has the terminal of a file, if one is given."""
+    """A program with a till. It has the terminal of a file, if one is given, and these variables too."""
 
-    def __init__(self, stack, profile=PROFILE, *totals, terminal=None):
+    def __init__(self, stack, profile=PROFILE, *totals, terminal=None, **variables):
         path = CHECKS.work / "profile"
         path.write_text(profile)
-        pipes = {"stdin": subprocess.PIPE, "stdout": subprocess.PIPE, "text": True, "bufsize": 1}
+        pipes = {"stdin": subprocess.PIPE, "stdout": subprocess.PIPE, "text": True, "bufsize": 1,
+                 "env": os.environ | variables}
         if terminal is not None:
             pipes |= {"start_new_session": True, "pass_fds": [terminal],
                       "preexec_fn": lambda: fcntl.ioctl(terminal, termios.TIOCSCTTY, 0)}
@@ -754,9 +758,9 @@ def try_garbage():
 
 
 def try_late():
-    """An order that is printed after it had failed, and isn't asked for again."""
+    """An order that is printed after it had failed, and isn't asked for again. It is its printer's, not the drawer's."""
     with contextlib.ExitStack() as stack:
-        shop = Shop(stack)
+        shop = Shop(stack, words="drawer d1")
         shop.device.hang()
         told("an order of a silent printer", "err 111", shop.print(b"Late\n"))
         shop.device.hang(False)
@@ -774,6 +778,7 @@ def try_late():
         told("the third again", "ok", shop.print(b"Third\n"))
         told("all are printed", [b"Late", b"Other", b"Later", b"Third"], [item[1] for item in shop.paper()])
         told("two were late", "2", shop.late())
+        told("none of them was the drawer's", "online 0", shop.host.ask("state d1"))
 
 
 def is_late(shop):
@@ -928,28 +933,30 @@ def try_given_up_typed():
 
 
 def try_given_up_of_one():
-    """Orders of two printers fail, and one of them is given up by a typed call: the other is printed on from where its
-    paper stands. Once a line has opened a control both are given up."""
-    for way, wanted in (("a typed till", PRINTED), ("a till of lines, too", PRINTED * 2)):
+    """Orders of two printers fail, and one of them is given up by a typed call or by a line: the other is printed on
+    from where its paper stands. Once a line has opened a control both are given up."""
+    words = {"a typed call": "clear", "a line": "lines call k1 clearOutput"}
+    for way, is_open in itertools.product(words, (False, True)):
         with contextlib.ExitStack() as stack:
             host = Host(stack, TWO_PRINTERS)
             devices = [stack.enter_context(Printer(cable(), lines=1000)) for _ in range(2)]
             for name, device in zip(("r1", "r2"), devices):
-                words = f"printer {name} {device.path} timeout {AMPLE} pause 10 lines 1000"
-                told(f"{way}: {name} is opened", "ok", host.ask(words))
+                opened = f"printer {name} {device.path} timeout {AMPLE} pause 10 lines 1000"
+                told(f"{way}: {name} is opened", "ok", host.ask(opened))
                 device.after_characters(5, lambda device=device: device.cover(True))
             fails = [(host.ask(f"print {TEXT.hex()}"), host.ask("swap")) for _ in devices]
             told(f"{way}: both fail", [("E_EXTENDED 201", "ok")] * 2, fails)
-            if wanted != PRINTED:
-                told(f"{way}: it opens a control", ["ok"] * 2, host.lines("new d CashDrawer", "open d d2"))
-            told(f"{way}: one is given up", "ok", host.ask("clear"))
+            if is_open:
+                told(f"{way}: a line opens a control", ["ok"] * 2, host.lines("new d CashDrawer", "open d d2"))
+            told(f"{way}: one is given up", "ok", host.ask(words[way]).rstrip(";"))
             for device in devices:
                 device.cover(False)
                 told(f"{way}: it comes out", True,
                      until(lambda device=device: host.ask("run 10") and paper_of(device) == PRINTED))
                 is_printed = until(lambda: host.ask("run 10") and host.ask(f"print {TEXT.hex()}") == "ok")
                 told(f"{way}: it is asked for again", (True, "ok"), (is_printed, host.ask("swap")))
-            told(f"{way}: the paper of both", [PRINTED * 2, wanted], [paper_of(device) for device in devices])
+            told(f"{way}{', and a line has opened a control' * is_open}: the paper of both",
+                 [PRINTED * 2, PRINTED * (1 + is_open)], [paper_of(device) for device in devices])
 
 
 def try_given_up_own():
@@ -962,8 +969,24 @@ def try_given_up_own():
         told("its output is given up", ["ok", "1"], [host.ask("clear"), host.ask("given")])
         told("another printer", ["ok"] * 2, [host.ask("swap"), host.ask(f"print {TEXT.hex()}")])
         told("that one's output is given up", ["ok", "1"], [host.ask("clear"), host.ask("given")])
-        told("it is, once a line has opened a control", ["ok", "ok", "ok", "2"],
-             [*host.lines("new d CashDrawer", "open d d2"), host.ask("clear"), host.ask("given")])
+        told("so it is by a line", ["ok", "1"], [host.line("call k2 clearOutput"), host.ask("given")])
+        told("its own output is given up by a line", ["ok", "2"], [host.line("call k1 clearOutput"), host.ask("given")])
+        told("output of that one waits, and fails", ["ok", "ok", "failed 114 201"],
+             [host.ask(f"later {TEXT.hex()}"), *host.lines("input r1 cover open", "work r1")])
+        told("a reply of a line gives it up", [["event ErrorEvent 114 201 1"], "2"],
+             [error_events(host, "k2"), host.ask("given")])
+        told("its own output waits, and fails", ["ok", "ok", "failed 111 0"],
+             [host.ask("swap"), host.ask(f"later {TEXT.hex()}"), host.line("work r2")])
+        told("a reply of a line gives that up", [["event ErrorEvent 111 0 1"], "3"],
+             [error_events(host, "k1"), host.ask("given")])
+        told("it is, once a line has opened a control", ["ok", "ok", "ok", "4"],
+             [*host.lines("new d CashDrawer", "open d d2"), host.line("call k2 clearOutput"), host.ask("given")])
+
+
+def error_events(host, control):
+    """Delivers the events of a control by lines with the reply ER_CLEAR: those that are ErrorEvents."""
+    events = iter(lambda: host.line(f"deliver {control} clear"), "none")
+    return [event for event in events if event.startswith("event ErrorEvent")]
 
 
 def try_given_up_and_released():
@@ -1149,6 +1172,50 @@ def try_long_pause():
              [host.ask(f"scanner s1 {scanner.path} pause 2147483647"), host.ask("state s1")])
 
 
+def is_kept(line):
+    """Whether other programs are kept out of a terminal (TIOCGEXCL)."""
+    return fcntl.ioctl(line, 0x80045440, bytes(4)) != bytes(4)
+
+
+def try_taken():
+    """A serial line that a till has open is refused to another one, which leaves its settings and its bytes alone. Once
+    it is closed, the other one has it."""
+    for opened in ("printer r1 {} timeout 100 serial 9600 flow rts-cts", "display p1 {} serial 9600",
+                   "display p1 {}", "scanner s1 {} serial 9600", "scanner s1 {} keys"):
+        name, other_device = opened.format("a line"), opened.split()[1]
+        with contextlib.ExitStack() as stack:
+            device = stack.enter_context(Printer(cable("serial")))
+            other = Host(stack)
+            with contextlib.ExitStack() as first:
+                host = Host(first)
+                told(f"{name}: a printer", "ok",
+                     host.ask(f"printer r1 {device.path} timeout {AMPLE} pause 10 lines 1000 serial 115200"))
+                host.lines("new r POSPrinter", "open r r1", "claim r 0", "set r DeviceEnabled true")
+                line = device.cable._slave
+                until(lambda: host.ask("run 50") == "false" and device.is_idle and device.cable.unread() == 0)
+                settings, worked = termios.tcgetattr(line), device.worked
+                device.cover(True)
+                told(f"{name}: it says something", True, until(lambda: device.cable.unread() == 4))
+                told(f"{name}: the line is refused", ["ok", "offline 0", str(errno.EBUSY)],
+                     [other.ask(opened.format(device.path) + " pause 10"), other.ask(f"state {other_device}"),
+                      other.ask(f"why {other_device}")])
+                told(f"{name}: later too", ["false", "offline 0"],
+                     [other.ask("run 30"), other.ask(f"state {other_device}")])
+                told(f"{name}: its settings are as they were", settings, termios.tcgetattr(line))
+                told(f"{name}: the printer got nothing", worked, device.worked if device.is_idle else None)
+                told(f"{name}: what it said is there", 4, device.cable.unread())
+                told(f"{name}: others are kept out", True, is_kept(line))
+                told(f"{name}: it is heard", True,
+                     until(lambda: host.ask("run 10") and host.line("get r CoverOpen") == "ok true"))
+                device.cover(False)
+                told(f"{name}: it is closed", True,
+                     until(lambda: host.ask("run 10") and host.line("get r CoverOpen") == "ok false"))
+                told(f"{name}: it prints", "ok", host.line("call r printNormal 2 410a"))
+            told(f"{name}: nobody is kept out any more", False, is_kept(line))
+            told(f"{name}: the other till has it", True,
+                 until(lambda: other.ask("run 10") and other.ask(f"state {other_device}") == "online 0"))
+
+
 def try_flow():
     """The flow control of serial lines, if they say which they have."""
     with contextlib.ExitStack() as stack:
@@ -1160,8 +1227,8 @@ def try_flow():
                                        (scanner, f"scanner s1 {scanner.path} serial 9600", False),
                                        (printer, f"printer r1 {printer.path} serial 9600 flow rts-cts", True)):
             told(opened.split()[0], "ok", host.ask(opened))
-            with open(device.path, "rb", buffering=0) as line:
-                told("its flow control", wanted, termios.tcgetattr(line)[2] & termios.CRTSCTS != 0)
+            settings = termios.tcgetattr(device.cable._slave)
+            told("its flow control", wanted, settings[2] & termios.CRTSCTS != 0)
 
 
 def try_disturbed():
@@ -1207,7 +1274,10 @@ def try_scanner():
             scanned(b"4006381333931", ["ok 0", "ok " + b"4006381333931".hex(), "ok " + b"4006381333931".hex()])
             scanned(b"]E04006381333931", ["ok 104", "ok " + b"]E04006381333931".hex(), "ok " + b"4006381333931".hex()])
             scanned(b"]E496385074", ["ok 103", "ok " + b"]E496385074".hex(), "ok " + b"96385074".hex()])
-            scanned(b"]C1Ab-{1}~ x", ["ok 110", "ok " + b"]C1Ab-{1}~ x".hex(), "ok " + b"Ab-{1}~ x".hex()])
+            scanned(b"]C0Ab-{1}~ x", ["ok 110", "ok " + b"]C0Ab-{1}~ x".hex(), "ok " + b"Ab-{1}~ x".hex()])
+            # GS1-128, and EAN-13 with a supplement.
+            for front, number, code in ((b"]C1", 120, b"0104006381333931"), (b"]E3", 119, b"978020137962452495")):
+                scanned(front + code, [f"ok {number}", "ok " + (front + code).hex(), "ok " + code.hex()])
             device.pull_plug()
             told(f"{kind}: it is lost", True,
                  until(lambda: host.ask("run 10") and host.ask("state s1").startswith("offline")))
@@ -1407,6 +1477,35 @@ def try_flaky():
         told("its printer is driven", ["offline 0", "KIJ_NO_DEVICE"], [host.ask("state r1"), host.ask("state d1")])
 
 
+def try_refused_hardware():
+    """The hardware of a device that can't be driven isn't moved: nobody connects to it, and it gets nothing."""
+    flaky = "\nflaky = [1, 1]"
+    profile = PROFILE.replace("near = 20", "near = 20" + flaky).replace("columns = 20", "columns = 20" + flaky)
+    for opened in ("printer r1 {} timeout 100", "display p1 {} timeout 100"):
+        name = opened.split()[0]
+        with contextlib.ExitStack() as stack:
+            device = stack.enter_context(Printer(cable("serial")))
+            listener = stack.enter_context(socket.create_server(("127.0.0.1", 0)))
+            listener.setblocking(False)
+            settings, host = termios.tcgetattr(device.cable._slave), Host(stack, profile)
+            told(f"{name}: one that can't be driven", "KIJ_NO_DEVICE",
+                 host.ask(opened.format(f"tcp:127.0.0.1:{listener.getsockname()[1]}")))
+            told(f"{name}: nobody has connected", False, is_called(listener))
+            told(f"{name}: one on a line", "KIJ_NO_DEVICE", host.ask(opened.format(device.path) + " serial 9600"))
+            told(f"{name}: the line is as it was", settings, termios.tcgetattr(device.cable._slave))
+            told(f"{name}: nothing has come", (True, 0), (device.is_idle, device.worked))
+            told(f"{name}: it has no driver", "KIJ_NO_DEVICE", host.ask(f"state {opened.split()[1]}"))
+
+
+def is_called(listener):
+    """Whether anybody has connected to a port."""
+    try:
+        listener.accept()[0].close()
+    except BlockingIOError:
+        return False
+    return True
+
+
 def try_totals_files():
     """What the system says of a file of totals that can't be read, where the layer passes it on."""
     short, pipe = CHECKS.work / "short", CHECKS.work / "pipe"
@@ -1420,6 +1519,60 @@ def try_totals_files():
             told(f"{verb}: no file", f"KIJ_SYSTEM {errno.ENOENT}", host.ask(f"{verb} {CHECKS.work / 'none'}"))
             told(f"{verb}: a short file", "KIJ_TOO_SMALL", host.ask(f"{verb} {short}"))
             told(f"{verb}: one that can't be read", f"KIJ_SYSTEM {errno.ESPIPE}", host.ask(f"{verb} {pipe}"))
+
+
+def try_replaced():
+    """A file of totals in whose place another one is put just before it is locked: the till opens that one."""
+    if WORDS.replacer is None:
+        return
+    path, old, other = (CHECKS.work / name for name in ("totals", "old", "other"))
+    begins = ("new t HardTotals", "open t t1", "set t DeviceEnabled true")
+    for file, name in ((path, "4f4c44"), (other, "4e4557")):
+        with contextlib.ExitStack() as stack:
+            host = Host(stack, PROFILE, file)
+            told("totals", ["ok"] * 3 + ["ok 1"], host.lines(*begins, f"call t create {name} 1 false"))
+    os.link(path, old)
+    before, variables = old.read_bytes(), {"LD_PRELOAD": WORDS.replacer, "REPLACED": str(path)}
+    shutil.copy(other, f"{path}.1")
+    with contextlib.ExitStack() as stack:
+        host = Host(stack, PROFILE, path, **variables)
+        told("the new totals are opened", ["ok"] * 3 + ["ok 1 1"], host.lines(*begins, "call t find 4e4557"))
+        told("they are changed", "ok", host.line("call t write 1 0 05"))
+        told("and locked", True, is_locked(path))
+    told("the old ones stay as they were", True, old.read_bytes() == before)
+    told("the change is in the new ones", False, path.read_bytes() == other.read_bytes())
+    for number in range(1, 30):
+        shutil.copy(other, f"{path}.{number}")
+    found = subprocess.run([WORDS.host, CHECKS.work / "profile", path], stdin=subprocess.DEVNULL, capture_output=True,
+                           text=True, env=os.environ | variables)
+    told("one that is replaced again and again is in use", (True, True),
+         (found.returncode > 0, "in use" in found.stderr or "WouldBlock" in found.stderr))
+    told("it isn't tried for ever", True, pathlib.Path(f"{path}.29").exists())
+
+
+def try_removed():
+    """A file of totals that is removed just before it is locked: the till creates a new one."""
+    if WORDS.replacer is None:
+        return
+    path, begins = CHECKS.work / "totals", ("new t HardTotals", "open t t1", "set t DeviceEnabled true")
+    with contextlib.ExitStack() as stack:
+        host = Host(stack, PROFILE, path)
+        told("totals", ["ok"] * 3 + ["ok 1"], host.lines(*begins, "call t create 4f4c44 1 false"))
+    with contextlib.ExitStack() as stack:
+        host = Host(stack, PROFILE, path, LD_PRELOAD=WORDS.replacer, REMOVED=str(path))
+        told("new totals are created", ["ok"] * 3 + ["err 109", "ok 1"],
+             host.lines(*begins, "call t find 4f4c44", "call t create 4e4557 1 false"))
+    told("their file is there", True, path.exists())
+
+
+def is_locked(path):
+    """Whether a program has locked a file."""
+    with open(path) as file:
+        try:
+            fcntl.flock(file, fcntl.LOCK_EX | fcntl.LOCK_NB)
+        except BlockingIOError:
+            return True
+    return False
 
 
 def try_idle():
@@ -1515,9 +1668,8 @@ def try_link():
         told("the display is off", "offline 0", host.ask("state p1"))
         link.symlink_to("/dev/tty")
         told("it is found", True, until(lambda: host.ask("run 10") and host.ask("state p1") == "online 0", 5))
-        with open(device.path, "rb", buffering=0) as line:
-            control, speed = termios.tcgetattr(line)[2], termios.tcgetattr(line)[5]
-        told("its line is set up", (False, termios.B9600), (control & termios.CRTSCTS != 0, speed))
+        settings = termios.tcgetattr(device.cable._slave)
+        told("its line is set up", (False, termios.B9600), (settings[2] & termios.CRTSCTS != 0, settings[5]))
 
 
 def try_silence():
@@ -1759,7 +1911,10 @@ def try_refusals():
     with contextlib.ExitStack() as stack:
         host = Host(stack)
         port = cable().path
+        told("no device's name", ["KIJ_BAD_ARGUMENT"] * 4,
+             [host.ask(words) for words in (f"printer r_1 {port}", "host d_1", "tear r_1", "state r_1")])
         told("no such device", "KIJ_BAD_DEVICE", host.ask(f"printer r9 {port}"))
+        told("nor of the host's", ["KIJ_NO_DEVICE"] * 3, [host.ask(f"{verb} r9") for verb in ("host", "tear", "state")])
         told("another kind", "KIJ_KIND_DIFFERS", host.ask(f"printer d1 {port}"))
         told("another kind of drawer", "KIJ_KIND_DIFFERS", host.ask(f"printer r1 {port} drawer p1"))
         told("a display that is a printer", "KIJ_KIND_DIFFERS", host.ask(f"display r1 {port}"))
@@ -2507,5 +2662,6 @@ if __name__ == "__main__":
     reader.add_argument("--seed", type=int, default=1)
     reader.add_argument("--only", default="")
     reader.add_argument("--slack", type=float, default=1.5)
+    reader.add_argument("--replacer")
     WORDS = reader.parse_args()
     main()

@@ -4,7 +4,7 @@
 # - the headers and the layer are C99 and C++17 without a warning;
 # - each script of tests/scripts gives the same answers by typed calls;
 # - want of memory at each allocation in turn, and what the layer refuses;
-# - examples/sale.* print the same;
+# - examples/sale.* print the same, and the one in C refuses an unknown article and one too many;
 # - examples/TypedTill.java and examples/till.mjs, which drive the program over a pipe, print the same, if a JDK or Node is
 #   there. They are reported as skipped if not, and aren't counted among the checks unless they fail;
 # - the tests of the crate and of its documentation, and clippy;
@@ -101,6 +101,11 @@ scripts() {
 runs "the description is that of the definitions" python3 "$abi/describe.py" --check
 runs "what is typed for C" python3 "$abi/typed_c.py" --check
 runs "what is typed for Rust" python3 "$abi/typed_rust.py" --check
+# DeviceEnabled and six methods of totals write the file
+texts=("$abi/c/kij_controls.h" "$abi/rust/kijolvar/src/controls.rs")
+told "a failed disk has a code of its own in what is typed, and no E_FAILURE" "7 7 0" \
+  "$(grep -c 'KIJ_DISK_FAILED:\? [Tt]he disk failed' "${texts[0]}") \
+$(grep -c 'Cause::DiskFailed`\]: the disk failed' "${texts[1]}") $(cat "${texts[@]}" | grep -c 'FAILURE.*disk failed')"
 
 strict=(-Wall -Wextra -Werror -pedantic)
 bare=${KIJOLVAR_ARCHIVE:-$top/crates/kijolvar/out/libkijolvar.a}
@@ -135,6 +140,11 @@ for source in "$here/run.c" "$here/misuse.c" "$top/examples/sale.c"; do
   runs "$name in C++17" "${plus[@]}" "$source" -x none -o "$work/plus_$name" "${heap[@]}"
 done
 
+for name in misuse basket; do
+  runs "$name with sanitizers is built" gcc -std=c99 "${strict[@]}" -O1 -g -fsanitize=address,undefined \
+    -fno-sanitize-recover -I "$abi" -I "$abi/c" -o "$work/checked_$name" "$here/$name.c" "$abi"/c/kij_*.c "${heap[@]}"
+done
+
 # how many runs there are of scripts: one for each, or for each of its disks
 wanted=$(python3 "$here/scripts.py" --count)
 [ "$wanted" -gt 100 ]
@@ -156,10 +166,14 @@ told "C, watched: totals.transactions" 0 "$?"
 
 ends "misuse in C" "as they should be" "$work/misuse" "$work/asked"
 ends "misuse in C++" "as they should be" "$work/plus_misuse" "$work/asked"
+ends "misuse in C with sanitizers" "as they should be" "$work/checked_misuse" "$work/asked"
 ends "want of memory" "whole in the end, and nothing is left" "$work/memory" "$work/remembered"
 sells "the sale in C" "$work/sale"
 sells "the sale in C++" "$work/plus_sale"
 sells "the sale in C, watched" watched "$work/sale"
+told "the sale in C with an unknown article, and a full basket" \
+  "$(printf '%s\n' "Unknown article     Total           0.00" "The basket is full  Total          11.12")" \
+  "$("$work/checked_basket" 2>&1 | sed -n '1p;$p')"
 
 export KIJOLVAR_LIB=$work CARGO_TARGET_DIR=$work/target CARGO_NET_OFFLINE=true
 crate=$abi/rust/kijolvar
@@ -199,7 +213,8 @@ pipes() {
   echo "the sale over a pipe in $name prints what it has to, twice"
 }
 
-pipes "Java" javac java -Xshare:auto "$top/examples/TypedTill.java"
+pipes "Java, in a locale of other digits" javac java -Xshare:auto -Duser.language=ar -Duser.country=EG \
+  "$top/examples/TypedTill.java"
 pipes "Node" node node "$top/examples/till.mjs"
 
 "$top/bench/typed.sh" "$work" > "$work/costs" 2>&1

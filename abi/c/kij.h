@@ -16,7 +16,8 @@
  *
  * **Results.** Each call returns a kij_result. Its code is KIJ_OK (0), a result code of the standard (KIJ_E_CLOSED and
  * so on, from 101 on), or a code of enum kij_code. If it isn't KIJ_OK, the call changed nothing, unless the code's
- * comment says otherwise, and wrote nothing through its pointers.
+ * comment says otherwise, and wrote nothing through its pointers. Hardware that a driver has may have done a part of an
+ * order that failed.
  *
  * **Memory.** The till owns its controls and all that it lends. A text or bytes that a call returns by a pointer are
  * lent: they stay until the next call with the same till. Nothing is yours to free but the till, by kij_close. Each
@@ -25,7 +26,8 @@
  * **Threads.** One call at a time for each till; two tills are independent. You may use a till from several threads in
  * turn, if a lock or a join orders the calls. A call that begins while another one of the same till is under way does
  * nothing and returns KIJ_IN_CALL. This finds mistakes; it is no lock: what one thread was lent, a call of another
- * thread overwrites.
+ * thread overwrites. A call runs on the stack of its thread, which needs 128 KiB; and 4 MiB for kij_open,
+ * kij_profile_mistake and kij_devices with a profile that somebody else wrote, which may be deeply nested.
  *
  * **Listeners** are called between calls, so a listener may use the till, but it must not close it.
  */
@@ -103,7 +105,7 @@ enum kij_code {
      * kij.h: a program compares KIJ_VERSION with kij_version() itself. */
     KIJ_WRONG_VERSION = 32,
     /** The system refused a call on the file of the totals. The extended code is errno: ENOENT if the file is missing,
-     * EEXIST if it is there already, EWOULDBLOCK if another till has it. */
+     * or its folder or /proc to create it; EEXIST if it is there already, EWOULDBLOCK if another till has it. */
     KIJ_SYSTEM = 33,
     /** An argument can't be passed on: a null pointer, a name that isn't 1 to 16 letters, digits or hyphens, a number
      * of more than 18 digits, or bytes that are too many for a line (69,000 always fit). */
@@ -114,6 +116,8 @@ enum kij_code {
     KIJ_IN_CALL = 36,
     /** The library answered something that this version doesn't know. The call was carried out. */
     KIJ_BAD_ANSWER = 37,
+    /** A listener of kij_pump gave the control back (kij_discard). The events before that were delivered. */
+    KIJ_DISCARDED = 38,
     /** A control of the till has the name already. */
     KIJ_NAME_IN_USE = 40,
     /** The till has as many controls as it may have (4,096). */
@@ -138,7 +142,8 @@ enum kij_code {
     KIJ_BAD_SETTINGS = 50
 };
 
-/** Returns what a result means, in English. The text is static. */
+/** Returns what a result means, in English. For most of KIJ_SYSTEM these are the system's own words (strerror). The
+ * text is static. */
 const char *kij_strerror(kij_result result);
 
 /** Returns the name of a result's code, as "E_ILLEGAL" or "KIJ_BAD_PROFILE". The text is static. */
@@ -166,7 +171,7 @@ enum kij_flags {
 };
 
 /**
- * Opens a till.
+ * Opens a till. Its thread needs 128 KiB of stack, and 4 MiB for a profile that somebody else wrote.
  *
  * Creating a file is all or nothing: it gets its name once it is whole and synced. The file is locked (flock) until
  * kij_close. A call that changes the totals returns once the change is synced. In a process that was forked from the
@@ -196,7 +201,7 @@ int kij_disk_error(const kij_till *till);
 /**
  * Carries out lines of the text interface (docs/reference/console.md) one after the other, and returns their answers.
  *
- * @param lines  the lines, each but the last ended by a line feed
+ * @param lines  the lines, each but the last ended by a line feed; may be null if size is 0
  * @param size   how many bytes, or KIJ_ZERO_ENDED
  * @param answer lent: the answers, a line each, with a 0 byte at the end
  * @return KIJ_NO_ANSWER if memory ran out within the answers: lines up to one were carried out, and a front is in
@@ -217,7 +222,7 @@ typedef struct kij_mistake {
 } kij_mistake;
 
 /**
- * Returns why a profile is refused.
+ * Returns why a profile is refused. Its thread needs as much stack as for kij_open.
  *
  * @param profile the profile's text, as kij_open takes it
  * @param mistake where it is written what is wrong; all 0 if nothing is
@@ -238,7 +243,7 @@ typedef struct kij_device {
 } kij_device;
 
 /**
- * Lists the devices of a profile, in its order.
+ * Lists the devices of a profile, in its order. Its thread needs as much stack as for kij_open.
  *
  * @param profile the profile's text, as kij_open takes it
  * @param devices room for them; null if room is 0
@@ -250,14 +255,15 @@ kij_result kij_devices(const char *profile, kij_device *devices, size_t room, si
 
 /**
  * Returns what a file of totals holds, in the lines that `pos_console files` prints (docs/reference/console.md, "What a
- * totals file holds"), or which rule its bytes break. The file is only read; no till may have it open.
+ * totals file holds"), or which rule its bytes break. No till may have the file open. It is synced and read, and locked
+ * for readers meanwhile: a till that opens it then gets EWOULDBLOCK.
  *
  * @param text   room for the text, which is cut if it is longer, and ends in a 0 byte; null if room is 0
  * @param room   how many bytes there is room for
  * @param needed where it is written how many bytes the text has without the 0 byte; 0 if there is no text
  * @param place  where the place is written, in bytes from the first of the file, if the code is KIJ_DAMAGED
  * @return KIJ_DAMAGED, and text is the rule; KIJ_UNFORMATTED, KIJ_TOO_SMALL, KIJ_NO_MEMORY; KIJ_SYSTEM, with
- * EWOULDBLOCK if a till has the file
+ * EWOULDBLOCK if a till has the file, or with why it couldn't be synced
  */
 kij_result kij_files(const char *path, char *text, size_t room, size_t *needed, uint64_t *place);
 
@@ -293,7 +299,8 @@ kij_result kij_new(kij_till *till, kij_category category, const char *name, kij_
 kij_result kij_start(kij_till *till, kij_category category, const char *device, int claiming, kij_control **control);
 
 /** Closes a control if it is open, and gives it back to its till, which may hand it out again. Don't use it afterwards.
- * One that can't be closed, as without memory, is closed by a later call on a control, and isn't handed out before. */
+ * One that can't be closed, as without memory, is closed by a later call on a control, and isn't handed out before. A
+ * listener may give back the control of its event. */
 void kij_discard(kij_control *control);
 
 /** Returns the control's name in lines of the text interface. It stays as long as the control. */
@@ -350,7 +357,8 @@ typedef enum kij_reply {
     KIJ_ER_CONTINUEINPUT = 13
 } kij_reply;
 
-/** Listens to events. Its reply counts for a KIJ_ERROR_EVENT alone. */
+/** Listens to events. Its reply counts for a KIJ_ERROR_EVENT alone, and only if it didn't give the event's control back
+ * (kij_discard). */
 typedef kij_reply (*kij_listener)(const kij_event *event, void *with);
 
 /**
@@ -375,11 +383,13 @@ kij_result kij_next_event_replied(kij_control *control, kij_reply reply, kij_eve
 kij_result kij_reply_to(const kij_event *event, kij_reply reply);
 
 /** Passes each event of a control to a listener, in order, until none is left, and replies to ErrorEvents as it
- * returns. */
+ * returns. It ends with KIJ_DISCARDED if the listener gave the control back, though the till may have handed that out
+ * again. */
 kij_result kij_pump(kij_control *control, kij_listener listen, void *with);
 
 /** Passes each event of each control of the till to a listener, one of each control in turn, until none is left, and
- * replies as kij_pump does. Controls that lines made are passed over. */
+ * replies as kij_pump does. Controls that lines made are passed over. It goes on if the listener gave a control
+ * back. */
 kij_result kij_pump_all(kij_till *till, kij_listener listen, void *with);
 
 /* ---- The devices' side: inputs, work, exchange. Devices are simulated; a host with hardware says what happens there.
@@ -765,7 +775,8 @@ kij_result kij_run_devices(kij_till *till, int timeout, bool *is_any);
 typedef struct kij_driver_view {
     /** Whether its port is open, and a printer answers. */
     bool is_online;
-    /** Why the port couldn't be opened or was lost the last time (errno); 0 if neither ever happened. */
+    /** Why the port couldn't be opened or was lost the last time (errno); 0 if neither ever happened. EBUSY is a serial
+     * line that another till or program has open. */
     int port_error;
     /** How many orders a printer has printed after they had failed, and weren't asked for again: another order came
      * next, or the application gave them up. It had got them before it stopped, and there is no command that takes them

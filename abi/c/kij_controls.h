@@ -3,7 +3,9 @@
  * The methods, properties, codes and constants of the controls. kij.h includes this file.
  * Written by abi/typed_c.py: don't change it by hand.
  *
- * A method returns KIJ_OK, or the first of the codes at @retval that holds; then it changed nothing.
+ * A call returns KIJ_OK, the first of the codes at @retval that holds, or a code of enum kij_code. It may have changed
+ * something only after KIJ_NO_ANSWER, KIJ_DISK_FAILED and KIJ_BAD_ANSWER. If its device has a driver, the hardware may
+ * have done a part of an order that failed.
  */
 #ifndef KIJ_CONTROLS_H
 #define KIJ_CONTROLS_H
@@ -38,7 +40,7 @@ enum {
     KIJ_E_NOEXIST = 109,
     /** There is a file of that name already. */
     KIJ_E_EXISTS = 110,
-    /** The device or the disk failed. */
+    /** The device failed, or the totals are off. A failed disk is KIJ_DISK_FAILED. */
     KIJ_E_FAILURE = 111,
     /** Another control has the device or the file, so the claim failed. */
     KIJ_E_TIMEOUT = 112,
@@ -202,7 +204,8 @@ typedef enum kij_property {
      * Writing: KIJ_E_CLAIMED: another control has claimed the device, which is an exclusive-use device.
      * Writing: KIJ_E_NOTCLAIMED: the control hasn't claimed the device, which is an exclusive-use device.
      * Writing: KIJ_E_NOHARDWARE: the disk of the totals isn't formatted.
-     * Writing: KIJ_E_FAILURE: the totals can't be recovered, or the disk failed.
+     * Writing: KIJ_E_FAILURE: the totals can't be recovered.
+     * Writing: KIJ_DISK_FAILED: the disk failed, and the change may be in the file or not.
      */
     KIJ_PROP_DEVICE_ENABLED = 3,
     /**
@@ -715,10 +718,11 @@ kij_result kij_printer_clear_output(kij_control *printer);
  * @retval KIJ_E_CLOSED The control is closed.
  * @retval KIJ_E_CLAIMED Another control has claimed the device.
  * @retval KIJ_E_DISABLED The control is disabled.
- * @retval KIJ_E_FAILURE The totals are off, the disk failed, or no handle is left.
+ * @retval KIJ_E_FAILURE The totals are off, or no handle is left.
  * @retval KIJ_E_ILLEGAL The control is in a transaction, the name is bad, or the size is below 0.
  * @retval KIJ_E_EXISTS A file has the name.
  * @retval KIJ_E_EXTENDED KIJ_ETOT_NOROOM: the size is above FreeData, or there are as many files as there may be.
+ * @retval KIJ_DISK_FAILED The disk failed, and the change may be in the file or not.
  * @retval KIJ_NO_MEMORY There was no memory.
  */
 kij_result kij_totals_create(kij_control *totals, const void *name, size_t name_size, int64_t size,
@@ -731,10 +735,11 @@ kij_result kij_totals_create(kij_control *totals, const void *name, size_t name_
  * @retval KIJ_E_CLOSED The control is closed.
  * @retval KIJ_E_CLAIMED Another control has claimed the device.
  * @retval KIJ_E_DISABLED The control is disabled.
- * @retval KIJ_E_FAILURE The totals are off, or the disk failed.
+ * @retval KIJ_E_FAILURE The totals are off.
  * @retval KIJ_E_ILLEGAL The control is in a transaction.
  * @retval KIJ_E_NOEXIST No file has the name.
  * @retval KIJ_E_CLAIMED Another control has claimed the file.
+ * @retval KIJ_DISK_FAILED The disk failed, and the change may be in the file or not.
  * @retval KIJ_NO_MEMORY There was no memory.
  */
 kij_result kij_totals_delete(kij_control *totals, const void *name, size_t name_size);
@@ -796,10 +801,11 @@ kij_result kij_totals_read(kij_control *totals, int64_t handle, int64_t offset, 
  * @retval KIJ_E_CLOSED The control is closed.
  * @retval KIJ_E_CLAIMED Another control has claimed the device.
  * @retval KIJ_E_DISABLED The control is disabled.
- * @retval KIJ_E_FAILURE The totals are off, or the disk failed.
+ * @retval KIJ_E_FAILURE The totals are off.
  * @retval KIJ_E_ILLEGAL No file has the handle, or the bytes aren't all within the file.
  * @retval KIJ_E_CLAIMED Another control has claimed the file.
  * @retval KIJ_E_EXTENDED KIJ_ETOT_NOROOM: the transaction has no room for the write.
+ * @retval KIJ_DISK_FAILED The disk failed, and the change may be in the file or not.
  * @retval KIJ_NO_MEMORY There was no memory.
  */
 kij_result kij_totals_write(kij_control *totals, int64_t handle, int64_t offset, const void *data, size_t data_size);
@@ -813,10 +819,11 @@ kij_result kij_totals_write(kij_control *totals, int64_t handle, int64_t offset,
  * @retval KIJ_E_CLOSED The control is closed.
  * @retval KIJ_E_CLAIMED Another control has claimed the device.
  * @retval KIJ_E_DISABLED The control is disabled.
- * @retval KIJ_E_FAILURE The totals are off, or the disk failed.
+ * @retval KIJ_E_FAILURE The totals are off.
  * @retval KIJ_E_ILLEGAL No file has the handle, or the value isn't that of a byte.
  * @retval KIJ_E_CLAIMED Another control has claimed the file.
  * @retval KIJ_E_EXTENDED KIJ_ETOT_NOROOM: the transaction has no room for the change.
+ * @retval KIJ_DISK_FAILED The disk failed, and the change may be in the file or not.
  * @retval KIJ_NO_MEMORY There was no memory.
  */
 kij_result kij_totals_set_all(kij_control *totals, int64_t handle, int64_t value);
@@ -829,10 +836,11 @@ kij_result kij_totals_set_all(kij_control *totals, int64_t handle, int64_t value
  * @retval KIJ_E_CLOSED The control is closed.
  * @retval KIJ_E_CLAIMED Another control has claimed the device.
  * @retval KIJ_E_DISABLED The control is disabled.
- * @retval KIJ_E_FAILURE The totals are off, or the disk failed.
+ * @retval KIJ_E_FAILURE The totals are off.
  * @retval KIJ_E_ILLEGAL The control is in a transaction, no file has the handle, or the name is bad.
  * @retval KIJ_E_EXISTS A file has the name, be it this one.
  * @retval KIJ_E_CLAIMED Another control has claimed the file.
+ * @retval KIJ_DISK_FAILED The disk failed, and the change may be in the file or not.
  * @retval KIJ_NO_MEMORY There was no memory.
  */
 kij_result kij_totals_rename(kij_control *totals, int64_t handle, const void *name, size_t name_size);
@@ -880,10 +888,11 @@ kij_result kij_totals_begin_trans(kij_control *totals);
  * @retval KIJ_E_CLOSED The control is closed.
  * @retval KIJ_E_CLAIMED Another control has claimed the device.
  * @retval KIJ_E_DISABLED The control is disabled.
- * @retval KIJ_E_FAILURE The totals are off, or the disk failed.
+ * @retval KIJ_E_FAILURE The totals are off.
  * @retval KIJ_E_ILLEGAL The control is in no transaction.
  * @retval KIJ_E_NOEXIST A file of the transaction was deleted.
  * @retval KIJ_E_CLAIMED Another control has claimed a file of the transaction.
+ * @retval KIJ_DISK_FAILED The disk failed, and the change may be in the file or not.
  * @retval KIJ_NO_MEMORY There was no memory.
  */
 kij_result kij_totals_commit_trans(kij_control *totals);

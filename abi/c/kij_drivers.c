@@ -541,16 +541,17 @@ void kij_internal_give_up(kij_till *till) {
 
 /* ---- Scanners ---- */
 
-/* The type of a code by its AIM identifier, which is behind its bracket; 501 is SCAN_SDT_OTHER. */
+/* The type of a code by its AIM identifier, which is behind its bracket: 120 is SCAN_SDT_EAN128 (GS1-128), 119
+   SCAN_SDT_EAN13_S (EAN-13 with a supplement), and 501 SCAN_SDT_OTHER. */
 static int type_of(const uint8_t *name) {
     static const struct {
         char letter;
         char digit;
         int type;
     } types[] = {
-        {'E', '4', 103}, {'o', '1', 121}, {'o', '2', 122}, {'A', 0, 108}, {'C', 0, 110}, {'E', 0, 104},
-        {'F', 0, 107},   {'G', 0, 109},   {'I', 0, 106},   {'L', 0, 201}, {'Q', 0, 204}, {'S', 0, 105},
-        {'U', 0, 202},   {'d', 0, 203},   {'e', 0, 131},   {'z', 0, 206},
+        {'C', '1', 120}, {'E', '3', 119}, {'E', '4', 103}, {'o', '1', 121}, {'o', '2', 122}, {'A', 0, 108},
+        {'C', 0, 110},   {'E', 0, 104},   {'F', 0, 107},   {'G', 0, 109},   {'I', 0, 106},   {'L', 0, 201},
+        {'Q', 0, 204},   {'S', 0, 105},   {'U', 0, 202},   {'d', 0, 203},   {'e', 0, 131},   {'z', 0, 206},
     };
     for (size_t place = 0; place < sizeof types / sizeof types[0]; place++)
         if (types[place].letter == (char)name[0] && (types[place].digit == 0 || types[place].digit == (char)name[1]))
@@ -887,7 +888,7 @@ kij_result kij_show_driver(kij_till *till, const char *device, kij_driver_view *
     if (drive != NULL) {
         view->is_online = is_online(drive);
         view->port_error = port_of(drive)->error;
-        view->late_orders = drive->link != NULL ? drive->link->late : 0;
+        view->late_orders = drive->has_link ? drive->link->late : 0;
     }
     kij_internal_leave(till);
     return plain(drive == NULL ? KIJ_NO_DEVICE : KIJ_OK);
@@ -1151,24 +1152,23 @@ kij_result kij_escpos_printer_open(kij_till *till, const char *device, const cha
     return plain(code);
 }
 
-/* Opens a display or a scanner, whose drive is made with its port's name behind it. */
+/* Opens a display or a scanner, whose drive is made with its port's name behind it. One that can't be driven is refused
+   before its hardware is moved. */
 static int open_port(kij_till *till, kij_drive *drive, const char *port, const kij_serial_settings *serial,
                      bool has_keys) {
     const char *name = NULL;
     /* The name is kept with the room for codes. */
     drive->begun = (uint8_t *)with_name(LONGEST_CODE, port, &name);
     int code = drive->begun == NULL ? KIJ_NO_MEMORY : KIJ_OK;
-    if (code == KIJ_OK) {
-        kij_internal_port(&drive->port, name, serial, has_keys);
-        /* Without one of its bytes a code is another one. */
-        drive->port.keeps_faults = drive->category == KIJ_SCANNER;
-        connect_port(drive, drive->timeout);
-    }
     if (code == KIJ_OK && drive->category != KIJ_SCANNER) code = begin_drive(till, drive);
     if (code != KIJ_OK) {
         free_drive(drive);
         return code;
     }
+    kij_internal_port(&drive->port, name, serial, has_keys);
+    /* Without one of its bytes a code is another one. */
+    drive->port.keeps_faults = drive->category == KIJ_SCANNER;
+    connect_port(drive, drive->timeout);
     add_drive(till->drives, drive);
     hand_in_behind(till);
     return code;

@@ -146,13 +146,17 @@ kij_result kij_reply_to(const kij_event *event, kij_reply reply) {
     return is_gone ? done : result;
 }
 
-/* Delivers one event to a listener: whether there was one. */
+/* Delivers one event to a listener: whether there was one. A listener may give its control back. The till may have
+   handed that out again, so it gets no reply. */
 static kij_result pass(kij_control *control, kij_listener listen, void *with, bool *is_passed) {
     kij_event event;
+    unsigned long turn = control->turn;
     kij_result result = kij_next_event(control, &event);
     if (result.code != KIJ_OK || event.kind == KIJ_NO_EVENT) return result;
     *is_passed = true;
-    return kij_reply_to(&event, listen(&event, with));
+    kij_reply reply = listen(&event, with);
+    if (control->turn != turn) return kij_internal_result(KIJ_DISCARDED, 0, control->category);
+    return kij_reply_to(&event, reply);
 }
 
 kij_result kij_pump(kij_control *control, kij_listener listen, void *with) {
@@ -176,7 +180,7 @@ kij_result kij_pump_all(kij_till *till, kij_listener listen, void *with) {
     while (result.code == KIJ_OK && (control != NULL || from != 0)) {
         from = control == NULL ? 0 : control->number + 1;
         if (control != NULL) result = pass(control, listen, with, &is_passed);
-        if (result.code == KIJ_OK) result = find(till, from, &control);
+        if (result.code == KIJ_OK || result.code == KIJ_DISCARDED) result = find(till, from, &control);
     }
     return result;
 }

@@ -51,13 +51,14 @@ typedef struct kij_port {
     kij_address addresses[KIJ_ADDRESS_ROOM];
     size_t address_count;
     int64_t resolve_at;
-    /* Whether a connection to one of them is being made, its file, the address, until when it may take, and until when
-       all of them have time together. */
+    /* Whether a connection to one of them is being made, its file, the address, and until when it may take; until when
+       all of them may together, and how long. */
     bool is_joining;
     int joining;
     size_t join_place;
     int64_t join_ends_at;
     int64_t joins_end_at;
+    int64_t joins_time;
 } kij_port;
 
 /* An order on its way to the paper, piece by piece: a line, a cut or a pulse. One without any is one empty piece, so

@@ -80,6 +80,8 @@ struct kij_control {
     bool is_free;
     bool is_unclosed;
     bool is_named;
+    /* How often it was given back. */
+    unsigned long turn;
     kij_word name;
     /* The device on which it was opened last, but for lines; without a size there is none. */
     kij_word device;

@@ -16,6 +16,7 @@
 #include <stdio.h>
 #include <stdlib.h>
 #include <string.h>
+#include <sys/file.h>
 #include <sys/ioctl.h>
 #include <sys/socket.h>
 #include <sys/stat.h>
@@ -142,6 +143,32 @@ static int set_up(int file, const kij_port *port) {
     return !is_serial || tcflush(file, TCIOFLUSH) == 0 ? 0 : errno;
 }
 
+/* Keeps a terminal line to this till: 0, EBUSY if another program has it, or errno. Nothing of the line is changed then,
+   since its bytes and settings are the other's. */
+static int take_line(int file) {
+    if (flock(file, LOCK_EX | LOCK_NB) != 0) return errno == EWOULDBLOCK ? EBUSY : errno;
+    /* That keeps out programs that lock nothing, unless they are root's. */
+    if (ioctl(file, TIOCEXCL) == 0) return 0;
+    int why = errno;
+    (void)flock(file, LOCK_UN);
+    return why;
+}
+
+/* Lets others have a line again, though a process that was forked meanwhile has it too. */
+static void give_line_back(int file) {
+    if (isatty(file)) (void)ioctl(file, TIOCNXCL);
+    (void)flock(file, LOCK_UN);
+}
+
+/* Sets up a terminal line that no other program has: 0 or errno. */
+static int set_up_own(int file, const kij_port *port) {
+    int why = take_line(file);
+    if (why != 0) return why;
+    why = set_up(file, port);
+    if (why != 0) give_line_back(file);
+    return why;
+}
+
 /* Leaves the scan code of each key out of a keyboard's events, a third of them: Linux keeps few that nobody reads. It
    takes masks in parts of 8 bytes. */
 static void leave_out(int file) {
@@ -161,12 +188,12 @@ static int prepare(kij_port *port, int file) {
             return errno;
         leave_out(file);
         port->ends_empty = true;
-        return isatty(file) ? set_up(file, port) : 0;
+        return isatty(file) ? set_up_own(file, port) : 0;
     }
     if (S_ISREG(found.stx_mode)) return ENODEV;
     /* A printer on USB may send packets with nothing in them. */
     port->ends_empty = isatty(file) != 0;
-    return port->ends_empty ? set_up(file, port) : 0;
+    return port->ends_empty ? set_up_own(file, port) : 0;
 }
 
 /* Opens a device file: 0 or errno. */
@@ -261,10 +288,12 @@ static void stop_joining(kij_port *port) {
 }
 
 /* Begins to connect to the address whose turn it is. Each of those that are left has the same time, so that one that
-   says nothing leaves some to the others. 0 or errno. */
+   says nothing leaves some to the others. If no call has looked while they had it, they have it again. 0 or errno. */
 static int begin_joining(kij_port *port) {
     const kij_address *address = &port->addresses[port->join_place];
     int64_t now = kij_internal_now(), left = (int64_t)(port->address_count - port->join_place);
+    int64_t least = port->joins_time * left / (int64_t)port->address_count;
+    if (port->joins_end_at - now < least) port->joins_end_at = now + least;
     port->join_ends_at = now + (port->joins_end_at - now) / left;
     port->joining = socket(address->place.ss_family, SOCK_STREAM | SOCK_NONBLOCK | SOCK_CLOEXEC, 0);
     if (port->joining < 0) return errno;
@@ -324,7 +353,8 @@ static int open_tcp(kij_port *port, int64_t time, int *file) {
         int why = port->address_count > 0 ? 0 : resolve(port);
         if (why != 0) return why;
         port->join_place = 0;
-        port->joins_end_at = kij_internal_now() + (time < answers ? answers : time);
+        port->joins_time = time < answers ? answers : time;
+        port->joins_end_at = kij_internal_now() + port->joins_time;
     }
     int why = EHOSTUNREACH;
     while (port->join_place < port->address_count) {
@@ -372,11 +402,16 @@ static void drop_unsent(int file) {
     (void)tcsetattr(file, TCSANOW, &found);
 }
 
-/* Ends what a process that was forked meanwhile would keep up: a connection, or that other programs get no keys. */
+/* Ends what a process that was forked meanwhile would keep up: a connection, or that other programs get no keys or no
+   line. */
 static void let_go(const kij_port *port) {
-    if (port->kind == KIJ_PORT_TCP) (void)shutdown(port->file, SHUT_RDWR);
-    else if (port->kind == KIJ_PORT_KEYS) (void)ioctl(port->file, EVIOCGRAB, 0);
+    if (port->kind == KIJ_PORT_TCP) {
+        (void)shutdown(port->file, SHUT_RDWR);
+        return;
+    }
+    if (port->kind == KIJ_PORT_KEYS) (void)ioctl(port->file, EVIOCGRAB, 0);
     else drop_unsent(port->file);
+    give_line_back(port->file);
 }
 
 void kij_internal_port_close(kij_port *port) {

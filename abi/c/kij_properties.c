@@ -1,4 +1,7 @@
 /* Properties, and what results mean. */
+#ifndef _GNU_SOURCE
+#define _GNU_SOURCE
+#endif
 #include "kij_internal.h"
 #include <errno.h>
 #include <string.h>
@@ -93,6 +96,7 @@ static const kij_number_row own_codes[] = {
     {KIJ_NO_CATEGORY, KIJ_IN_CALL, "KIJ_IN_CALL", "Another call of the same till is under way."},
     {KIJ_NO_CATEGORY, KIJ_BAD_ANSWER, "KIJ_BAD_ANSWER",
      "The library answered something that this version doesn't know."},
+    {KIJ_NO_CATEGORY, KIJ_DISCARDED, "KIJ_DISCARDED", "The control was given back."},
     {KIJ_NO_CATEGORY, KIJ_NAME_IN_USE, "KIJ_NAME_IN_USE", "A control of the till has the name already."},
     {KIJ_NO_CATEGORY, KIJ_FULL, "KIJ_FULL", "The till has as many controls as it may have."},
     {KIJ_NO_CATEGORY, KIJ_BAD_DEVICE, "KIJ_BAD_DEVICE", "There is no device of the name, or it has no peripheral."},
@@ -128,13 +132,20 @@ static const kij_number_row *extended_row(kij_result result) {
     return found(kij_internal_extended, kij_internal_extended_count, result.extended, result.category);
 }
 
-/* What the system most often says of the file of the totals; or null. */
+/* The system's own words for a number, which are static; or null if it has none, and would make some up. */
+static const char *own_words(int why) {
+    char made_up[100];
+    const char *said = why == 0 ? made_up : strerror_r(why, made_up, sizeof made_up);
+    return said == made_up ? NULL : said;
+}
+
+/* Why the system refused the file of the totals; or null. */
 static const char *said_by_system(int why) {
     switch (why) {
     case EWOULDBLOCK: return "The file of the totals is in use: close the other program that has it open.";
-    case ENOENT: return "The file of the totals, or its folder, isn't there.";
+    case ENOENT: return "The file of the totals isn't there, or what creating it needs: its folder, and /proc.";
     case EEXIST: return "The file of the totals is there already.";
-    default: return NULL;
+    default: return own_words(why);
     }
 }
 

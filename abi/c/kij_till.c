@@ -153,10 +153,17 @@ static bool has_effect(const kij_till *till, int code, effect what) {
     return what == MAY_GIVE_UP ? kij_internal_is_output_error(answer) : strcmp(answer, "ok\n") == 0;
 }
 
+/* The control of a name, or null if lines made it. */
+static const kij_control *control_named(const kij_till *till, line_word name) {
+    const kij_control *control = till->first;
+    while (control != NULL && !is_word(name, kij_name(control))) control = control->next;
+    return control;
+}
+
 /* Does what a line that was carried out is to the drivers. */
 static void apply_effect(kij_till *till, effect what, line_word name) {
     if (what == ATTACHES) kij_internal_drive_again(till, name.at, name.size);
-    else kij_internal_forget_orders(till, NULL);
+    else kij_internal_forget_orders(till, control_named(till, name));
 }
 
 /* Carries out lines: a code of enum kij_code. A driven device that something was attached to is driven again before the
@@ -184,6 +191,7 @@ kij_result kij_carry_out(kij_till *till, const char *lines, size_t size, const c
     if (answer == NULL || (lines == NULL && size != 0)) return plain(KIJ_BAD_ARGUMENT);
     int code = kij_internal_enter(till);
     if (code != KIJ_OK) return plain(code);
+    if (lines == NULL) lines = "";
     if (size == KIJ_ZERO_ENDED) size = strlen(lines);
     till->has_opened = till->has_opened || memmem(lines, size, "open ", 5) != NULL;
     code = till->drives == NULL ? kij_internal_carry_out(till, lines, size) : carry_out(till, lines, size);
@@ -306,6 +314,7 @@ void kij_internal_close_given_back(kij_till *till) {
 
 void kij_discard(kij_control *control) {
     if (control == NULL) return;
+    control->turn++;
     control->is_free = is_closed(kij_control_close(control).code);
     /* One that can't be closed, as without memory, may be claimed still: it is closed later, and nobody gets it. */
     control->is_unclosed = !control->is_free;

@@ -9,7 +9,11 @@
 #include <stdlib.h>
 #include <string.h>
 #include <sys/file.h>
+#include <sys/stat.h>
 #include <unistd.h>
+
+/* How often a file is opened in whose place a program puts another one before it is locked. */
+enum { MOST_TURNS = 10 };
 
 /* Whether all of the bytes are written to a place of a file; else errno says why. */
 static bool is_written(int file, const uint8_t *bytes, size_t size, uint64_t at) {
@@ -131,15 +135,40 @@ static int open_folder(const char *path, const char **name, int *folder) {
     return why;
 }
 
+/* Checks that a path still names an open file. EWOULDBLOCK if it names another one. */
+static int check_name(int file, const char *path) {
+    /* fstat would need glibc 2.33. */
+    struct statx opened, named;
+    if (statx(file, "", AT_EMPTY_PATH, STATX_INO, &opened) != 0) return errno;
+    if (statx(AT_FDCWD, path, 0, STATX_INO, &named) != 0) return errno;
+    bool is_same = opened.stx_ino == named.stx_ino && opened.stx_dev_major == named.stx_dev_major &&
+                   opened.stx_dev_minor == named.stx_dev_minor;
+    return is_same ? 0 : EWOULDBLOCK;
+}
+
+/* Opens a file that is there, and locks it. A program may have put another file in its place before it was locked, as
+   `kijolvar restore --replace` does: then that one is opened. */
+static int open_locked(const char *path, int *file) {
+    int why = 0;
+    for (int turn = 0; turn < MOST_TURNS; turn++) {
+        *file = open(path, O_RDWR | O_CLOEXEC);
+        if (*file < 0) return errno;
+        if (flock(*file, LOCK_EX | LOCK_NB) != 0) return dropped(*file, errno);
+        why = check_name(*file, path);
+        if (why == 0) return 0;
+        (void)dropped(*file, why);
+    }
+    return why;
+}
+
 /* Opens a file that is there, and locks it. Its folder is synced too, since a creation that was killed may have named
    the file and not synced its name. */
 static int open_existing(const char *path, int *file) {
     const char *name;
     int folder;
-    *file = open(path, O_RDWR | O_CLOEXEC);
-    if (*file < 0) return errno;
-    if (flock(*file, LOCK_EX | LOCK_NB) != 0) return dropped(*file, errno);
-    int why = open_folder(path, &name, &folder);
+    int why = open_locked(path, file);
+    if (why != 0) return why;
+    why = open_folder(path, &name, &folder);
     if (why != 0) return dropped(*file, why);
     if (!kij_internal_is_synced(folder)) why = errno;
     close(folder);

@@ -40,6 +40,12 @@ static kij_reply heard(const kij_event *event, void *with) {
     return KIJ_ER_DEFAULT;
 }
 
+/* Prints the events of a control, or why that failed. */
+static void pump(kij_control *control) {
+    kij_result result = kij_pump(control, heard, NULL);
+    if (result.code != KIJ_OK) printf("events: %s\n", kij_code_name(result.code));
+}
+
 static void sell(kij_till *till) {
     static const struct {
         kij_category category;
@@ -48,7 +54,8 @@ static void sell(kij_till *till) {
         {KIJ_CASH_DRAWER, "drawer", "d1"},  {KIJ_SCANNER, "scanner", "s1"},    {KIJ_LINE_DISPLAY, "display", "p1"},
         {KIJ_POS_PRINTER, "printer", "r1"}, {KIJ_HARD_TOTALS, "totals", "t1"},
     };
-    kij_control *made[5];
+    /* A control that couldn't be made stays null, which each call refuses. */
+    kij_control *made[5] = {NULL, NULL, NULL, NULL, NULL};
     printf("controls:");
     for (size_t place = 0; place < 5; place++)
         printf(" %d", control_code(till, controls[place].category, controls[place].name, controls[place].device,
@@ -56,13 +63,13 @@ static void sell(kij_till *till) {
     printf("\n");
     tell(till, "set scanner DataEventEnabled true");
     tell(till, "input s1 scan 104 34303036333831 34303036333831");
-    kij_pump(made[1], heard, NULL);
+    pump(made[1]);
     tell(till, "get scanner ScanData");
     printf("display: %d\n", kij_display_text(made[2], "4.50", KIJ_ZERO_ENDED, KIJ_DISP_DT_NORMAL).code);
     printf("print: %d\n", kij_printer_print(made[3], KIJ_PTR_S_RECEIPT, "Bread 4.50\n", KIJ_ZERO_ENDED).code);
     tell(till, "call printer cutPaper 100");
     printf("drawer: %d\n", kij_drawer_open(made[0]).code);
-    kij_pump(made[0], heard, NULL);
+    pump(made[0]);
     tell(till, "call totals create 64617973616c6573 4 false");
     tell(till, "call totals write 1 0 000001c2");
     tell(till, "show r1");

@@ -14,6 +14,7 @@
    calls             whether the till may be called from the driver's next order
    run TIMEOUT       kij_run_devices: `true` or `false`
    state DEVICE      kij_show_driver: whether it is online, and how many orders were printed late
+   why DEVICE        kij_show_driver: why its port couldn't be opened or was lost the last time, as errno
    lines LINE;LINE   kij_carry_out: the answers, with `;` in place of line feeds
    print HEX         a typed call, by a control that the first one makes
    later HEX         the same with AsyncMode: the request waits
@@ -272,6 +273,14 @@ static void state(void) {
     answer(result, text);
 }
 
+static void why(void) {
+    char text[20];
+    kij_driver_view view = {false, 0, 0};
+    kij_result result = kij_show_driver(till, word(), &view);
+    snprintf(text, sizeof text, "%d", view.port_error);
+    answer(result, text);
+}
+
 static void carry_out(char *lines) {
     const char *found = "";
     for (char *at = lines; *at != 0; at++)
@@ -385,6 +394,7 @@ static void obey(char *line) {
     else if (strcmp(verb, "calls") == 0) puts((own.calls = true) ? "ok" : "");
     else if (strcmp(verb, "run") == 0) run();
     else if (strcmp(verb, "state") == 0) state();
+    else if (strcmp(verb, "why") == 0) why();
     else if (strcmp(verb, "print") == 0) print(false);
     else if (strcmp(verb, "later") == 0) print(true);
     else if (strcmp(verb, "clear") == 0) answer(kij_printer_clear_output(printer), "ok");

@@ -360,11 +360,16 @@ static void answered(shop *self, const char *name, const char *text, const char 
     printf("failed: %s\n  wanted: %s  found:  %s", name, wanted, self->answer);
 }
 
-/* How many bytes the device got since it was asked last. */
+/* How many bytes the device got since it was asked last. The system may be busy, and some come a moment later. */
 static long got(const shop *self) {
     char bytes[100];
-    ssize_t count = read(self->other, bytes, sizeof bytes);
-    return count < 0 ? 0 : (long)count;
+    struct pollfd waiting = {self->other, POLLIN, 0};
+    long all = 0;
+    for (ssize_t count = 1; count > 0 && poll(&waiting, 1, 50) > 0;) {
+        count = read(self->other, bytes, sizeof bytes);
+        if (count > 0) all += count;
+    }
+    return all;
 }
 
 /* The device is gone. */

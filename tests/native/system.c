@@ -1,7 +1,7 @@
 /* Tries the layer of C where the system does something that no emulated device can bring about: a serial line that is
    pulled out before its bytes are out, processes that are forked, names that are looked up, signals, and files that are
    read and written in parts.
-   What is linked with it has -Wl,--wrap=getaddrinfo,--wrap=fsync,--wrap=pread,--wrap=pwrite,--wrap=ioctl.
+   What is linked with it has -Wl,--wrap=getaddrinfo,--wrap=fsync,--wrap=pread,--wrap=pwrite,--wrap=ioctl,--wrap=tcflush.
 
    Usage: system FOLDER. It makes files in the folder, and prints what fails. Its status is 0 if nothing does. */
 #define _GNU_SOURCE
@@ -27,7 +27,7 @@
 #include <time.h>
 #include <unistd.h>
 
-static int failed, lookups, lookup_fault, calls, read_fault, write_fault, sync_fault, syncs;
+static int failed, lookups, lookup_fault, calls, read_fault, write_fault, sync_fault, syncs, flush_fault;
 static bool is_partial;
 static char looked_up[100];
 /* Whether keys are kept from other programs, or -1, and which type of their events is left out. */
@@ -40,8 +40,10 @@ int __real_fsync(int file);
 ssize_t __real_pread(int file, void *bytes, size_t size, off_t at);
 ssize_t __real_pwrite(int file, const void *bytes, size_t size, off_t at);
 int __real_ioctl(int file, unsigned long request, ...);
+int __real_tcflush(int file, int queue);
 int __wrap_getaddrinfo(const char *host, const char *service, const struct addrinfo *wanted, struct addrinfo **found);
 int __wrap_ioctl(int file, unsigned long request, ...);
+int __wrap_tcflush(int file, int queue);
 int __wrap_fsync(int file);
 ssize_t __wrap_pread(int file, void *bytes, size_t size, off_t at);
 ssize_t __wrap_pwrite(int file, const void *bytes, size_t size, off_t at);
@@ -65,7 +67,7 @@ int __wrap_ioctl(int file, unsigned long request, ...) {
     va_start(arguments, request);
     void *argument = NULL;
     if (request == EVIOCGRAB) is_grabbed = va_arg(arguments, int);
-    else argument = va_arg(arguments, void *);
+    else if (request != TIOCEXCL && request != TIOCNXCL) argument = va_arg(arguments, void *);
     va_end(arguments);
     /* Linux takes masks in parts of 8 bytes. */
     struct input_mask *mask = (struct input_mask *)argument;
@@ -74,6 +76,11 @@ int __wrap_ioctl(int file, unsigned long request, ...) {
     if (request == TIOCOUTQ && held > 0) *(int *)argument = held;
     else if (request != EVIOCGRAB && request != EVIOCSMASK) return __real_ioctl(file, request, argument);
     return 0;
+}
+
+int __wrap_tcflush(int file, int queue) {
+    errno = flush_fault;
+    return flush_fault != 0 ? -1 : __real_tcflush(file, queue);
 }
 
 /* How many of so many bytes are read or written: none, and errno, if there is a fault or a signal. */
@@ -100,16 +107,87 @@ static void told(const char *name, long wanted, long found) {
     printf("failed: %s\n  wanted: %ld\n  found:  %ld\n", name, wanted, found);
 }
 
-/* Opens a serial line, which is a pseudo terminal: its other end. */
-static int open_line(kij_port *port) {
+/* Makes a serial line, which is a pseudo terminal: its other end. */
+static int make_line(kij_port *port) {
     static char name[64];
     kij_serial_settings serial = KIJ_SERIAL_SETTINGS;
     int other = posix_openpt(O_RDWR | O_NOCTTY);
     serial.is_serial = true;
     if (other < 0 || grantpt(other) != 0 || unlockpt(other) != 0 || ptsname_r(other, name, sizeof name) != 0) abort();
     kij_internal_port(port, name, &serial, false);
+    return other;
+}
+
+/* Makes one, and opens it. */
+static int open_line(kij_port *port) {
+    int other = make_line(port);
     told("a line is opened", true, kij_internal_port_open(port, 100));
     return other;
+}
+
+/* The line of a port, as another program has it that came before. */
+static int also_open(const kij_port *port) { return open(port->name, O_RDWR | O_NOCTTY | O_CLOEXEC); }
+
+/* Whether other programs are kept out of a line. */
+static int is_kept(int line) {
+    int found = -1;
+    return ioctl(line, TIOCGEXCL, &found) == 0 ? found : -1;
+}
+
+/* Bytes come to a port, and wait there to be read. */
+static void send_bytes(int other, const kij_port *port, const char *bytes, size_t size) {
+    bool can_read = false, can_write = false;
+    told("bytes are sent", (long)size, write(other, bytes, size));
+    kij_internal_port_wait(port, false, 10000, &can_read, &can_write);
+    told("they have come", true, can_read);
+}
+
+/* A line that a till has open is refused to others, which leave its settings and its bytes alone. */
+static void try_taken(void) {
+    kij_port first, second;
+    struct termios before, after;
+    char bytes[16];
+    size_t count = 0;
+    int other = make_line(&first), line = also_open(&first);
+    second = first;
+    second.serial.speed = 19200;
+    second.serial.flow = KIJ_FLOW_XON_XOFF;
+    memset(&before, 0, sizeof before);
+    memset(&after, 0, sizeof after);
+    told("a line", true, kij_internal_port_open(&first, 100));
+    told("others are kept out", 1, is_kept(line));
+    send_bytes(other, &first, "reply", 5);
+    told("its settings", 0, tcgetattr(line, &before));
+    told("a second opening", false, kij_internal_port_open(&second, 100));
+    told("why it is refused", EBUSY, second.error);
+    told("the settings then", 0, tcgetattr(line, &after));
+    told("they are as they were", 0, memcmp(&before, &after, sizeof before));
+    told("its bytes are read", true, kij_internal_port_read(&first, bytes, sizeof bytes, &count));
+    told("all of them", 5, (long)count);
+    kij_internal_port_close(&second);
+    told("others are kept out still", 1, is_kept(line));
+    kij_internal_port_close(&first);
+    told("a line that is closed keeps nobody out", 0, is_kept(line));
+    told("it can be opened again", true, kij_internal_port_open(&second, 100));
+    told("others are kept out again", 1, is_kept(line));
+    kij_internal_port_close(&second);
+    close(line);
+    close(other);
+}
+
+/* A line that can't be set up keeps nobody out. */
+static void try_set_up_fault(void) {
+    kij_port port;
+    int other = make_line(&port), line = also_open(&port);
+    flush_fault = EIO;
+    told("a line that can't be set up", false, kij_internal_port_open(&port, 100));
+    told("why it can't", EIO, port.error);
+    flush_fault = 0;
+    told("others are let in", 0, is_kept(line));
+    told("it can be opened", true, kij_internal_port_open(&port, 100));
+    kij_internal_port_close(&port);
+    close(line);
+    close(other);
 }
 
 /* A break is no byte. One whose parity is wrong is none, too, or a 0 byte where that is kept, if a line has parity. */
@@ -152,6 +230,8 @@ static void try_disturbed_bytes(void) {
     told("a printer", KIJ_OK, kij_escpos_printer_open(till, "r1", name, &printer).code);
     told("it is dropped", 0, tcgetattr(other, &found));
     told("how", INPCK | IGNPAR, (long)(found.c_iflag & (INPCK | IGNPAR)));
+    kij_close(till);
+    told("another till", KIJ_OK, kij_open(NULL, NULL, KIJ_EXISTING, &till).code);
     told("a scanner", KIJ_OK, kij_wedge_scanner_open(till, "s1", name, &scanner).code);
     told("it reads as 0", 0, tcgetattr(other, &found));
     told("by what", INPCK, (long)(found.c_iflag & (INPCK | IGNPAR)));
@@ -163,14 +243,13 @@ static void try_disturbed_bytes(void) {
 static void try_left_settings(void) {
     kij_port port;
     struct termios found;
-    int other = open_line(&port), line = open(port.name, O_RDWR | O_NOCTTY | O_CLOEXEC);
-    kij_internal_port_close(&port);
+    int other = make_line(&port), line = also_open(&port);
     told("what a program leaves", 0, tcgetattr(line, &found));
     found.c_cc[VSTART] = found.c_cc[VSTOP] = 0;
     found.c_cflag |= CMSPAR;
     told("it is set", 0, tcsetattr(line, TCSANOW, &found));
     port.serial.flow = KIJ_FLOW_XON_XOFF;
-    told("the line is opened again", true, kij_internal_port_open(&port, 100));
+    told("the line is opened", true, kij_internal_port_open(&port, 100));
     told("its settings then", 0, tcgetattr(line, &found));
     told("XON", 0x11, found.c_cc[VSTART]);
     told("XOFF", 0x13, found.c_cc[VSTOP]);
@@ -199,7 +278,7 @@ static void try_held_questions(void) {
         kij_escpos_settings settings = KIJ_ESCPOS_SETTINGS;
         kij_till *till = NULL;
         kij_port port;
-        int other = open_line(&port), count = 0;
+        int other = make_line(&port), count = 0;
         int64_t end = kij_internal_now() + 10000;
         settings.timeout = 50;
         settings.is_asked = is_asked != 0;
@@ -219,7 +298,6 @@ static void try_held_questions(void) {
             count += count_questions(till, other, 50);
         told("it is asked again", true, count > 0);
         kij_close(till);
-        kij_internal_port_close(&port);
         close(other);
     }
 }
@@ -242,7 +320,8 @@ static void try_lost_line(void) {
 static void try_closing(void) {
     kij_port port;
     struct termios found;
-    int other = open_line(&port), line = open(port.name, O_RDWR | O_NOCTTY | O_CLOEXEC);
+    int other = make_line(&port), line = also_open(&port);
+    told("a line is opened", true, kij_internal_port_open(&port, 100));
     told("a line has flow control", true, tcgetattr(line, &found) == 0 && (found.c_cflag & CRTSCTS) != 0);
     kij_internal_port_close(&port);
     told("a closed one has none", true, tcgetattr(line, &found) == 0 && (found.c_cflag & CRTSCTS) == 0);
@@ -252,11 +331,13 @@ static void try_closing(void) {
 
 /* A process that was forked leaves the line and the lock as they are, and keeps neither. */
 static void try_forked(const char *path) {
-    kij_port port;
+    kij_port port, again;
     kij_till *till = NULL, *other = NULL;
     struct termios found;
-    int end = open_line(&port), ways[2], status = 0;
+    int end = make_line(&port), ways[2], status = 0;
     char byte;
+    again = port;
+    told("a line", true, kij_internal_port_open(&port, 100));
     told("a till", KIJ_OK, kij_open(NULL, path, KIJ_CREATE, &till).code);
     fflush(stdout);
     if (pipe(ways) != 0) abort();
@@ -269,6 +350,7 @@ static void try_forked(const char *path) {
     told("a forked process closes both", closes, waitpid(closes, &status, 0));
     told("it ends well", 0, status);
     told("the line is as it was", true, tcgetattr(port.file, &found) == 0 && (found.c_cflag & CRTSCTS) != 0);
+    told("nobody else gets it", false, kij_internal_port_open(&again, 100));
     told("the file is locked", EWOULDBLOCK, kij_open(NULL, path, KIJ_EXISTING, &other).extended);
     pid_t waits = fork();
     if (waits == 0) {
@@ -280,6 +362,8 @@ static void try_forked(const char *path) {
     till = NULL;
     told("it isn't locked by a process that has it still", KIJ_OK, kij_open(NULL, path, KIJ_EXISTING, &till).code);
     kij_close(till);
+    told("nor is the line kept", true, kij_internal_port_open(&again, 100));
+    kij_internal_port_close(&again);
     close(ways[1]);
     told("that ends", waits, waitpid(waits, &status, 0));
     close(ways[0]);
@@ -344,7 +428,7 @@ static void try_read_ahead(void) {
     kij_driver driver;
     kij_till *till = NULL;
     kij_port port;
-    int ways[2], typed[2], other = open_line(&port);
+    int ways[2], typed[2], other = make_line(&port);
     if (pipe(ways) != 0 || fcntl(ways[0], F_SETFL, O_NONBLOCK) != 0) abort();
     typed[0] = ways[0];
     typed[1] = 0;
@@ -358,7 +442,6 @@ static void try_read_ahead(void) {
     told("a silent printer", KIJ_OK, kij_escpos_printer_open(till, "r1", port.name, &settings).code);
     told("all was read", 5, typed[1]);
     kij_close(till);
-    kij_internal_port_close(&port);
     close(ways[0]);
     close(ways[1]);
     close(other);
@@ -516,6 +599,33 @@ static void try_addresses(void) {
     empty(full, waiting);
     close(full);
     close(listener);
+}
+
+/* The second address has its time too, if no call has looked while the first one had its own. */
+static void try_rare_looks(void) {
+    kij_port port;
+    char name[64];
+    int silent = 0, number = 0, first = listen_here(0, &silent), second = listen_here(0, &number);
+    int waiting[QUEUE], others[QUEUE];
+    make_tcp(&port, name, sizeof name, silent);
+    keep_address(&port, 0, number);
+    fill(&port, others);
+    keep_address(&port, 0, silent);
+    fill(&port, waiting);
+    keep_address(&port, 1, number);
+    told("nobody answers at once", false, kij_internal_port_open(&port, 0));
+    kij_internal_sleep(1200);
+    told("nor later", false, kij_internal_port_open(&port, 0));
+    told("the second address is waited for", true, port.is_joining && port.join_place == 1);
+    empty(second, others);
+    struct pollfd joined = {port.joining, POLLOUT, 0};
+    told("it answers", 1, poll(&joined, 1, 10000));
+    kij_internal_sleep(1200);
+    told("it is there", true, kij_internal_port_open(&port, 0));
+    kij_internal_port_close(&port);
+    empty(first, waiting);
+    close(first);
+    close(second);
 }
 
 /* A connection that isn't made in the time of a call is made on, and a later call finds it without waiting. */
@@ -736,6 +846,7 @@ static bool gives_back(void *control, const kij_order *order) {
 static void try_given_back(void) {
     kij_till *till = NULL;
     kij_control *printer = NULL, *drawer = NULL;
+    const char *answer = NULL;
     kij_event event;
     kij_driver driver;
     memset(&driver, 0, sizeof driver);
@@ -744,6 +855,7 @@ static void try_given_back(void) {
     told("a till", KIJ_OK, kij_open(NULL, NULL, KIJ_EXISTING, &till).code);
     told("a printer", KIJ_OK, kij_start(till, KIJ_POS_PRINTER, "r1", KIJ_CLAIMED, &printer).code);
     told("a driver", KIJ_OK, kij_driver_open(till, "d1", &driver, printer).code);
+    told("no lines", KIJ_OK, kij_carry_out(till, NULL, 0, &answer).code);
     told("a drawer", KIJ_OK, kij_start(till, KIJ_CASH_DRAWER, "d1", KIJ_UNCLAIMED, &drawer).code);
     told("its order", KIJ_OK, kij_drawer_open(drawer).code);
     told("the cover is opened", KIJ_OK, kij_input_cover(till, "r1", true).code);
@@ -781,6 +893,8 @@ int main(int count, char **words) {
     try_held_questions();
     try_lost_line();
     try_closing();
+    try_taken();
+    try_set_up_fault();
     snprintf(forked, sizeof forked, "%s/forked-totals", words[1]);
     try_forked(forked);
     snprintf(forked, sizeof forked, "%s/totals-of-two", words[1]);
@@ -793,6 +907,7 @@ int main(int count, char **words) {
     try_endless();
     try_signal();
     try_addresses();
+    try_rare_looks();
     try_joining();
     try_patience();
     try_empty();

@@ -1,7 +1,8 @@
 /* What the typed layer refuses by itself, and what it says of each code; that a second thread is refused while a call
-   is under way; that a control that was given back is handed out again; the replies to ErrorEvents; and what is said of
-   profiles and of files of totals. It is C99 and C++17. Usage: misuse FILE */
+   is under way; that a control that was given back is handed out again, also within a listener; the replies to
+   ErrorEvents; and what is said of profiles and of files of totals. It is C99 and C++17. Usage: misuse FILE */
 #include "kij.h"
+#include <errno.h>
 #include <pthread.h>
 #include <stdio.h>
 #include <stdlib.h>
@@ -24,7 +25,30 @@ static const int codes[] = {
     KIJ_WRONG_VERSION, KIJ_SYSTEM,       KIJ_BAD_ARGUMENT, KIJ_WRONG_TYPE,  KIJ_IN_CALL,   KIJ_BAD_ANSWER,
     KIJ_NAME_IN_USE,   KIJ_FULL,         KIJ_BAD_DEVICE,   KIJ_BAD_INPUT,   KIJ_BAD_SPARE, KIJ_UNKNOWN,
     KIJ_IN_USE,        KIJ_KIND_DIFFERS, KIJ_VACANT,       KIJ_UNFORMATTED, KIJ_DAMAGED,   KIJ_MOVED,
+    KIJ_DRIVEN,        KIJ_BAD_SETTINGS, KIJ_DISCARDED,
 };
+
+/* Why the system refused a file is said in words of the layer or in the system's. An unknown number has no words. */
+static void said_by_system(void) {
+    static const struct {
+        int why;
+        const char *text;
+    } refusals[] = {
+        {EACCES, "Permission denied"},
+        {EROFS, "Read-only file system"},
+        {ENOSPC, "No space left on device"},
+        {EWOULDBLOCK, "The file of the totals is in use: close the other program that has it open."},
+        {ENOENT, "The file of the totals isn't there, or what creating it needs: its folder, and /proc."},
+        {EEXIST, "The file of the totals is there already."},
+        {0, "The system refused the file of the totals; the extended code is errno."},
+        {-5, "The system refused the file of the totals; the extended code is errno."},
+        {99999, "The system refused the file of the totals; the extended code is errno."},
+    };
+    for (size_t place = 0; place < sizeof refusals / sizeof refusals[0]; place++) {
+        kij_result result = {KIJ_SYSTEM, refusals[place].why, KIJ_NO_CATEGORY};
+        wants(refusals[place].text, strcmp(kij_strerror(result), refusals[place].text) == 0);
+    }
+}
 
 /* Each code has a name and a text, which no other has. */
 static void texts(void) {
@@ -58,6 +82,7 @@ static void texts(void) {
     };
     for (size_t place = 0; place < sizeof extended / sizeof extended[0]; place++)
         wants("an extended code", strcmp(kij_extended_name(extended[place].result), extended[place].name) == 0);
+    said_by_system();
     kij_result unknown = {12345, 0, KIJ_NO_CATEGORY};
     wants("a code that is none", kij_code_name(12345)[0] == 0 && kij_strerror(unknown)[0] != 0);
     wants("a property", strcmp(kij_property_name(KIJ_PROP_SCAN_DATA), "ScanData") == 0);
@@ -101,6 +126,9 @@ static void arguments(kij_till *till) {
     gives("no event", KIJ_BAD_ARGUMENT, kij_next_event(printer, NULL));
     gives("no event", KIJ_BAD_ARGUMENT, kij_reply_to(NULL, KIJ_ER_CLEAR));
     gives("no listener", KIJ_BAD_ARGUMENT, kij_pump(printer, NULL, NULL));
+    gives("null with lines", KIJ_BAD_ARGUMENT, kij_carry_out(till, NULL, 1, &text));
+    succeeds("null without lines", kij_carry_out(till, NULL, 0, &text));
+    wants("no answer", text[0] == 0);
     succeeds("none", kij_next_event(printer, &event));
     wants("none", event.kind == KIJ_NO_EVENT && event.control == printer);
     gives("a number", KIJ_BAD_ARGUMENT, kij_control_claim(printer, INT64_MAX));
@@ -182,6 +210,63 @@ static void replies(kij_till *till) {
     wants("none held", number == 0 && errors == 2);
     kij_discard(scanner);
     kij_discard(printer);
+}
+
+/* A till, the printer's control that a listener has made, and how many events it heard. */
+typedef struct renewal {
+    kij_till *till;
+    kij_control *printer;
+    int errors, of_drawer;
+} renewal;
+
+/* Makes a printer's control with output that waits. */
+static void waits(renewal *self) {
+    succeeds("a printer", kij_start(self->till, KIJ_POS_PRINTER, "r1", KIJ_CLAIMED, &self->printer));
+    succeeds("later", kij_set_bool(self->printer, KIJ_PROP_ASYNC_MODE, true));
+    succeeds("its output", kij_printer_print(self->printer, KIJ_PTR_S_RECEIPT, "a\n", 2));
+}
+
+/* Makes one whose output has failed. */
+static void fails(renewal *self) {
+    kij_work_report report;
+    waits(self);
+    succeeds("a cover", kij_input_cover(self->till, "r1", true));
+    succeeds("work", kij_work(self->till, "r1", &report));
+    wants("it fails", report.kind == KIJ_WORK_FAILED);
+}
+
+/* Gives the printer's control back at an ErrorEvent, and makes another one. */
+static kij_reply renews(const kij_event *event, void *with) {
+    renewal *self = (renewal *)with;
+    kij_control *before = self->printer;
+    self->of_drawer += kij_category_of(event->control) == KIJ_CASH_DRAWER;
+    if (event->kind != KIJ_ERROR_EVENT) return KIJ_ER_DEFAULT;
+    self->errors++;
+    kij_discard(before);
+    succeeds("the cover is closed", kij_input_cover(self->till, "r1", false));
+    waits(self);
+    wants("the same one is handed out", self->printer == before);
+    return KIJ_ER_CLEAR;
+}
+
+/* The reply of a listener that gave its control back isn't that of another application, which has the control now. */
+static void renewed(kij_till *till) {
+    renewal self = {till, NULL, 0, 0};
+    kij_control *drawer;
+    kij_work_report report;
+    succeeds("a drawer", kij_start(till, KIJ_CASH_DRAWER, "d1", KIJ_UNCLAIMED, &drawer));
+    for (int way = 0; way < 2; way++) {
+        fails(&self);
+        succeeds("it opens", kij_input_drawer(till, "d1", true));
+        succeeds("it closes", kij_input_drawer(till, "d1", false));
+        if (way == 0) gives("it is given back", KIJ_DISCARDED, kij_pump(self.printer, renews, &self));
+        else succeeds("one is given back", kij_pump_all(till, renews, &self));
+        wants("what was heard", self.errors == way + 1 && self.of_drawer == (way == 0 ? 0 : 4));
+        succeeds("work", kij_work(till, "r1", &report));
+        wants("the output of the other one waits still", report.kind == KIJ_WORK_DONE);
+        kij_discard(self.printer);
+    }
+    kij_discard(drawer);
 }
 
 /* A control that was given back is handed out again, so the till is never full of them. */
@@ -397,6 +482,7 @@ int main(int count, char **words) {
     arguments(till);
     lengths(till);
     replies(till);
+    renewed(till);
     controls(till);
     any_event(till);
     any_of_several();

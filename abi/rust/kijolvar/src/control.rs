@@ -210,7 +210,7 @@ impl<'till> Control<'till> {
     ///
     /// # Errors
     ///
-    /// As [`Control::next_event`].
+    /// As [`Control::next_event`]; [`Cause::Discarded`] if the listener discards the control by its key.
     pub fn pump(&self, mut listen: impl FnMut(&Event) -> Option<ErrorReply>) -> Result<(), Error> {
         while let Some(event) = self.next_event()? {
             if let (Event::Error(error), Some(reply)) = (&event, listen(&event)) {

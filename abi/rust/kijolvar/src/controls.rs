@@ -176,7 +176,8 @@ impl Control<'_> {
     /// - [`E_NOTCLAIMED`](ResultCode::NotClaimed): the control hasn't claimed the device, which is an exclusive-use
     ///   device.
     /// - [`E_NOHARDWARE`](ResultCode::NoHardware): the disk of the totals isn't formatted.
-    /// - [`E_FAILURE`](ResultCode::Failure): the totals can't be recovered, or the disk failed.
+    /// - [`E_FAILURE`](ResultCode::Failure): the totals can't be recovered.
+    /// - [`Cause::DiskFailed`]: the disk failed, and the change may be in the file or not.
     pub fn set_device_enabled(&self, value: bool) -> Result<(), Error> {
         self.set(Property::DeviceEnabled, Value::Truth(value))
     }
@@ -1121,11 +1122,12 @@ impl<'till> HardTotals<'till> {
     /// - [`E_CLOSED`](ResultCode::Closed): the control is closed.
     /// - [`E_CLAIMED`](ResultCode::Claimed): another control has claimed the device.
     /// - [`E_DISABLED`](ResultCode::Disabled): the control is disabled.
-    /// - [`E_FAILURE`](ResultCode::Failure): the totals are off, the disk failed, or no handle is left.
+    /// - [`E_FAILURE`](ResultCode::Failure): the totals are off, or no handle is left.
     /// - [`E_ILLEGAL`](ResultCode::Illegal): the control is in a transaction, the name is bad, or the size is below 0.
     /// - [`E_EXISTS`](ResultCode::Exists): a file has the name.
     /// - E_EXTENDED, [`ETOT_NOROOM`](ExtendedCode::TotalsNoRoom): the size is above FreeData, or there are as many
     ///   files as there may be.
+    /// - [`Cause::DiskFailed`]: the disk failed, and the change may be in the file or not.
     /// - [`Cause::NoMemory`]: there was no memory.
     pub fn create(&self, name: impl AsRef<[u8]>, size: u64, error_detection: bool) -> Result<u64, Error> {
         let line = self.line("call").word("create").bytes(name.as_ref()).number(size).truth(error_detection);
@@ -1141,10 +1143,11 @@ impl<'till> HardTotals<'till> {
     /// - [`E_CLOSED`](ResultCode::Closed): the control is closed.
     /// - [`E_CLAIMED`](ResultCode::Claimed): another control has claimed the device.
     /// - [`E_DISABLED`](ResultCode::Disabled): the control is disabled.
-    /// - [`E_FAILURE`](ResultCode::Failure): the totals are off, or the disk failed.
+    /// - [`E_FAILURE`](ResultCode::Failure): the totals are off.
     /// - [`E_ILLEGAL`](ResultCode::Illegal): the control is in a transaction.
     /// - [`E_NOEXIST`](ResultCode::NoExist): no file has the name.
     /// - [`E_CLAIMED`](ResultCode::Claimed): another control has claimed the file.
+    /// - [`Cause::DiskFailed`]: the disk failed, and the change may be in the file or not.
     /// - [`Cause::NoMemory`]: there was no memory.
     pub fn delete(&self, name: impl AsRef<[u8]>) -> Result<(), Error> {
         let line = self.line("call").word("delete").bytes(name.as_ref());
@@ -1220,10 +1223,11 @@ impl<'till> HardTotals<'till> {
     /// - [`E_CLOSED`](ResultCode::Closed): the control is closed.
     /// - [`E_CLAIMED`](ResultCode::Claimed): another control has claimed the device.
     /// - [`E_DISABLED`](ResultCode::Disabled): the control is disabled.
-    /// - [`E_FAILURE`](ResultCode::Failure): the totals are off, or the disk failed.
+    /// - [`E_FAILURE`](ResultCode::Failure): the totals are off.
     /// - [`E_ILLEGAL`](ResultCode::Illegal): no file has the handle, or the bytes aren't all within the file.
     /// - [`E_CLAIMED`](ResultCode::Claimed): another control has claimed the file.
     /// - E_EXTENDED, [`ETOT_NOROOM`](ExtendedCode::TotalsNoRoom): the transaction has no room for the write.
+    /// - [`Cause::DiskFailed`]: the disk failed, and the change may be in the file or not.
     /// - [`Cause::NoMemory`]: there was no memory.
     pub fn write(&self, handle: u64, offset: u64, data: impl AsRef<[u8]>) -> Result<(), Error> {
         let line = self.line("call").word("write").number(handle).number(offset).bytes(data.as_ref());
@@ -1241,10 +1245,11 @@ impl<'till> HardTotals<'till> {
     /// - [`E_CLOSED`](ResultCode::Closed): the control is closed.
     /// - [`E_CLAIMED`](ResultCode::Claimed): another control has claimed the device.
     /// - [`E_DISABLED`](ResultCode::Disabled): the control is disabled.
-    /// - [`E_FAILURE`](ResultCode::Failure): the totals are off, or the disk failed.
+    /// - [`E_FAILURE`](ResultCode::Failure): the totals are off.
     /// - [`E_ILLEGAL`](ResultCode::Illegal): no file has the handle, or the value isn't that of a byte.
     /// - [`E_CLAIMED`](ResultCode::Claimed): another control has claimed the file.
     /// - E_EXTENDED, [`ETOT_NOROOM`](ExtendedCode::TotalsNoRoom): the transaction has no room for the change.
+    /// - [`Cause::DiskFailed`]: the disk failed, and the change may be in the file or not.
     /// - [`Cause::NoMemory`]: there was no memory.
     pub fn set_all(&self, handle: u64, value: u64) -> Result<(), Error> {
         let line = self.line("call").word("setAll").number(handle).number(value);
@@ -1261,11 +1266,12 @@ impl<'till> HardTotals<'till> {
     /// - [`E_CLOSED`](ResultCode::Closed): the control is closed.
     /// - [`E_CLAIMED`](ResultCode::Claimed): another control has claimed the device.
     /// - [`E_DISABLED`](ResultCode::Disabled): the control is disabled.
-    /// - [`E_FAILURE`](ResultCode::Failure): the totals are off, or the disk failed.
+    /// - [`E_FAILURE`](ResultCode::Failure): the totals are off.
     /// - [`E_ILLEGAL`](ResultCode::Illegal): the control is in a transaction, no file has the handle, or the name is
     ///   bad.
     /// - [`E_EXISTS`](ResultCode::Exists): a file has the name, be it this one.
     /// - [`E_CLAIMED`](ResultCode::Claimed): another control has claimed the file.
+    /// - [`Cause::DiskFailed`]: the disk failed, and the change may be in the file or not.
     /// - [`Cause::NoMemory`]: there was no memory.
     pub fn rename(&self, handle: u64, name: impl AsRef<[u8]>) -> Result<(), Error> {
         let line = self.line("call").word("rename").number(handle).bytes(name.as_ref());
@@ -1327,10 +1333,11 @@ impl<'till> HardTotals<'till> {
     /// - [`E_CLOSED`](ResultCode::Closed): the control is closed.
     /// - [`E_CLAIMED`](ResultCode::Claimed): another control has claimed the device.
     /// - [`E_DISABLED`](ResultCode::Disabled): the control is disabled.
-    /// - [`E_FAILURE`](ResultCode::Failure): the totals are off, or the disk failed.
+    /// - [`E_FAILURE`](ResultCode::Failure): the totals are off.
     /// - [`E_ILLEGAL`](ResultCode::Illegal): the control is in no transaction.
     /// - [`E_NOEXIST`](ResultCode::NoExist): a file of the transaction was deleted.
     /// - [`E_CLAIMED`](ResultCode::Claimed): another control has claimed a file of the transaction.
+    /// - [`Cause::DiskFailed`]: the disk failed, and the change may be in the file or not.
     /// - [`Cause::NoMemory`]: there was no memory.
     pub fn commit_trans(&self) -> Result<(), Error> {
         let line = self.line("call").word("commitTrans");

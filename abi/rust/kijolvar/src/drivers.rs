@@ -150,7 +150,7 @@ pub trait Driver: Send {
     /// Returns the category of the devices that it is for.
     fn category(&self) -> Category;
 
-    /// Begins. Hardware that isn't there is no error: `poll` looks for it.
+    /// Begins, without the hardware: the device may still be refused, as one with `flaky`. `connect` is next.
     ///
     /// # Errors
     ///
@@ -158,6 +158,12 @@ pub trait Driver: Send {
     fn start(&mut self, till: &mut DriverTill<'_>, device: &str) -> Result<(), Error> {
         let _ = (till, device);
         Ok(())
+    }
+
+    /// Opens the hardware, in a bounded time: the device's orders are this driver's from now on. Hardware that isn't
+    /// there is no error: `poll` looks for it.
+    fn connect(&mut self, till: &mut DriverTill<'_>) {
+        let _ = till;
     }
 
     /// Returns whether the device is there. If not, the till takes it as switched off.
@@ -417,13 +423,11 @@ fn near_of(till: &mut DriverTill<'_>, device: &str, settings: &WireSettings) -> 
     refused
 }
 
-/// Begins a printer's line for one of its devices.
-fn start(link: &SharedLink, till: &mut DriverTill<'_>, device: &str, settings: &WireSettings) -> Result<(), Error> {
+/// Opens a printer's line for one of its devices.
+fn connect(link: &SharedLink, till: &mut DriverTill<'_>, device: &str, settings: &WireSettings) {
     let mut link = lock(link);
-    check(till, device, settings, &link.cable.port)?;
     link.devices.push((device.to_string(), *settings));
     link.start(till);
-    Ok(())
 }
 
 impl Driver for EscPosPrinter {
@@ -433,7 +437,11 @@ impl Driver for EscPosPrinter {
 
     fn start(&mut self, till: &mut DriverTill<'_>, device: &str) -> Result<(), Error> {
         self.device = device.to_string();
-        start(&self.link, till, device, &self.settings)
+        check(till, device, &self.settings, &lock(&self.link).cable.port)
+    }
+
+    fn connect(&mut self, till: &mut DriverTill<'_>) {
+        connect(&self.link, till, &self.device, &self.settings);
     }
 
     fn is_online(&self) -> bool {
@@ -505,7 +513,11 @@ impl Driver for EscPosDrawer {
 
     fn start(&mut self, till: &mut DriverTill<'_>, device: &str) -> Result<(), Error> {
         self.device = device.to_string();
-        start(&self.link, till, device, &self.settings)
+        check(till, device, &self.settings, &lock(&self.link).cable.port)
+    }
+
+    fn connect(&mut self, till: &mut DriverTill<'_>) {
+        connect(&self.link, till, &self.device, &self.settings);
     }
 
     fn is_online(&self) -> bool {
@@ -686,8 +698,11 @@ impl Driver for SerialDisplay {
         if !self.port.cable.port.is_sound() {
             return Err(Error::new("drive", Cause::BadSettings));
         }
-        self.port.open(self.timeout);
         Ok(())
+    }
+
+    fn connect(&mut self, _: &mut DriverTill<'_>) {
+        self.port.open(self.timeout);
     }
 
     fn is_online(&self) -> bool {
@@ -876,9 +891,12 @@ const SHIFT_KEYS: &[u8; 56] = b"!@#$%^&*()_+\0\0QWERTYUIOP{}\0\0ASDFGHJKL:\"~\0|
 /// Those of the keypad from number 71 on.
 const PAD_KEYS: &[u8; 13] = b"789-456+1230.";
 
-/// The type of a code by its AIM identifier; 501 is SCAN_SDT_OTHER.
+/// The type of a code by its AIM identifier: 120 is SCAN_SDT_EAN128 (GS1-128), 119 SCAN_SDT_EAN13_S (EAN-13 with a
+/// supplement), and 501 SCAN_SDT_OTHER.
 fn kind_of(letter: u8, digit: u8) -> u64 {
     match (letter, digit) {
+        (b'C', b'1') => 120,
+        (b'E', b'3') => 119,
         (b'E', b'4') => 103,
         (b'o', b'1') => 121,
         (b'o', b'2') => 122,
@@ -904,13 +922,16 @@ impl Driver for WedgeScanner {
         Category::Scanner
     }
 
-    fn start(&mut self, till: &mut DriverTill<'_>, _: &str) -> Result<(), Error> {
+    fn start(&mut self, _: &mut DriverTill<'_>, _: &str) -> Result<(), Error> {
         if !self.port.cable.port.is_sound() || self.kind > HIGHEST_KIND {
             return Err(Error::new("drive", Cause::BadSettings));
         }
+        Ok(())
+    }
+
+    fn connect(&mut self, till: &mut DriverTill<'_>) {
         self.port.open(SCANNER_OPENS);
         self.poll(till);
-        Ok(())
     }
 
     fn is_online(&self) -> bool {

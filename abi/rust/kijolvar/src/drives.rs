@@ -488,7 +488,10 @@ impl Inner {
             self.drives.hosted.push_back(line);
         }
         self.make_wait(device, category)?;
+        // It isn't refused any more.
         self.drives.list.push(drive);
+        let last = self.drives.list.len() - 1;
+        self.with_drives(last..last + 1, |inner, list| list[0].driver.connect(&mut DriverTill { inner }));
         self.hand_in_behind();
         Ok(())
     }

@@ -1,7 +1,7 @@
 //! The ports of devices: a file such as /dev/usb/lp0, a serial line such as /dev/ttyUSB0, a TCP port, or the key
 //! events of a keyboard. No call waits longer than it is told.
 use std::ffi::{c_int, c_short, c_ulong, c_void};
-use std::fs::{File, OpenOptions};
+use std::fs::{File, OpenOptions, TryLockError};
 use std::io::{self, ErrorKind, Read, Write};
 use std::net::{Ipv6Addr, Shutdown, SocketAddr, TcpStream, ToSocketAddrs};
 use std::os::fd::{AsRawFd, RawFd};
@@ -62,7 +62,8 @@ pub enum Port {
     /// opened, it is a [`Port::Line`] from then on.
     File(PathBuf),
     /// A serial line by the usual settings of its device: those of [`SerialSettings::default`], but [`Flow::None`] for
-    /// a display, which answers nothing and whose cable often has no CTS.
+    /// a display, which answers nothing and whose cable often has no CTS. No other program gets a serial line meanwhile,
+    /// and one that another till or program has isn't opened (EBUSY).
     Line(PathBuf),
     /// A serial line by these settings, such as /dev/ttyUSB0.
     Serial(PathBuf, SerialSettings),
@@ -225,6 +226,8 @@ const TCOON: c_int = 1;
 const TCFLSH: c_ulong = 0x540b;
 const TCOFLUSH: c_int = 1;
 const TCIOFLUSH: c_int = 2;
+const TIOCEXCL: c_ulong = 0x540c;
+const TIOCNXCL: c_ulong = 0x540d;
 const TIOCOUTQ: c_ulong = 0x5411;
 const EVIOCGRAB: c_ulong = 0x4004_4590;
 const EVIOCSMASK: c_ulong = 0x4010_4593;
@@ -235,6 +238,7 @@ const IPPROTO_TCP: c_int = 6;
 const TCP_KEEPIDLE: c_int = 4;
 const TCP_KEEPINTVL: c_int = 5;
 const TCP_USER_TIMEOUT: c_int = 18;
+const EBUSY: c_int = 16;
 const ENODEV: c_int = 19;
 pub(crate) const EINVAL: c_int = 22;
 const ENOTTY: c_int = 25;
@@ -321,6 +325,38 @@ fn set_up(file: RawFd, settings: Option<&SerialSettings>, keeps_faults: bool) ->
         return Err(io::Error::last_os_error());
     }
     Ok(())
+}
+
+/// Keeps a terminal line to this till. If another program has it, it is busy. Nothing of the line is changed then, since
+/// its bytes and settings are the other's.
+fn take_line(file: &File) -> io::Result<()> {
+    match file.try_lock() {
+        Err(TryLockError::WouldBlock) => return Err(io::Error::from_raw_os_error(EBUSY)),
+        locked => locked?,
+    }
+    // That keeps out programs that lock nothing, unless they are root's.
+    // SAFETY: the file is open.
+    if unsafe { ioctl(file.as_raw_fd(), TIOCEXCL) } != 0 {
+        let fault = io::Error::last_os_error();
+        let _ = file.unlock();
+        return Err(fault);
+    }
+    Ok(())
+}
+
+/// Lets others have a line again, though a process that was forked meanwhile has it too.
+fn give_line_back(file: &File) {
+    if is_line(file) {
+        // SAFETY: the file is open.
+        unsafe { ioctl(file.as_raw_fd(), TIOCNXCL) };
+    }
+    let _ = file.unlock();
+}
+
+/// Sets up a terminal line that no other program has.
+fn set_up_own(file: &File, settings: Option<&SerialSettings>, keeps_faults: bool) -> io::Result<()> {
+    take_line(file)?;
+    set_up(file.as_raw_fd(), settings, keeps_faults).inspect_err(|_| give_line_back(file))
 }
 
 /// Drops what a terminal line hasn't sent. Closing the line would wait for it, up to 30 seconds if the device takes
@@ -552,22 +588,24 @@ impl Cable {
     }
 
     /// Closes the port, without waiting for what it hasn't sent. A process that was forked meanwhile has it too, and
-    /// would keep the connection, and a keyboard's keys. So these end first. In such a process the port is still that
-    /// of the process that opened it, and nothing is dropped or ended.
+    /// would keep the connection, the line, and a keyboard's keys. So these end first. In such a process the port is
+    /// still that of the process that opened it, and nothing is dropped or ended.
     pub(crate) fn close(&mut self) {
         let stream = self.stream.take();
         if self.process != std::process::id() {
             return;
         }
-        match (&stream, &self.port) {
-            (Some(Stream::Tcp(stream)), _) => drop(stream.shutdown(Shutdown::Both)),
-            (Some(Stream::File(file)), Port::Keys(_)) => {
-                // SAFETY: the file is open.
-                unsafe { ioctl(file.as_raw_fd(), EVIOCGRAB, 0 as c_int) };
+        match &stream {
+            Some(Stream::Tcp(stream)) => drop(stream.shutdown(Shutdown::Both)),
+            Some(Stream::File(file)) => {
+                if matches!(self.port, Port::Keys(_)) {
+                    // SAFETY: the file is open.
+                    unsafe { ioctl(file.as_raw_fd(), EVIOCGRAB, 0 as c_int) };
+                }
                 drop_unsent(file.as_raw_fd());
+                give_line_back(file);
             }
-            (Some(Stream::File(file)), _) => drop_unsent(file.as_raw_fd()),
-            (None, _) => {}
+            None => {}
         }
     }
 
@@ -684,7 +722,7 @@ fn open_file(path: &Path, settings: Option<&SerialSettings>, keeps_faults: bool)
     // A printer on USB may send packets with nothing in them.
     let ends_empty = is_line(&file);
     if ends_empty {
-        set_up(file.as_raw_fd(), settings, keeps_faults)?;
+        set_up_own(&file, settings, keeps_faults)?;
     }
     Ok((Stream::File(file), ends_empty))
 }
@@ -693,7 +731,7 @@ fn open_file(path: &Path, settings: Option<&SerialSettings>, keeps_faults: bool)
 fn open_keys(path: &Path) -> io::Result<File> {
     let file = OpenOptions::new().read(true).custom_flags(O_NONBLOCK | O_NOCTTY).open(path)?;
     if is_line(&file) {
-        set_up(file.as_raw_fd(), None, false)?;
+        set_up_own(&file, None, false)?;
     }
     // SAFETY: the file is open.
     if file.metadata()?.file_type().is_char_device() && unsafe { ioctl(file.as_raw_fd(), EVIOCGRAB, 1 as c_int) } != 0 {

@@ -174,12 +174,13 @@ fn read_contents(text: &str) -> Option<TotalsContents> {
     Some(TotalsContents { layout: layout as u32, slot, sequence, records, room, files })
 }
 
-/// Returns what a file of totals holds. The file is synced and read; no till may have it open.
+/// Returns what a file of totals holds. No till may have the file open. It is synced and read, and locked for readers
+/// meanwhile: a till that opens it then gets `WouldBlock`.
 ///
 /// # Errors
 ///
 /// [`Cause::Damaged`], with the place and the rule; [`Cause::Unformatted`], [`Cause::TooSmall`], [`Cause::NoMemory`];
-/// [`Cause::System`], with `WouldBlock` if a till has the file.
+/// [`Cause::System`], with `WouldBlock` if a till has the file, or with why it couldn't be synced.
 pub fn files(path: impl AsRef<Path>) -> Result<TotalsContents, Error> {
     let failed = |cause| Error::new("files", cause);
     let bytes = read_file(path.as_ref()).map_err(|cause| failed(Cause::System(cause)))?;
@@ -195,7 +196,7 @@ pub fn files(path: impl AsRef<Path>) -> Result<TotalsContents, Error> {
     }
 }
 
-/// Checks that a file holds sound totals. The file is synced and read; no till may have it open.
+/// Checks that a file holds sound totals. It is synced, read and locked as by [`files`].
 ///
 /// # Errors
 ///

@@ -10,7 +10,7 @@ pub(crate) mod library {
     pub(crate) const DISK_LENGTH: u64 = 327680;
     /// The call did what it says.
     pub(crate) const OK: u32 = 0;
-    /// Memory ran out, and nothing was done. Lines before one that is held may have been carried out.
+    /// Memory ran out, and nothing was done but lines before one that is held.
     pub(crate) const NO_MEMORY: u32 = 1;
     /// The profile is refused (docs/reference/profile.md).
     pub(crate) const BAD_PROFILE: u32 = 2;
@@ -80,7 +80,8 @@ pub enum ResultCode {
     NoExist = 109,
     /// E_EXISTS: there is a file of that name already.
     Exists = 110,
-    /// E_FAILURE: the device or the disk failed.
+    /// E_FAILURE: the device failed, or the totals are off. A failed disk is
+    /// [`Cause::DiskFailed`](crate::Cause::DiskFailed).
     Failure = 111,
     /// E_TIMEOUT: another control has the device or the file, so the claim failed.
     Timeout = 112,

@@ -78,6 +78,15 @@ pub(crate) fn opening_cause(code: u32, profile: &str) -> Cause {
     }
 }
 
+/// Refuses what can't be a device's name.
+fn checked(call: &'static str, device: &str) -> Result<(), Error> {
+    if is_name(device) {
+        Ok(())
+    } else {
+        Err(Error::new(call, Cause::BadArgument))
+    }
+}
+
 impl Inner {
     fn new(at: Raw, totals: Option<LockedFile>, errand: Vec<u8>) -> Inner {
         let drives = Drives::default();
@@ -730,8 +739,9 @@ impl Till {
     ///
     /// # Errors
     ///
-    /// [`Cause::NoDevice`], [`Cause::NoMemory`].
+    /// [`Cause::BadArgument`] if it can't be a device's name, [`Cause::NoDevice`], [`Cause::NoMemory`].
     pub fn host(&self, device: &str) -> Result<(), Error> {
+        checked("host", device)?;
         let mut inner = self.inner.borrow_mut();
         let till = inner.at;
         // SAFETY: the pointer is the one that was written last, and the name is lent for the call.
@@ -748,8 +758,9 @@ impl Till {
     ///
     /// # Errors
     ///
-    /// [`Cause::NoDevice`], [`Cause::NoMemory`].
+    /// [`Cause::BadArgument`] if it can't be a device's name, [`Cause::NoDevice`], [`Cause::NoMemory`].
     pub fn tear_off(&self, device: &str) -> Result<(), Error> {
+        checked("tear_off", device)?;
         let done = self.inner.borrow_mut().tear_off(device);
         done.map_err(|cause| Error::new("tear_off", cause))
     }
@@ -785,8 +796,9 @@ impl Till {
     ///
     /// # Errors
     ///
-    /// [`Cause::BadDevice`], [`Cause::KindDiffers`], [`Cause::Driven`], [`Cause::BadSettings`]; [`Cause::NoDevice`]
-    /// if it can't be driven, as one with `flaky`; [`Cause::NoMemory`].
+    /// [`Cause::BadArgument`] if it can't be a device's name, [`Cause::BadDevice`], [`Cause::KindDiffers`],
+    /// [`Cause::Driven`], [`Cause::BadSettings`]; [`Cause::NoDevice`] if it can't be driven, as one with `flaky`;
+    /// [`Cause::NoMemory`].
     pub fn drive(&self, device: &str, driver: impl Into<Box<dyn Driver>>) -> Result<(), Error> {
         let done = self.inner.borrow_mut().drive(device, driver.into());
         done.map_err(|cause| Error::new("drive", cause))
@@ -818,8 +830,9 @@ impl Till {
     ///
     /// # Errors
     ///
-    /// [`Cause::NoDevice`] if the device isn't driven.
+    /// [`Cause::BadArgument`] if it can't be a device's name, [`Cause::NoDevice`] if the device isn't driven.
     pub fn driver_state(&self, device: &str) -> Result<DriverState, Error> {
+        checked("driver_state", device)?;
         self.inner.borrow().driver_state(device).map_err(|cause| Error::new("driver_state", cause))
     }
 

@@ -5,12 +5,12 @@ use crate::raw::{kijolvar_format_file, linkat, AT_FDCWD, AT_SYMLINK_FOLLOW, O_TM
 use crate::standard::library::DISK_LENGTH;
 use crate::till::Inner;
 use std::ffi::{c_int, CString};
-use std::fs::{File, OpenOptions};
+use std::fs::{self, File, OpenOptions};
 use std::io::{self, ErrorKind};
 use std::ops::Deref;
 use std::os::fd::AsRawFd;
 use std::os::unix::ffi::OsStrExt;
-use std::os::unix::fs::{FileExt, OpenOptionsExt};
+use std::os::unix::fs::{FileExt, MetadataExt, OpenOptionsExt};
 use std::path::{Path, PathBuf};
 use std::process;
 
@@ -114,10 +114,36 @@ fn folder_of(path: &Path) -> io::Result<(&Path, CString)> {
     Ok((folder.unwrap_or(Path::new(".")), CString::new(name.as_bytes())?))
 }
 
+/// How often a file is opened in whose place a program puts another one before it is locked.
+const MOST_TURNS: u32 = 10;
+
+/// Checks that a path still names an open file. If it names another one, this one counts as in use.
+fn check_name(file: &File, path: &Path) -> io::Result<()> {
+    let (opened, named) = (file.metadata()?, fs::metadata(path)?);
+    if (opened.dev(), opened.ino()) == (named.dev(), named.ino()) {
+        Ok(())
+    } else {
+        Err(ErrorKind::WouldBlock.into())
+    }
+}
+
+/// Opens a file that is there, and locks it. A program may have put another file in its place before it was locked, as
+/// `kijolvar restore --replace` does: then that one is opened.
+fn open_locked(path: &Path) -> io::Result<LockedFile> {
+    let mut turn = 1;
+    loop {
+        let file = LockedFile::new(OpenOptions::new().read(true).write(true).open(path)?)?;
+        match check_name(&file, path) {
+            Err(_) if turn < MOST_TURNS => turn += 1,
+            checked => return checked.map(|()| file),
+        }
+    }
+}
+
 /// Opens a file that is there, and locks it. Its folder is synced too, since a creation that was killed may have named
 /// the file and not synced its name.
 pub(crate) fn open_existing(path: &Path) -> io::Result<LockedFile> {
-    let file = LockedFile::new(OpenOptions::new().read(true).write(true).open(path)?)?;
+    let file = open_locked(path)?;
     File::open(folder_of(path)?.0)?.sync_all()?;
     Ok(file)
 }

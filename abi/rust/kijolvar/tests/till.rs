@@ -469,7 +469,13 @@ fn keys_are_of_one_till() {
     let events: Vec<_> = till.events().collect::<Result<_, _>>().unwrap();
     assert!(matches!(events[..], [(_, Event::StatusUpdate(StatusUpdate::Drawer(_)))]));
     let (kept, stale) = (CashDrawer::of(&till, &key).unwrap(), key.clone());
-    key.discard(&till).unwrap();
+    till.input_drawer("d1", false).unwrap();
+    let mut keys = vec![key];
+    let pumped = kept.pump(|_| {
+        keys.pop().unwrap().discard(&till).unwrap();
+        None
+    });
+    assert!(matches!(pumped.unwrap_err().cause(), Cause::Discarded));
     let again = till.cash_drawer("d1").unwrap().enabled().unwrap();
     assert_eq!(again.name(), kept.name());
     assert!(matches!(kept.open_drawer().unwrap_err().cause(), Cause::Discarded));

@@ -277,6 +277,7 @@ fn obey<'till>(till: &'till Till, typed: &mut Typed<'till>, line: &str) -> Resul
         "state" => till
             .driver_state(words.0[0])
             .map(|state| format!("{} {}", if state.is_online { "online" } else { "offline" }, state.late_orders)),
+        "why" => till.driver_state(words.0[0]).map(|state| state.port_error.unwrap_or(0).to_string()),
         "lines" => till.carry_out(rest.replace(';', "\n")).map(|answers| answers.replace('\n', ";")),
         "print" | "later" => print(typed.control(till)?, rest, verb == "later"),
         "clear" => typed.control(till)?.clear_output().map(|()| "ok".to_string()),
@@ -308,6 +309,7 @@ fn refusal(error: &Error) -> String {
     match error.cause() {
         Cause::Extended(extended) => format!("E_EXTENDED {}", extended.number()),
         Cause::Code(code) => format!("{code:?}"),
+        Cause::BadArgument => "KIJ_BAD_ARGUMENT".to_string(),
         Cause::BadDevice => "KIJ_BAD_DEVICE".to_string(),
         Cause::BadInput => "KIJ_BAD_INPUT".to_string(),
         Cause::KindDiffers => "KIJ_KIND_DIFFERS".to_string(),
