@@ -6,6 +6,8 @@
 
 # The oldest glibc with which the programs and the shared object run.
 glibc=2.31
+# The tag of the wheel: pip takes it where glibc is at least that.
+wheel=py3-none-manylinux_${glibc/./_}_x86_64
 # A program's crate, the name of the program, and the words with which rt runs it once it is built.
 programs=("pos_console pos_console" "pos_tool kijolvar version")
 flags=(-std=c11 -O2 -fPIC -Wall -Wextra -Werror)
@@ -15,6 +17,15 @@ links=("-Wl,-z,relro,-z,now,-z,noexecstack,-z,defs" "-Wl,--gc-sections,--as-need
 stop() {
   echo "$(basename "$0"): $1" >&2
   exit 1
+}
+
+# make_folder FOLDER: makes a folder, if it isn't there, and prints its path. Stops if no file can be made in it
+make_folder() {
+  local place probe
+  place=$(mkdir -p "$1" && realpath "$1") || stop "$1 can't be made"
+  probe=$(mktemp "$place/.kijolvar.XXXXXX") || stop "$place can't be written"
+  rm "$probe"
+  echo "$place"
 }
 
 # The version is that of the first heading of CHANGELOG.md.
@@ -30,6 +41,9 @@ each_version() {
   sed -n 's/^__version__ = "\(.*\)"$/abi\/python\/kijolvar\/__init__.py \1/p' "$abi/python/kijolvar/__init__.py"
   sed -n 's/^version = "\(.*\)"$/abi\/rust\/kijolvar\/Cargo.toml \1/p' "$abi/rust/kijolvar/Cargo.toml"
   sed -n 's/.*kijolvar-\([0-9.]*\)\(-x86_64-linux-gnu\|-py3-none\|\.crate\).*/README.md \1/p' "$top/README.md"
+  sed -n 's/.*kijolvar_\([0-9.]*\)-1_amd64\.deb.*/README.md \1/p' "$top/README.md"
+  sed -n 's/.*"\.TH KIJOLVAR 1 "" "kijolvar \(.*\)" "Kijolvar"$/crates\/pos_tool\/src\/pages.rt \1/p' \
+    "$top/crates/pos_tool/src/pages.rt"
 }
 
 # check_versions: stops if a place has another version than CHANGELOG.md, or if the interface changed within a MAJOR
@@ -39,7 +53,7 @@ check_versions() {
     count=$((count + 1))
     [ "$found" = "$version" ] || stop "$place has version $found, and CHANGELOG.md has $version"
   done < <(each_version)
-  [ "$count" -ge 7 ] || stop "only $count places that say the version were found"
+  [ "$count" -ge 9 ] || stop "only $count places that say the version were found"
   wanted=$(sed -n "s/^$major //p" "$top/packaging/interfaces")
   found="$(sed -n 's/^#define KIJOLVAR_VERSION \([0-9]*\)u$/\1/p' "$top/abi/kijolvar.h")"
   found="$found $(sed -n 's/^#define KIJ_VERSION \([0-9]*\)$/\1/p' "$top/abi/c/kij.h")"

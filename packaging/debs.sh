@@ -1,6 +1,6 @@
 # shellcheck shell=bash
 # Makes the Debian packages from a tree that packaging/build.sh has laid out. tools/release reads this file after that
-# one. Before it makes packages it sets `commit`, and `dist`, the folder of the release.
+# one. Before it makes packages it sets `commit`, and `dist`, the folder in which it builds the release.
 # shellcheck disable=SC2154
 
 multiarch=lib/x86_64-linux-gnu
@@ -32,7 +32,7 @@ lay_kijolvar() {
 lay_libkijolvar() {
   take "$1" "lib/libkijolvar.so.$major" "$2/usr/$multiarch"
   mkdir -p "$2/DEBIAN"
-  echo "libkijolvar $major libkijolvar (>= $version)" > "$2/DEBIAN/shlibs"
+  echo "libkijolvar $major libkijolvar (>= $version), libkijolvar (<< $((major + 1))~)" > "$2/DEBIAN/shlibs"
   echo 'activate-noawait ldconfig' > "$2/DEBIAN/triggers"
 }
 
@@ -49,7 +49,7 @@ lay_libkijolvar-dev() {
 lay_python3-kijolvar() {
   local packages=$2/usr/lib/python3/dist-packages info=kijolvar-$version.dist-info
   mkdir -p "$packages" "$2/DEBIAN"
-  (cd "$packages" && python3 -m zipfile -e "$dist/kijolvar-$version-py3-none-linux_x86_64.whl" .)
+  (cd "$packages" && python3 -m zipfile -e "$dist/kijolvar-$version-$wheel.whl" .)
   ln -sf "../../../x86_64-linux-gnu/libkijolvar.so.$major" "$packages/kijolvar/libkijolvar.so"
   rm "$packages/$info/RECORD" "$packages/$info/WHEEL"
   take "$1" 'share/kijolvar/p*' "$2/usr/share/kijolvar"

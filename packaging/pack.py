@@ -2,7 +2,7 @@
 """Writes the release's archives: equal files give equal bytes.
 
 Usage: pack.py tree FOLDER TO        a .tar.gz of a folder, which is its top
-       pack.py wheel LIBRARY TO      the Python wheel, with the shared object inside
+       pack.py wheel LIBRARY TAG TO  the Python wheel, with the shared object inside; TAG says where pip takes it
        pack.py sdist TO              the Python sources, without a library
        pack.py crate LIBRARY TO      the Rust crate, with the archive inside
 TO is the file; of a wheel, an sdist and a crate its folder. SOURCE_DATE_EPOCH is the time of each file.
@@ -22,7 +22,6 @@ import zipfile
 
 TOP = os.path.dirname(os.path.dirname(os.path.abspath(__file__)))
 EPOCH = int(os.environ["SOURCE_DATE_EPOCH"])
-TAG = "py3-none-linux_x86_64"
 
 
 def read(*path):
@@ -102,15 +101,15 @@ def package():
     return [(f"kijolvar/{name}", body) for name, body in found]
 
 
-def pack_wheel(library, folder):
+def pack_wheel(library, tag, folder):
     with open(library, "rb") as file:
         files = [*package(), ("kijolvar/libkijolvar.so", file.read())]
     info = f"{NAME}.dist-info"
-    wheel = f"Wheel-Version: 1.0\nGenerator: kijolvar\nRoot-Is-Purelib: false\nTag: {TAG}\n"
+    wheel = f"Wheel-Version: 1.0\nGenerator: kijolvar\nRoot-Is-Purelib: false\nTag: {tag}\n"
     files = sorted(files) + [(f"{info}/METADATA", metadata()), (f"{info}/WHEEL", wheel.encode())]
     sums = [f"{path},sha256={sum_for_record(body)},{len(body)}\n" for path, body in files]
     files.append((f"{info}/RECORD", "".join([*sums, f"{info}/RECORD,,\n"]).encode()))
-    with zipfile.ZipFile(os.path.join(folder, f"{NAME}-{TAG}.whl"), "w") as archive:
+    with zipfile.ZipFile(os.path.join(folder, f"{NAME}-{tag}.whl"), "w") as archive:
         for path, body in files:
             made = zipfile.ZipInfo(path, time.gmtime(EPOCH)[:6])
             made.external_attr = (0o755 if path.endswith(".so") else 0o644) << 16
@@ -158,7 +157,7 @@ def pack_crate(library, folder):
 
 
 def main():
-    kinds = {"tree": (pack_tree, 2), "wheel": (pack_wheel, 2), "sdist": (pack_sdist, 1), "crate": (pack_crate, 2)}
+    kinds = {"tree": (pack_tree, 2), "wheel": (pack_wheel, 3), "sdist": (pack_sdist, 1), "crate": (pack_crate, 2)}
     pack, count = kinds.get(sys.argv[1] if len(sys.argv) > 1 else "", (None, 0))
     if pack is None or len(sys.argv) != count + 2:
         sys.exit(__doc__)

@@ -1,20 +1,26 @@
 #!/usr/bin/env bash
-# Tries the page of abi/page in a browser, over the library as rt lib builds it: a sale by clicks, and the devices by hand. It
-# needs rt, gcc, python3 and chromium, and installs nothing; the whole test leaves it out, since it needs a browser.
-# Usage: tests/page.sh [PICTURE]. Its last line is 'N passed, M failed'.
+# Tries the page of abi/page: its server, and in a browser a sale by clicks and the devices by hand. The library is the
+# one that rt lib builds. It needs rt, gcc, python3 and chromium, and installs nothing; the whole test leaves it out,
+# since it needs a browser. With --server it tries the server alone, without chromium.
+# Usage: tests/page.sh [PICTURE], or tests/page.sh --server. KIJOLVAR_ARCHIVE names another library. Its last line is
+# 'N passed, M failed'.
 set -u
 top=$(cd "$(dirname "$0")/.." && pwd)
 work=$(mktemp -d)
 trap 'rm -rf "$work"' EXIT
-for tool in rt gcc python3 chromium; do
+archive=${KIJOLVAR_ARCHIVE:-$top/crates/kijolvar/out/libkijolvar.a}
+browser=(chromium "$@")
+[ "${1:-}" != --server ] || browser=()
+tools=(gcc python3 "${browser[@]:0:1}")
+[ -n "${KIJOLVAR_ARCHIVE:-}" ] || tools+=(rt)
+for tool in "${tools[@]}"; do
   if ! command -v "$tool" > /dev/null; then
     echo "failed: $tool isn't installed"
     echo "0 passed, 1 failed"
     exit 1
   fi
 done
-"$top/tools/libraries" archive > "$work/lib" 2>&1 || tail -n 5 "$work/lib"
+[ -n "${KIJOLVAR_ARCHIVE:-}" ] || "$top/tools/libraries" archive > "$work/lib" 2>&1 || tail -n 5 "$work/lib"
 gcc -O1 -c -fPIC -o "$work/heap.o" "$top/abi/heap.c"
-gcc -shared -o "$work/libkijolvar.so" "$work/heap.o" -Wl,--whole-archive "$top/crates/kijolvar/out/libkijolvar.a" \
-  -Wl,--no-whole-archive
-python3 -B -W error "$top/tests/page.py" chromium "$work/libkijolvar.so" "$@"
+gcc -shared -o "$work/libkijolvar.so" "$work/heap.o" -Wl,--whole-archive "$archive" -Wl,--no-whole-archive
+python3 -B -W error "$top/tests/page.py" "$work/libkijolvar.so" "${browser[@]}"

@@ -2,10 +2,10 @@
 # Tries a release: what its files hold, and each way to install it where the kit isn't there. It unpacks, spends the day
 # of the archive's README, and rings up the same sale by the shared object, the archive, CMake, the wheel and the crate.
 # With --quick it does so with a clean PATH and HOME. It also builds the release again, which must give the same bytes,
-# and sees that tools/release refuses what it must. Without --quick it does so in ROOTS/bookworm, which has nothing but
-# Debian's packages. It installs, upgrades and purges those of the release there, and tries the programs in
-# ROOTS/bullseye, which has glibc 2.31. A root that isn't there is made by debootstrap, over the network. It then looks
-# for misuse of memory by valgrind and the sanitizers, runs the conformance scripts, and asks lintian.
+# tries tools/install, and sees that tools/release refuses what it must. Without --quick it does so in ROOTS/bookworm,
+# which has nothing but Debian's packages. It installs, upgrades and purges those of the release there, and tries the
+# programs in ROOTS/bullseye, which has glibc 2.31. A root that isn't there is made by debootstrap, over the network. It
+# then looks for misuse of memory by valgrind and the sanitizers, runs the conformance scripts, and asks lintian.
 # Usage: tests/release.sh --quick [DIST], or tests/release.sh ROOTS [DIST]. DIST is the folder of the release. Without
 # it, it is dist/ if that is of this commit; else a trial is made from what rt ci has built. Its last line is
 # 'N passed, M failed'.
@@ -92,10 +92,15 @@ snapshot() {
   export KIJOLVAR_BUILT=$work/built
 }
 
+# listed DIST: the files of a release, as its SHA256SUMS has them
+listed() {
+  sed 's/^[0-9a-f]*  //' "$1/SHA256SUMS"
+}
+
 # is_of_this_commit DIST: whether a release is of the commit that is checked out
 is_of_this_commit() {
   local archive
-  archive=$(echo "$1"/kijolvar-*-x86_64-linux-gnu.tar.gz)
+  archive=$1/$(listed "$1" 2> /dev/null | grep -- '-x86_64-linux-gnu\.tar\.gz$')
   [ -f "$archive" ] && tar -xOzf "$archive" --wildcards '*/MANIFEST' \
     | grep -qx "commit: $(git -C "$top" rev-parse HEAD)"
 }
@@ -124,12 +129,11 @@ unpack() {
   outside=${root:-$work}/tmp/release
   inside=${outside#"$root"}
   mkdir -p "$outside/home"
-  cp "$dist"/* "$outside"
+  listed "$dist" | (cd "$dist" && xargs cp -t "$outside" SHA256SUMS)
   tar -xzf "$outside"/kijolvar-*-x86_64-linux-gnu.tar.gz -C "$outside"
   tree=$(cd "$outside"/kijolvar-*-x86_64-linux-gnu && pwd)
   version=$(sed -n '1s/^kijolvar //p' "$tree/MANIFEST")
   major=${version%%.*}
-  cp "$outside"/*.whl "$tree"
   examples=$tree/share/doc/kijolvar/examples
   sale=$(cat "$examples/sale.stdout")
 }
@@ -184,18 +188,30 @@ runs() {
 
 # ---- what the files hold
 
+# try_places: README lists exactly the places of the archive
+try_places() {
+  local places
+  places=$(sed -n '/^## What is in it$/,/^## A till/s/^| \(`[^|]*\) | .*/\1/p' "$tree/README.md" \
+    | tr -d '`,' | tr ' ' '\n')
+  told "each file of the archive is in a place that README lists" "" \
+    "$(find "$tree" ! -type d -printf '%P\n' | grep -vE "^($(paste -s -d'|' <<< "$places"))")"
+  told "each place that README lists is there" "" \
+    "$(cd "$tree" && xargs -I PLACE find PLACE -prune <<< "$places" 2>&1 > /dev/null)"
+}
+
 # try_files: the checksums, the manifest, and what the binaries export and need
 try_files() {
   local shared=$tree/lib/libkijolvar.so.$major sum='[0-9a-f]\{64\}' said="kijolvar $version, commit " file
   said+=$(sed -n 's/^commit: //p' "$tree/MANIFEST")
   told "SHA256SUMS" 0 "$(cd "$dist" && sha256sum --quiet -c SHA256SUMS 2>&1; echo $?)"
-  told "each file of the release is in SHA256SUMS" \
-    "$(find "$dist" -type f ! -name SHA256SUMS -printf '%f\n' | LC_ALL=C sort)" \
-    "$(sed 's/^[0-9a-f]*  //' "$dist/SHA256SUMS")"
+  told "its files are those of packaging.md" \
+    "$(sed -n "s/^| \`\([^\`]*VERSION[^\`]*\)\` .*/\1/p" "$tree/share/doc/kijolvar/packaging.md" \
+      | sed "s/VERSION/$version/" | LC_ALL=C sort)" \
+    "$(listed "$dist")"
   told "the manifest's checksums" 0 "$(cd "$tree" && sed -n "s/^\($sum\) *[0-9]* \(.*\)$/\1  \2/p" MANIFEST \
     | sha256sum --quiet -c 2>&1; echo $?)"
   told "the manifest's files" \
-    "$(find "$tree" -type f ! -name MANIFEST ! -name '*.whl' -printf '%P\n' | LC_ALL=C sort)" \
+    "$(find "$tree" -type f ! -name MANIFEST -printf '%P\n' | LC_ALL=C sort)" \
     "$(sed -n "s/^$sum *[0-9]* //p" "$tree/MANIFEST")"
   told "the exports are the calls of the headers" "$(declared | LC_ALL=C sort -u)" \
     "$(nm -D --defined-only "$shared" | sed -n 's/^[0-9a-f]* T \(.*\)@@.*/\1/p' | LC_ALL=C sort)"
@@ -234,25 +250,65 @@ unzip_one() {
   python3 -c 'import sys, zipfile; sys.stdout.buffer.write(zipfile.ZipFile(sys.argv[1]).read(sys.argv[2]))' "$1" "$2"
 }
 
-# try_again: the release is built once more, and tools/install lays out the same files, over an old one that is in use
+# try_again: the release is built once more, into a folder that has files of your own
 try_again() {
-  local place
+  mkdir "$work/again"
+  echo yours | tee "$work/again/photos.tar.gz" > "$work/again/notes.txt"
   "$top/tools/release" "${again[@]}" "$work/again" > "$work/said" 2>&1
   told "built again, the same bytes" "$(cat "$dist/SHA256SUMS")" "$(cat "$work/again/SHA256SUMS" 2>&1)"
-  mkdir -p -m 2775 "$work/prefix/bin"
+  told "tools/release leaves your files" yoursyours "$(cat "$work/again/photos.tar.gz" "$work/again/notes.txt" 2>&1 \
+    | tr -d '\n')"
+}
+
+# lay_earlier: an earlier version in $work/prefix: a file that is in use, a folder of another mode, a link to a folder,
+# and a list of what it installed, of which one path leads out
+lay_earlier() {
+  mkdir -p "$work/prefix/elsewhere/kijolvar/gone"
+  mkdir -m 2775 "$work/prefix/bin"
+  ln -s elsewhere "$work/prefix/share"
   echo old > "$work/prefix/bin/pos_console"
   ln "$work/prefix/bin/pos_console" "$work/in_use"
-  mkdir "$work/prefix/elsewhere"
-  ln -s elsewhere "$work/prefix/share"
+  touch "$work/prefix/share/kijolvar/gone/one" "$work/prefix/share/kijolvar/yours" "$work/outside"
+  printf '%s\n' share/kijolvar/gone/one share/kijolvar/gone bin ../outside > "$work/prefix/share/kijolvar/installed"
+}
+
+# try_install: tools/install lays out the same files as the archive, over those of an earlier version
+try_install() {
+  local place
+  lay_earlier
   "$top/tools/install" "$work/prefix" > "$work/said" 2>&1
   told "tools/install" 0 "$?"
   told "tools/install leaves a file that is in use" old "$(cat "$work/in_use")"
   told "tools/install leaves the mode of a folder" 2775 "$(stat -c %a "$work/prefix/bin")"
   told "tools/install leaves a link to a folder" elsewhere "$(readlink "$work/prefix/share")"
+  told "tools/install removes what is no longer there" "" "$(find "$work/prefix" -name gone)"
+  told "tools/install removes nothing else" "$work/outside" "$(find "$work/outside")"
+  rm "$work/prefix/share/kijolvar/yours"
   for place in bin include lib share; do
     told "tools/install lays out $place/ as the archive has it" "" \
-      "$(diff -r -x __pycache__ "$tree/$place" "$work/prefix/$place" 2>&1)"
+      "$(diff -r -x __pycache__ -x installed "$tree/$place" "$work/prefix/$place" 2>&1)"
   done
+}
+
+# try_uninstall: what tools/install made others may read, and its list removes it
+try_uninstall() {
+  local held=(env) prefix=$work/private/prefix command
+  [ "$(id -u)" -ne 0 ] || held=(setpriv --bounding-set=-dac_override --inh-caps=-dac_override)
+  (umask 077 && "$top/tools/install" "$prefix") > "$work/said" 2>&1
+  told "others may read what is installed" "" \
+    "$(find "$work/private" ! -perm -o+r; find "$work/private" -type d ! -perm -o+x)"
+  command=$(blocks "$tree/share/doc/kijolvar/packaging.md" "Install it" indented | grep installed)
+  touch "$prefix/share/yours"
+  (eval "${command/PREFIX/$prefix}") > "$work/said" 2>&1
+  told "packaging.md's command removes it" "0 $prefix/share/yours" \
+    "$? $(find "$work/private" \( ! -type d -o -name '*kijolvar*' \) | head -n 5)"
+  mkdir "$work/locked"
+  chmod 555 "$work/locked"
+  refused "a prefix that can't be written" "can't be written" "${held[@]}" "$top/tools/install" "$work/locked"
+  mkdir "$work/locked/bin"
+  chmod 555 "$work/locked/bin"
+  chmod 755 "$work/locked"
+  refused "a folder of it that can't be written" "can't be written" "${held[@]}" "$top/tools/install" "$work/locked"
 }
 
 # refused NAME WORDS COMMAND ..: whether a command is refused with these words
@@ -289,9 +345,37 @@ try_refusals() {
   sed -i 's/^#define KIJ_RELEASE .*/#define KIJ_RELEASE "9.9.9"/' "$clone/abi/c/kij.h"
   refused "another version in a header" "kij.h has version 9.9.9" "$release" --trial "$work/none"
   git -C "$clone" checkout -q abi
+  sed -i 's/kijolvar_[0-9.]*-1_amd64/kijolvar_9.9.9-1_amd64/' "$clone/README.md"
+  refused "another version of a package in README" "README.md has version 9.9.9" "$release" --trial "$work/none"
+  git -C "$clone" checkout -q README.md
+  sed -i 's/"kijolvar [0-9.]*" "Kijolvar"/"kijolvar 9.9.9" "Kijolvar"/' "$clone/crates/pos_tool/src/pages.rt"
+  refused "another version in the man page" "pages.rt has version 9.9.9" "$release" --trial "$work/none"
+  git -C "$clone" checkout -q crates
   sed -i 's/^#define KIJ_VERSION .*/#define KIJ_VERSION 99/' "$clone/abi/c/kij.h"
   refused "another interface by the same name" "the interfaces are" "$release" --trial "$work/none"
   [ -z "$built" ] || export KIJOLVAR_BUILT=$built
+}
+
+# try_record: without a name for the note no gate runs, and a log that git doesn't record stays. In a clone whose gate
+# is two lines
+try_record() {
+  local clone=$work/recorded said
+  local unnamed=(env -u EMAIL -u GIT_AUTHOR_EMAIL -u GIT_COMMITTER_EMAIL GIT_CONFIG_GLOBAL=/dev/null)
+  local named=(-c user.name=tester -c user.email=tester@localhost)
+  git clone -q --shared "$top" "$clone"
+  printf '#!/bin/sh\ntouch "%s/ran"\nprintf "0 skipped\\n5 passed, 0 failed\\n"\n' "$work" > "$clone/.ci/run"
+  git -C "$clone" "${named[@]}" commit -qam "A short gate"
+  git -C "$clone" config user.useConfigOnly true
+  refused "a record without a name" "set git's user.name and user.email" \
+    "${unnamed[@]}" GIT_CONFIG_SYSTEM=/dev/null "$clone/tools/release" --record
+  told "the gate didn't run for it" "" "$(find "$work/ran" 2> /dev/null)"
+  git -C "$clone" config user.name tester
+  git -C "$clone" config user.email tester@localhost
+  mkdir -p "$clone/.git/refs/notes"
+  touch "$clone/.git/refs/notes/gate.lock"
+  said=$(TMPDIR=$work "$clone/tools/release" --record 2>&1)
+  told "git's reason for no record" 1 "$(grep -c "gate.lock': File exists" <<< "$said")"
+  told "the log of the gate stays" "5 passed, 0 failed" "$(tail -n 1 "$(sed -n 's/.*printed is in //p' <<< "$said")")"
 }
 
 # ---- installs
@@ -316,6 +400,11 @@ try_readme() {
   told "the sale by README: C, the archive and Python" "$(printf '%s\n' "$sale" "$sale" "$sale")" \
     "$(grep -v '^Processing\|^Installing\|^Successfully' "$work/sale")"
   [ "$failed" -eq 0 ] || tail -n 5 "$work/said"
+  told "README names the wheel" 1 "$(grep -cF "$(cd "$outside" && echo ./*.whl | cut -c 3-)" \
+    "$tree/share/doc/kijolvar/README.md")"
+  refused "the wheel, by a pip of an older glibc or of another C library" "not a supported wheel on this platform" \
+    apart sh -c "${tree##*/}/day/venv/bin/pip download --no-index --no-deps --only-binary=:all: -d none \
+      --platform manylinux_2_30_x86_64 --platform musllinux_1_2_x86_64 --platform linux_x86_64 ./*.whl"
   blocks "$tree/share/doc/kijolvar/packaging.md" "Check it" indented | sed "1a cd $folder" > "$outside/check.sh"
   runs "the commands by which packaging.md checks a release" sh -e check.sh
 }
@@ -369,18 +458,24 @@ try_cargo() {
   sells "the sale as the crate's example" "$crate/target/debug/examples/sale"
 }
 
-# try_page NAME PYTHON SHARE LIBRARY: the page that shows a counter is served over the shared object
+# try_page NAME FOLDER COMMAND: a command serves the page that shows a counter, also beside a connection that waits
 try_page() {
   local name=$1
   shift
   cat > "$outside/page.sh" <<'SCRIPT'
-rm -f address
-"$1" "$2/kijolvar/page/serve.py" "$3" 0 > address &
+address=$PWD/address
+rm -f "$address"
+cd "$1"
+$2 0 > "$address" &
 for turn in 1 2 3 4 5 6 7 8 9 10; do
-  [ -s address ] || sleep 1
+  [ -s "$address" ] || sleep 1
 done
-"$1" -c 'import sys, urllib.request; print(urllib.request.urlopen(sys.argv[1]).readline().decode().lower(), end="")' \
-  "$(cat address)"
+python3 -c '
+import socket, sys, urllib.parse, urllib.request
+place = urllib.parse.urlsplit(sys.argv[1])
+waits = socket.create_connection((place.hostname, place.port))
+print(urllib.request.urlopen(sys.argv[1], timeout=20).readline().decode().lower(), end="")
+' "$(cat "$address")"
 kill $!
 SCRIPT
   told "$name" "<!doctype html>" "$(apart sh page.sh "$@" 2>&1)"
@@ -411,14 +506,14 @@ listing() {
     -o -path ./var/cache -o -path ./var/log \) -prune -o -print | grep -v '/ld.so.cache$' | LC_ALL=C sort)
 }
 
-# older DEB TO: the same package under an earlier version, with a file that the later one hasn't
-older() {
-  local folder=$work/older
+# renumber DEB VERSION TO: the same package under another version, with a file that the release's hasn't
+renumber() {
+  local folder=$work/renumbered name=${1##*/}
   rm -rf "$folder"
   dpkg-deb -R "$1" "$folder"
-  sed -i "s/^Version: .*/Version: 0.0.1-1/; s/(= [^)]*)/(= 0.0.1-1)/" "$folder/DEBIAN/control"
+  sed -i "s/^Version: .*/Version: $2/; s/(= [^)]*)/(= $2)/" "$folder/DEBIAN/control"
   echo old > "$(find "$folder/usr/share/doc" -mindepth 1 -maxdepth 1 -type d | head -n 1)/OLD"
-  dpkg-deb --root-owner-group -b "$folder" "$2/${1##*/}" > /dev/null
+  dpkg-deb --root-owner-group -b "$folder" "$3/${name%%_*}_$2_amd64.deb" > /dev/null
 }
 
 # try_debs: install, use, upgrade, purge
@@ -427,7 +522,7 @@ try_debs() {
   before=$(listing)
   mkdir "$outside/older"
   for deb in "$outside"/*.deb; do
-    older "$deb" "$outside/older"
+    renumber "$deb" 0.0.1-1 "$outside/older"
   done
   runs "dpkg installs the version before" sh -c 'dpkg -i older/*.deb'
   told "the version before is there" "0.0.1-1 0.0.1-1 0.0.1-1 0.0.1-1" "$(deb_versions)"
@@ -442,11 +537,34 @@ try_debs() {
   runs "CMake finds the package" sh -c 'cmake -S cmake -B cmake/system -DWANTED=0.1 && cmake --build cmake/system'
   sells "the sale by CMake from the packages" cmake/system/sale_static
   sells "the sale in Python from the packages" python3 /usr/share/doc/python3-kijolvar/examples/sale.py
-  try_page "the page is served from the packages" python3 /usr/share "/usr/lib/x86_64-linux-gnu/libkijolvar.so.$major"
+  try_page "the page is served from the packages" / \
+    "$(grep -o 'python3 /usr/share/kijolvar/page/[^`]*' "$tree/share/doc/kijolvar/packaging.md")"
   told "the day by the packages" "$(blocks "$tree/README.md" "A till's day" text)" \
     "$(apart sh -ec "mkdir other && cd other && . $inside/day.sh" 2>&1)"
+  try_dependent
   runs "dpkg purges" dpkg -P python3-kijolvar libkijolvar-dev libkijolvar kijolvar
   told "the purge leaves nothing" "$before" "$(listing)"
+}
+
+# try_dependent: a package that was built against the library stays with a later one of the same MAJOR alone
+try_dependent() {
+  local folder=$work/till needs
+  needs=$(apart dpkg-query --control-show libkijolvar shlibs | sed 's/^libkijolvar [0-9]* //')
+  mkdir -p "$folder/DEBIAN" "$outside/later"
+  printf '%s\n' 'Package: till' 'Version: 1' 'Architecture: amd64' 'Maintainer: A <a@b>' "Depends: $needs" \
+    'Description: a till' > "$folder/DEBIAN/control"
+  dpkg-deb --root-owner-group -b "$folder" "$outside/till.deb" > /dev/null
+  runs "a package that needs the library is installed" dpkg -i till.deb
+  told "a later library of this MAJOR leaves it" "Inst libkijolvar" "$(apt_plan "$major.99-1")"
+  told "that of the next MAJOR removes it" "Inst libkijolvar,Remv till" "$(apt_plan "$((major + 1)).0-1")"
+  runs "it is removed" dpkg -P till
+}
+
+# apt_plan VERSION: what apt would do with the library and till, to install this version of the library
+apt_plan() {
+  renumber "$outside/libkijolvar_$version-1_amd64.deb" "$1" "$outside/later"
+  apart apt-get -s install "./later/libkijolvar_$1_amd64.deb" 2>&1 \
+    | sed -n 's/^\(Inst libkijolvar\|Remv till\) .*/\1/p' | LC_ALL=C sort | paste -s -d,
 }
 
 # deb_versions: the versions of the four packages that are installed
@@ -464,7 +582,7 @@ try_local() {
   runs "the sale in C is built from /usr/local" sh -c \
     'cc -o sale_local /usr/local/share/doc/kijolvar/examples/sale.c $(pkg-config --cflags --libs kijolvar)'
   sells "the sale in C from /usr/local" ./sale_local
-  (cd "$tree" && find . ! -type d ! -name '*.whl' -printf '%P\n') | (cd "$root/usr/local" && xargs rm -f)
+  (cd "$tree" && find . ! -type d -printf '%P\n') | (cd "$root/usr/local" && xargs rm -f)
   find "$root/usr/local" -depth -type d -empty -path '*kijolvar*' -delete
   apart ldconfig
 }
@@ -511,6 +629,9 @@ try_old_glibc() {
   runs "the sale in C is built with glibc 2.31" sh -c "cc -o sale ${examples#"$outside/"}/sale.c \
     -I ${tree##*/}/include -L ${tree##*/}/lib -lkijolvar -Wl,-rpath,$inside/${tree##*/}/lib"
   sells "the sale in C with glibc 2.31" ./sale
+  runs "the packages without Python are installed there" sh -c \
+    "$(grep -o 'dpkg -i ./kijolvar_[^`]*' "$tree/README.md") && dpkg -s kijolvar libkijolvar libkijolvar-dev"
+  runs "they are purged" dpkg -P libkijolvar-dev libkijolvar kijolvar
 }
 
 # try_scripts: the conformance scripts over the program that ships
@@ -551,15 +672,19 @@ unpack
 lay_tools
 told "the kit isn't there" "" "$(apart sh -c 'command -v rt')"
 try_files
+try_places
 try_readme
 try_cmake
 try_cargo
-folder=$inside/${tree##*/}
-try_page "the page is served" "$folder/day/venv/bin/python" "$folder/share" "$folder/lib/libkijolvar.so.$major"
+try_page "the page is served from the archive" "${tree##*/}" \
+  "$(blocks "$tree/README.md" "A counter to look at" indented)"
 try_sdist
 if [ "$1" = --quick ]; then
   try_again
+  try_install
+  try_uninstall
   try_refusals
+  try_record
 else
   try_sdist_build
   try_debs

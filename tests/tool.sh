@@ -756,14 +756,18 @@ for shell in bash zsh fish; do
   done
 done
 told 'bash reads the completions' 0 "$(bash -n completions.bash; echo $?)"
-# completed WORD ..: what bash completes after these words
+# completed WORD ..: what bash completes after these words, a line each
 completed() {
-  bash -c '. ./completions.bash; compopt() { :; }; COMP_WORDS=("$@"); COMP_CWORD=$(($# - 1)); _kijolvar; echo "${COMPREPLY[*]}"' \
-    bash "$@"
+  bash -c '. ./completions.bash; compopt() { :; }; COMP_WORDS=("$@"); COMP_CWORD=$(($# - 1)); _kijolvar
+    printf "%s\n" "${COMPREPLY[@]}"' bash "$@"
 }
 told 'a command is completed' 'check create' "$(completed kijolvar c | tr ' ' '\n' | grep -E '^(check|create)$' | tr '\n' ' ' | sed 's/ $//')"
 told 'an option is completed' '--profile' "$(completed kijolvar run --p)"
 told 'a file is completed' 'till.toml' "$(completed kijolvar run till.tom)"
+mkdir 'shop 2'
+touch 'shop 1.totals' 'shop 2/till.totals'
+told 'a name with a space is completed whole' $'shop 1.totals\nshop 2' "$(completed kijolvar check shop | sort)"
+told 'a file in a folder is completed' 'shop 2/till.totals' "$(completed kijolvar check 'shop 2/')"
 told 'an option of test is completed' '--junit' "$(completed kijolvar test --j)"
 told 'a choice of colour is completed' 'always' "$(completed kijolvar test --color al)"
 told 'a shell is completed' 'fish' "$(completed kijolvar completions f)"

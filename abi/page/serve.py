@@ -20,6 +20,9 @@ LONGEST = 150_000
 class Handler(http.server.BaseHTTPRequestHandler):
     """One request after the other, over one till. What another site sends is refused."""
 
+    # Seconds. Browsers open connections ahead, and say nothing there.
+    timeout = 2
+
     def answer(self, status, kind, body):
         self.send_response(status)
         self.send_header("Content-Type", kind)

@@ -154,11 +154,15 @@ class Shop(Till):
         return told.get((fault.code, fault.extended), f"refused with {fault}")
 
     def files(self):
+        """The files of the totals: none if another control has claimed them all, and no bytes of a file that it has."""
         for index in range(int(self.peek("get totals NumberOfFiles") or 0)):
             name = self.peek(f"call totals findByIndex {index}")
+            if name is None:
+                return
             handle, size = self.peek(f"call totals find {name}").split()
             kept = self.peek(f"call totals read {handle} 0 {size}")
-            yield {"name": bytes.fromhex(name).decode("ascii"), "size": int(size), "bytes": kept.replace("-", "")}
+            yield {"name": bytes.fromhex(name).decode("ascii"), "size": int(size),
+                   "bytes": "claimed" if kept is None else kept.replace("-", "")}
 
     def display(self):
         shown = self.peek("show display")
