@@ -48,7 +48,7 @@ typedef struct {
 enum {
     /* The call did what it says. */
     KIJOLVAR_OK = 0,
-    /* Memory ran out, and nothing was done. Lines before one that is held may have been carried out. */
+    /* Memory ran out, and nothing was done but lines before one that is held. */
     KIJOLVAR_NO_MEMORY = 1,
     /* The profile is refused (docs/reference/profile.md). */
     KIJOLVAR_BAD_PROFILE = 2,

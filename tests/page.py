@@ -1,12 +1,13 @@
 #!/usr/bin/env python3
-"""Tries the page in a browser: a sale by clicks, and what is to be seen of the devices then. Usage:
-page.py BROWSER LIBRARY [PICTURE], as page.py chromium libkijolvar.so; a picture of the page goes into the file PICTURE.
-Its last line is 'N passed, M failed'."""
+"""Tries the page: its server, and in a browser a sale by clicks, and what is to be seen of the devices then. Usage:
+page.py LIBRARY [BROWSER [PICTURE]], as page.py libkijolvar.so chromium. Without BROWSER it tries the server alone. A
+picture of the page goes into the file PICTURE. Its last line is 'N passed, M failed'."""
 import base64
 import http.client
 import json
 import os
 import pathlib
+import socket
 import subprocess
 import sys
 import tempfile
@@ -159,28 +160,62 @@ def devices(page):
          page.text("#lines li:last-child").split("\n"))
 
 
+def response(port, method, path, body=None, **headers):
+    """The status and the body of the server's answer; None if it doesn't come."""
+    connection = http.client.HTTPConnection("127.0.0.1", port, timeout=20)
+    try:
+        connection.request(method, path, body, {key.replace("_", "-"): value for key, value in headers.items()})
+        answer = connection.getresponse()
+        return answer.status, answer.read()
+    except (OSError, http.client.HTTPException) as fault:
+        return None, str(fault).encode()
+    finally:
+        connection.close()
+
+
+def status(*words, **headers):
+    return response(*words, **headers)[0]
+
+
+def silent(port):
+    """Connections that say nothing, or half of what they should, hold up others only for a while."""
+    heads = ["POST /type HTTP/1.1", f"Host: 127.0.0.1:{port}", "Content-Type: application/json", "Content-Length: 9"]
+    with socket.create_connection(("127.0.0.1", port)), socket.create_connection(("127.0.0.1", port)) as other:
+        other.sendall("".join(f"{head}\r\n" for head in [*heads, ""]).encode())
+        told("behind connections that wait", 200, status(port, "GET", "/state"))
+
+
+def claims(port):
+    """The page shows what it can of totals that another control has claimed."""
+    def files_after(*lines):
+        code, body = response(port, "POST", "/type", json.dumps("\n".join(lines)), Content_Type="application/json")
+        return json.loads(body)["totals"]["files"] if code == 200 else body
+
+    before = files_after("get totals State")
+    told("a file of the totals", ["sales"], [file["name"] for file in before])
+    told("a file that another control has claimed", [{"name": "sales", "size": 8, "bytes": "claimed"}], files_after(
+        "release totals", "new other HardTotals", "open other totals", "set other DeviceEnabled true",
+        "call other claimFile 1 0"))
+    told("totals that another control has claimed", [], files_after("claim other 0"))
+    told("after the claim", before, files_after("close other", "claim totals 0"))
+
+
 def strangers(port):
     """What doesn't come from the page is refused."""
-    def status(method, path, body=None, **headers):
-        connection = http.client.HTTPConnection("127.0.0.1", port)
-        connection.request(method, path, body, {key.replace("_", "-"): value for key, value in headers.items()})
-        return connection.getresponse().status
-
-    told("another name", 403, status("GET", "/state", Host="example.org"))
-    told("a form of another site", 403, status("POST", "/type", "x=1", Content_Type="application/x-www-form-urlencoded"))
-    told("no text", 400, status("POST", "/type", "[1]", Content_Type="application/json"))
-    told("half a character", 400, status("POST", "/type", '"\\ud800"', Content_Type="application/json"))
-    told("nothing there", 404, status("GET", "/other"))
-    told("a control that was closed", 200, status("POST", "/type", '"close display\\nclose totals"', Content_Type="application/json"))
+    told("another name", 403, status(port, "GET", "/state", Host="example.org"))
+    told("a form of another site", 403,
+         status(port, "POST", "/type", "x=1", Content_Type="application/x-www-form-urlencoded"))
+    told("no text", 400, status(port, "POST", "/type", "[1]", Content_Type="application/json"))
+    told("half a character", 400, status(port, "POST", "/type", '"\\ud800"', Content_Type="application/json"))
+    told("nothing there", 404, status(port, "GET", "/other"))
+    told("a control that was closed", 200,
+         status(port, "POST", "/type", '"close display\\nclose totals"', Content_Type="application/json"))
 
 
-def main():
-    if len(sys.argv) not in (3, 4):
-        sys.exit(__doc__)
-    server = subprocess.Popen([sys.executable, "-B", str(TOP / "abi/page/serve.py"), sys.argv[2], "0"], stdout=subprocess.PIPE, text=True)
+def try_browser(program, address, picture):
+    """The page in a browser, and a picture of it if a file is named for it."""
     with tempfile.TemporaryDirectory() as folder:
-        address = server.stdout.readline().strip()
-        page = Browser(sys.argv[1], folder)
+        page = Browser(program, folder)
         try:
             page.open(address)
             deadline = time.time() + 30
@@ -190,15 +225,29 @@ def main():
                 time.sleep(0.1)
             sale(page)
             devices(page)
-            if len(sys.argv) == 4:
+            if picture:
                 page.click(article(1))
                 page.click(article(2))
-                pathlib.Path(sys.argv[3]).write_bytes(page.picture())
-            strangers(int(address.rstrip("/").rsplit(":", 1)[1]))
+                pathlib.Path(picture).write_bytes(page.picture())
         finally:
             page.close()
+
+
+def main():
+    if len(sys.argv) not in (2, 3, 4):
+        sys.exit(__doc__)
+    library, browser, picture = (sys.argv[1:] + ["", ""])[:3]
+    words = [sys.executable, "-B", str(TOP / "abi/page/serve.py"), library, "0"]
+    with subprocess.Popen(words, stdout=subprocess.PIPE, text=True) as server:
+        try:
+            address = server.stdout.readline().strip()
+            if browser:
+                try_browser(browser, address, picture)
+            port = int(address.rstrip("/").rsplit(":", 1)[1])
+            for trial in (silent, claims, strangers):
+                trial(port)
+        finally:
             server.terminate()
-            server.wait()
     print(f"{passed} passed, {failed} failed")
     sys.exit(failed > 0)
 

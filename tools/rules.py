@@ -20,6 +20,7 @@ own; it must if the first has no body. The contract of the first has to lead to 
 and those that their definitions use in turn. With --check it also plants a wrong cell of each kind in a row, which has
 to be found. Its last line is 'N passed, M failed', a row or a planted cell each.
 """
+import ast
 import glob
 import os
 import re
@@ -168,16 +169,28 @@ def test_in_crate(text):
     raise Fault(f"{crate} has no test {name}")
 
 
+def remarks(path):
+    """The numbers of a file's lines that are comment or docstring, and so check nothing."""
+    text = sources.read(path)
+    found = {number for number, line in enumerate(text.split("\n"), 1) if line.lstrip().startswith("#")}
+    if path.endswith(".py"):
+        for node in ast.walk(ast.parse(text)):
+            if isinstance(node, (ast.Module, ast.ClassDef, ast.FunctionDef)) and ast.get_docstring(node):
+                found.update(range(node.body[0].lineno, node.body[0].end_lineno + 1))
+    return found
+
+
 def words_in_file(text, quotes):
     path = text if text.startswith("tests/") else f"{SCRIPTS}/{text}"
     if not os.path.exists(os.path.join(sources.TOP, path)):
         raise Fault(f"there is no {path}")
     if len(quotes) != 1:
         raise Fault(f"it quotes no words of {text}")
+    remarked = remarks(path) if path.startswith("tests/") and path.endswith((".sh", ".py")) else set()
     for number, line in enumerate(sources.read(path).split("\n"), 1):
-        if quotes[0] in line:
+        if quotes[0] in line and number not in remarked:
             return f'[{text}](../../{path}#L{number}): "{quotes[0]}"'
-    raise Fault(f"{text} has the words {quotes[0]!r}")
+    raise Fault(f"no line of {text} but comments has the words {quotes[0]!r}")
 
 
 QUOTE = r'"([^"]+)"(?: => `[^`]*`)?'
@@ -230,6 +243,8 @@ PLANTS = [
     (5, lambda cell: re.sub(r"#L(\d+)", lambda at: f"#L{int(at[1]) + 1}", cell), "run tools/rules.py"),
     (5, lambda cell: "pos_run_tests: nothing_of_it", "no test"),
     (5, lambda cell: cell + '; tests/program.sh: "nothing of it"', "has the words"),
+    (5, lambda cell: cell + '; tests/rules.sh: "Checks docs"', "but comments"),
+    (5, lambda cell: cell + '; tests/powercut/powercut.py: "leaves its bytes"', "but comments"),
     (5, lambda cell: cell + "; disk.files.left", "quotes no words"),
 ]
 
