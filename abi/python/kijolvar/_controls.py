@@ -75,7 +75,8 @@ class StandardControl(Control):
             ClaimedError: Another control has claimed the device, which is an exclusive-use device.
             NotClaimedError: The control hasn't claimed the device, which is an exclusive-use device.
             NoHardwareError: The disk of the totals isn't formatted.
-            FailureError: The totals can't be recovered, or the disk failed.
+            FailureError: The totals can't be recovered.
+            DiskError: The disk failed, and the change may be in the file or not.
 
         UnifiedPOS 1.16, chapter Common Properties, Methods and Events.
         """
@@ -1098,10 +1099,11 @@ class HardTotals(StandardControl):
             ClosedError: The control is closed.
             ClaimedError: Another control has claimed the device.
             DisabledError: The control is disabled.
-            FailureError: The totals are off, the disk failed, or no handle is left.
+            FailureError: The totals are off, or no handle is left.
             IllegalError: The control is in a transaction, the name is bad, or the size is below 0.
             ExistsError: A file has the name.
             NoRoomError: The size is above FreeData, or there are as many files as there may be.
+            DiskError: The disk failed, and the change may be in the file or not.
 
         UnifiedPOS 1.16, chapter Hard Totals.
         """
@@ -1120,10 +1122,11 @@ class HardTotals(StandardControl):
             ClosedError: The control is closed.
             ClaimedError: Another control has claimed the device.
             DisabledError: The control is disabled.
-            FailureError: The totals are off, or the disk failed.
+            FailureError: The totals are off.
             IllegalError: The control is in a transaction.
             NoExistError: No file has the name.
             ClaimedError: Another control has claimed the file.
+            DiskError: The disk failed, and the change may be in the file or not.
 
         UnifiedPOS 1.16, chapter Hard Totals.
         """
@@ -1219,10 +1222,11 @@ class HardTotals(StandardControl):
             ClosedError: The control is closed.
             ClaimedError: Another control has claimed the device.
             DisabledError: The control is disabled.
-            FailureError: The totals are off, or the disk failed.
+            FailureError: The totals are off.
             IllegalError: No file has the handle, or the bytes aren't all within the file.
             ClaimedError: Another control has claimed the file.
             NoRoomError: The transaction has no room for the write.
+            DiskError: The disk failed, and the change may be in the file or not.
 
         UnifiedPOS 1.16, chapter Hard Totals.
         """
@@ -1243,10 +1247,11 @@ class HardTotals(StandardControl):
             ClosedError: The control is closed.
             ClaimedError: Another control has claimed the device.
             DisabledError: The control is disabled.
-            FailureError: The totals are off, or the disk failed.
+            FailureError: The totals are off.
             IllegalError: No file has the handle, or the value isn't that of a byte.
             ClaimedError: Another control has claimed the file.
             NoRoomError: The transaction has no room for the change.
+            DiskError: The disk failed, and the change may be in the file or not.
 
         UnifiedPOS 1.16, chapter Hard Totals.
         """
@@ -1267,10 +1272,11 @@ class HardTotals(StandardControl):
             ClosedError: The control is closed.
             ClaimedError: Another control has claimed the device.
             DisabledError: The control is disabled.
-            FailureError: The totals are off, or the disk failed.
+            FailureError: The totals are off.
             IllegalError: The control is in a transaction, no file has the handle, or the name is bad.
             ExistsError: A file has the name, be it this one.
             ClaimedError: Another control has claimed the file.
+            DiskError: The disk failed, and the change may be in the file or not.
 
         UnifiedPOS 1.16, chapter Hard Totals.
         """
@@ -1346,10 +1352,11 @@ class HardTotals(StandardControl):
             ClosedError: The control is closed.
             ClaimedError: Another control has claimed the device.
             DisabledError: The control is disabled.
-            FailureError: The totals are off, or the disk failed.
+            FailureError: The totals are off.
             IllegalError: The control is in no transaction.
             NoExistError: A file of the transaction was deleted.
             ClaimedError: Another control has claimed a file of the transaction.
+            DiskError: The disk failed, and the change may be in the file or not.
 
         UnifiedPOS 1.16, chapter Hard Totals.
         """

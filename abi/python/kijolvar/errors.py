@@ -111,7 +111,7 @@ class ExistsError(UposError):
 
 
 class FailureError(UposError):
-    """E_FAILURE (111): the device or the disk failed.
+    """E_FAILURE (111): the device failed, or the totals are off. A failed disk is a DiskError.
 
     UnifiedPOS 1.16, chapter Common Properties, Methods and Events.
     """

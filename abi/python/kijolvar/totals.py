@@ -67,7 +67,8 @@ class Totals(HardTotals):
         Raises:
             IllegalError: The control is in a transaction already.
             NoRoomError: Its changes are more than the totals have room for.
-            FailureError: The totals are off, or the disk failed.
+            FailureError: The totals are off.
+            DiskError: The disk failed, and the changes may be in the file, all of them, or not.
         """
         was_in_transaction = self.transaction_in_progress
         try:
