@@ -6,9 +6,11 @@ Usage: abi/typed_c.py, or abi/typed_c.py --check, which compares the files with 
 """
 import json
 import pathlib
-import re
 import sys
 import textwrap
+
+sys.dont_write_bytecode = True
+import over_library
 
 ABI = pathlib.Path(__file__).resolve().parent
 DESCRIPTION = json.loads((ABI / "description.json").read_text())
@@ -23,9 +25,6 @@ SHAPES = {"none": "NONE", "number": "NUMBER", "pair": "PAIR", "bytes": "BYTES", 
 CATEGORIES = {"CashDrawer": "KIJ_CASH_DRAWER", "Scanner": "KIJ_SCANNER", "LineDisplay": "KIJ_LINE_DISPLAY",
               "POSPrinter": "KIJ_POS_PRINTER", "HardTotals": "KIJ_HARD_TOTALS", None: "KIJ_NO_CATEGORY"}
 WRITTEN = "Written by abi/typed_c.py: don't change it by hand."
-# What the description says of E_FAILURE, and what is so over the library.
-FAILED = ("The device or the disk failed.",
-          "The device failed, or the totals are off. A failed disk is KIJ_DISK_FAILED.")
 
 
 def parts():
@@ -80,15 +79,14 @@ def range_text(about):
 
 
 def errors_text(errors):
-    """The errors in order, each with when it comes: a code that is extended comes with KIJ_E_EXTENDED. A disk that
-    failed is E_FAILURE in pos_console, as the description says. Over the library it has a code of its own."""
-    apart = [error | {"when": re.sub(", (or )?the disk failed", "", error["when"])} for error in errors]
+    """The errors in order, each with when it comes: a code that is extended comes with KIJ_E_EXTENDED."""
+    apart = over_library.without_disk(errors)
     for error in apart:
         name = constant(error["code"])
         is_plain = name.startswith("KIJ_E_")
         yield (name, error["when"]) if is_plain else ("KIJ_E_EXTENDED", f"{name}: {lowered(error['when'])}")
     if apart != errors:
-        yield "KIJ_DISK_FAILED", "The disk failed, and the change may be in the file or not."
+        yield "KIJ_DISK_FAILED", over_library.DISK_FAILED
 
 
 def lowered(text):
@@ -167,7 +165,7 @@ def enum(what, members):
 def constants():
     """The groups of constants: what each is, and its members."""
     yield "The result codes of the standard (ErrorCode).", [
-        (comment([code["summary"].replace(*FAILED)]), constant(code["name"]), code["number"])
+        (comment([over_library.summary_of(code["summary"], "KIJ_DISK_FAILED")]), constant(code["name"]), code["number"])
         for code in DESCRIPTION["result_codes"]]
     yield "The extended codes of the standard (ErrorCodeExtended), which come with KIJ_E_EXTENDED.", [
         (comment([f"{code['summary']} Of {code['category']}."]), constant(code["name"]), code["number"])

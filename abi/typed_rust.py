@@ -7,17 +7,16 @@ Usage: abi/typed_rust.py, or abi/typed_rust.py --check, which compares the files
 """
 import json
 import pathlib
-import re
 import sys
 import textwrap
+
+sys.dont_write_bytecode = True
+import over_library
 
 TOP = pathlib.Path(__file__).resolve().parent.parent
 DESCRIPTION = json.loads((TOP / "abi/description.json").read_text())
 WIDTH = 120
 WRITTEN = "Written by abi/typed_rust.py: don't change it by hand."
-# What the description says of E_FAILURE, and what is so over the library.
-FAILED = ("The device or the disk failed.", "The device failed, or the totals are off. A failed disk is "
-                                            "[`Cause::DiskFailed`](crate::Cause::DiskFailed).")
 
 # The enums of constants, and what each name begins with in the standard.
 ENUMS = {
@@ -72,12 +71,11 @@ def variant_link(code):
 
 
 def errors(listed, memory=False):
-    """The paragraph of the errors, in the order in which they are looked for. A disk that failed is E_FAILURE in
-    pos_console, as the description says. Over the library it has a cause of its own."""
-    apart = [error | {"when": re.sub(", (or )?the disk failed", "", error["when"])} for error in listed]
+    """The paragraph of the errors, in the order in which they are looked for."""
+    apart = over_library.without_disk(listed)
     lines = [f"- {variant_link(error['code'])}: {lowered(error['when'])}" for error in apart]
     if apart != listed:
-        lines.append("- [`Cause::DiskFailed`]: the disk failed, and the change may be in the file or not.")
+        lines.append(f"- [`Cause::DiskFailed`]: {lowered(over_library.DISK_FAILED)}")
     if memory:
         lines.append("- [`Cause::NoMemory`]: there was no memory.")
     return ["", "# Errors", "", *lines] if lines else []
@@ -157,7 +155,8 @@ def texts(name, members):
 def result_codes():
     members = [(variant(code["name"], "E_"), code["name"], code["number"], code["summary"])
                for code in DESCRIPTION["result_codes"] if code["number"] != 0]
-    said = [(*member, summary.replace(*FAILED)) for *member, summary in members]
+    said = [(*member, over_library.summary_of(summary, "[`Cause::DiskFailed`](crate::Cause::DiskFailed)"))
+            for *member, summary in members]
     return enum("ResultCode", "A result code of the standard (ErrorCode) by which a control refuses a call.", said) \
         + "\n" + texts("ResultCode", members)
 

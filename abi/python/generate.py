@@ -6,15 +6,16 @@ Usage: abi/python/generate.py, or abi/python/generate.py --check, which compares
 import builtins
 import json
 import pathlib
-import re
 import sys
 import textwrap
 
 HERE = pathlib.Path(__file__).resolve().parent
+sys.dont_write_bytecode = True
+sys.path.insert(0, str(HERE.parent))
+import over_library
+
 PACKAGE = HERE / "kijolvar"
 WIDTH = 120
-# What the description says of E_FAILURE, and what is so over the library.
-FAILED = ("The device or the disk failed.", "The device failed, or the totals are off. A failed disk is a DiskError.")
 HEAD = ('"""{}\n\nWritten by abi/python/generate.py: don\'t change it by hand.\n"""\n'
         "from __future__ import annotations\n")
 
@@ -152,7 +153,8 @@ def all_names(names):
 
 
 def error_class(code, base, number):
-    doc = docstring([f"{code['name']} ({number}): {lower_first(code['summary'].replace(*FAILED))}",
+    summary = over_library.summary_of(code["summary"], "a DiskError")
+    doc = docstring([f"{code['name']} ({number}): {lower_first(summary)}",
                      [wrapped(f"UnifiedPOS 1.16, chapter {code['chapter']}.", "    ")]], "    ")
     return (f"class {code['upper']}Error({base}):\n{doc}\n\n    name = \"{code['name']}\"\n"
             f"    summary = \"{code['summary']}\"")
@@ -206,16 +208,10 @@ def event_class(event):
 
 # ---- controls
 
-def over_library(errors):
-    """The errors of a call over the library. A disk that failed is E_FAILURE in pos_console, as the description says; here
-    it has an error of its own."""
-    return [error | {"when": re.sub(", (or )?the disk failed", "", error["when"])} for error in errors]
-
-
 def raised(errors, names, heading="Raises"):
-    found = [(full(names.errors[error["code"]]), error["when"]) for error in over_library(errors)]
-    if over_library(errors) != errors:
-        found.append(("DiskError", "The disk failed, and the change may be in the file or not."))
+    found = [(full(names.errors[error["code"]]), error["when"]) for error in over_library.without_disk(errors)]
+    if over_library.without_disk(errors) != errors:
+        found.append(("DiskError", over_library.DISK_FAILED))
     lines = [wrapped(f"{name}: {when}", " " * 12, " " * 4) for name, when in found]
     return [f"        {heading}:", *lines]
 
@@ -381,7 +377,7 @@ def reasons(found):
     for name, errors in told:
         lines.append(f'    "{name}": {{')
         whens = {}
-        for error in over_library(errors):
+        for error in over_library.without_disk(errors):
             if error["when"] not in whens.setdefault(error["code"], []):
                 whens[error["code"]].append(error["when"])
         lines += [reason_line(code, when) for code, when in whens.items()]
