@@ -1,8 +1,9 @@
 -- Lines that are carried out one after another, and may wait.
 use Rattle.pos_run.proofs.Common.{Appends, Appends-nil, Appends-trans, Counter, DiskGhosts, Finishes, Ghosts, Given, []}
-use Rattle.pos_run.proofs.Common.{IsRun, List, Request, Response, Result, Run, Session, Stops, Ok, Err, ap}
-use Rattle.pos_run.proofs.Common.{append-nil, append_assoc, arith, drop, given_after, length, machine, machine_runs}
-use Rattle.pos_run.proofs.Common.{refl, subst, sym, true, false, ℕ, ◌++◌, ◌<◌, ◌≤◌, ◌∙◌, ◌∷◌, ◌≡◌, ◌⊎◌, codes, get_or}
+use Rattle.pos_run.proofs.Common.{IsRun, List, Machine, Request, Response, Result, Run, Session, Stops, Ok, Err, ap}
+use Rattle.pos_run.proofs.Common.{append-nil, append_assoc, arith, drop, given_after, inl, inr, length, machine}
+use Rattle.pos_run.proofs.Common.{refl, runs_from, subst, sym, true, false, ℕ, ◌++◌, ◌<◌, ◌≤◌, ◌∙◌, ◌∷◌, ◌≡◌, ◌⊎◌}
+use Rattle.pos_run.proofs.Common.{codes, get_or}
 use Rattle.pos_run.proofs.Common.{suc, false≢true}
 use Rattle.std.proofs.Common.{take, ⊎_elim}
 use Rattle.std.proofs.lemmas.List.{take-append-drop}
@@ -14,10 +15,13 @@ use Rattle.pos_run.proofs.WantingLemmas.{one_wanting}
 use Rattle.std.proofs.Common.{length-append, slice_index_or}
 use Rattle.std.specs.Prelude.{◌≢◌}
 use Rattle.std.specs.declared.vec.Vec.{Vec}
-use Rattle.pos_counter.proofs.RunLemmas.{run_append}
-use Rattle.pos_counter.specs.Counters.{Stays}
+use Rattle.pos_counter.proofs.RunLemmas.{left_first}
+use Rattle.pos_counter.proofs.ServiceLemmas.{OnlyNow}
+use Rattle.pos_counter.specs.Counters.{IsLeftDuring, Stays}
 use Rattle.pos_counter.specs.Leaving.{Leaves, part_of}
+use Rattle.pos_disk.proofs.MomentLemmas.{followed_by, started, weaker}
 use Rattle.pos_disk.specs.Keeps.{KeepsDisk}
+use Rattle.pos_disk.specs.State.{DiskState, LeavesOnly}
 use Rattle.pos_drive.specs.declared.courses.Course.{Course}
 use Rattle.pos_drive.specs.declared.courses.Progress.{Progress}
 use Rattle.pos_drive.specs.declared.courses.Progress.TheVariants as progress
@@ -25,8 +29,10 @@ use Rattle.pos_script.specs.Lines.{lines_of}
 use Rattle.pos_script.specs.Text.{printed}
 use Rattle.pos_script.specs.Writing.{IsCut}
 use Rattle.pos_store.proofs.RecoveryLemmas.{both_keep}
+use Rattle.pos_store.specs.Standing.{StandsForOneOf}
 use Rattle.pos_streams.specs.Streams.{given_with}
 use Rattle.pos_streams.specs.declared.sink.WriteFault.{WriteFault}
+use Rattle.pos_totals.specs.Views.{TotalsView}
 use Rattle.pos_run.specs.Runs.{StopsAt}
 use Rattle.pos_run.specs.Transcript.{LineBecomes, LinesPrint, Outcome, Transcript}
 use Rattle.pos_run.specs.WaitingLines.{CarriesOn, Cuts, CutsOff, GivesFront, Holds, IsNotHeld, IsReady, LineLeaves}
@@ -74,6 +80,30 @@ long_text front back long is =
     let count : length (front ++ back) ≡ 7 = ap length is in
     omega (arith, long, count, length-append front back)
 
+-- two runs are one, and what is left during either is left during it
+during_both : (a b c : Machine) (steps more : List (Request × Response)) (first : Run a steps b) (second : Run b more c)
+    → (run : Run a (steps ++ more) c) × ((bytes : List ℕ)
+    → IsLeftDuring a steps b first bytes ⊎ IsLeftDuring b more c second bytes
+    → IsLeftDuring a (steps ++ more) c run bytes)
+during_both a b c [] more first second =
+    subst (λ (m : Machine). (run : Run m more c) × ((bytes : List ℕ)
+    → StandsForOneOf m.totals.left bytes ⊎ IsLeftDuring b more c second bytes → IsLeftDuring m more c run bytes)) first
+    (second, λ bytes. ⊎_elim (left_first b c more second bytes) (λ h. h))
+during_both a b c (s ∷ steps) more first second =
+    let (run, covers) = during_both first.0 b c steps more first.2 second in (
+      (first.0, first.1, run),
+      λ bytes. ⊎_elim (⊎_elim (λ h. inl h) (λ h. inr (covers bytes (inl h)))) (λ h. inr (covers bytes (inr h))),
+    )
+
+-- a run to this machine is one to an equal one, with the same moments
+arrives : {D : Type 0} (state : D → DiskState) (old : DiskState) {d e : D} (m : Machine) {n k : Machine}
+    (steps : List (Request × Response)) → d ≡ e → n ≡ k → (run : Run m steps n)
+    → LeavesOnly old (state d) (IsLeftDuring m steps n run)
+    → (again : Run m steps k) × LeavesOnly old (state e) (IsLeftDuring m steps k again)
+arrives {D} state old {d} m {n} {k} steps here same run any_moment =
+    let P : D → Machine → Type 0 = λ x y. (r : Run m steps y) × LeavesOnly old (state x) (IsLeftDuring m steps y r) in
+    subst (λ x. P x k) here (subst (λ y. P d y) same (run, any_moment))
+
 module _ {D P : Type 0} (bound : DiskGhosts D) (peripherals : Ghosts P) where
   keeps_same : (disk : D) → KeepsDisk bound disk disk
   keeps_same disk = record { size = refl; honest = (λ h. h, λ h. h); later = λ h. omega arith; fixed = refl }
@@ -87,30 +117,35 @@ module _ {D P : Type 0} (bound : DiskGhosts D) (peripherals : Ghosts P) where
       both_keep bound a.totals.disk run.0.totals.disk b.totals.disk run.1.kept (run_keeps run.0 b steps run.2)
 
   -- lines that a counter ran by, the machine ran by
-  pub runs_lines : {a b : Counter D P} {s left : Session} {lines : List (List ℕ)} {text : List ℕ}
+  pub runs_lines : ((disk : D) → OnlyNow bound disk) → {a b : Counter D P} {s left : Session} {lines : List (List ℕ)}
+      {text : List ℕ}
       → Transcript (IsRun bound peripherals) a s lines text left b → RunsLines bound peripherals a s lines text b left
-  runs_lines {a} {b} done = λ standing leaves.
-      let (later, leave, run) = machine_runs bound peripherals a b done.steps standing leaves done.run in
-      (later, leave, record { steps = done.steps; run = run; prints = done.prints })
+  runs_lines only {a} {b} done = λ standing leaves.
+      let r = runs_from bound peripherals a b done.steps standing only leaves done.run in
+      record {
+        after = r.after;
+        leaves = r.leaves;
+        done = record { steps = done.steps; run = r.run; prints = done.prints };
+        any_moment = r.any_moment;
+      }
 
   -- then the counter stays as it is to the machine
   runs_stay : (a : Counter D P) {b c : Counter D P} {s left : Session} {lines : List (List ℕ)} {text : List ℕ}
       → RunsLines bound peripherals a s lines text b left → Stays peripherals b c
       → RunsLines bound peripherals a s lines text c left
   runs_stay a {b} {c} runs stays = λ standing leaves.
-      let (later, leave, done) = runs standing leaves in
-      let same : machine peripherals c (part_of bound c.totals later) ≡ machine peripherals b
-      (part_of bound b.totals later) = ap (λ v. machine peripherals c (part_of bound v later)) stays.totals
-      ∙ stays.machine (part_of bound b.totals later) in (
-        later,
-        subst (λ v. Leaves bound v later) (sym stays.totals) leave,
-        record {
-          steps = done.steps;
-          run = subst (λ m. Run (machine peripherals a (part_of bound a.totals standing)) done.steps m)
-              (sym same) done.run;
-          prints = done.prints;
-        },
-      )
+      let r = runs standing leaves in
+      let same : machine peripherals b (part_of bound b.totals r.after) ≡ machine peripherals c
+      (part_of bound c.totals r.after) = sym (ap (λ v. machine peripherals c (part_of bound v r.after)) stays.totals
+      ∙ stays.machine (part_of bound b.totals r.after)) in
+      let (run, any_moment) = arrives bound.state (bound.state a.totals.disk) _ r.done.steps
+      (sym (ap (λ (v : TotalsView D). v.disk) stays.totals)) same r.done.run r.any_moment in
+      record {
+        after = r.after;
+        leaves = subst (λ v. Leaves bound v r.after) (sym stays.totals) r.leaves;
+        done = record { steps = r.done.steps; run = run; prints = r.done.prints };
+        any_moment = any_moment;
+      }
 
   kept_stay : (a : Counter D P) {b c : Counter D P} → KeepsDisk bound a.totals.disk b.totals.disk
       → Stays peripherals b c → KeepsDisk bound a.totals.disk c.totals.disk
@@ -137,11 +172,17 @@ module _ {D P : Type 0} (bound : DiskGhosts D) (peripherals : Ghosts P) where
   }
 
   -- no line yet
-  pub tells_none : (c : Counter D P) (s : Session) (given : Given)
+  pub tells_none : ((disk : D) → OnlyNow bound disk) → (c : Counter D P) (s : Session) (given : Given)
       → RunsAndWrites bound peripherals c s [] given given c s
-  tells_none c s given = record {
+  tells_none only c s given = record {
     text = [];
-    runs = λ standing leaves. (standing, leaves, record { steps = []; run = refl; prints = (refl, refl, refl) });
+    runs = λ standing leaves. record {
+      after = standing;
+      leaves = leaves;
+      done = record { steps = []; run = refl; prints = (refl, refl, refl) };
+      any_moment = started (bound.state c.totals.disk) (StandsForOneOf standing)
+          (λ bytes since. leaves.leaves bytes (only c.totals.disk bytes leaves.honest since));
+    };
     written = Appends-nil given;
     kept = keeps_same c.totals.disk;
   }
@@ -152,31 +193,54 @@ module _ {D P : Type 0} (bound : DiskGhosts D) (peripherals : Ghosts P) where
   tells_held {before} h = record {
     text = [];
     runs = λ standing leaves.
-        let (later, leave, same, names) = h.stays standing leaves in
-        (later, leave, record { steps = []; run = same; prints = (refl, refl, names) });
+        let stays = h.stays standing leaves in
+        record {
+          after = stays.after;
+          leaves = stays.leaves;
+          done = record { steps = []; run = stays.machine; prints = (refl, refl, stays.still) };
+          any_moment = stays.any_moment;
+        };
     written = h.nothing ∙ Appends-nil before;
     kept = h.kept;
   }
 
   -- lines and then more
+  lines_join : (a b c : Counter D P) {s mid left : Session} {lines more : List (List ℕ)} {text rest : List ℕ}
+      → RunsLines bound peripherals a s lines text b mid → RunsLines bound peripherals b mid more rest c left
+      → RunsLines bound peripherals a s (lines ++ more) (text ++ rest) c left
+  lines_join a b c {s} {mid} {left} {lines} {more} {text} {rest} first second = λ standing leaves.
+      let one = first standing leaves in
+      let two = second one.after one.leaves in
+      let A = machine peripherals a (part_of bound a.totals standing) in
+      let B = machine peripherals b (part_of bound b.totals one.after) in
+      let C = machine peripherals c (part_of bound c.totals two.after) in
+      let (run, covers) = during_both A B C one.done.steps two.done.steps one.done.run two.done.run in
+      let During : List ℕ → Type 0 = IsLeftDuring A (one.done.steps ++ two.done.steps) C run in
+      let before : LeavesOnly (bound.state a.totals.disk) (bound.state b.totals.disk) During =
+      weaker _ _ (IsLeftDuring A one.done.steps B one.done.run) During (λ bytes h. covers bytes (inl h))
+      one.any_moment in
+      let then : LeavesOnly (bound.state b.totals.disk) (bound.state c.totals.disk) During =
+      weaker _ _ (IsLeftDuring B two.done.steps C two.done.run) During (λ bytes h. covers bytes (inr h))
+      two.any_moment in
+      record {
+        after = two.after;
+        leaves = two.leaves;
+        done = record {
+          steps = one.done.steps ++ two.done.steps;
+          run = run;
+          prints = prints_join s lines one.done.steps text mid more two.done.steps rest left one.done.prints
+              two.done.prints;
+        };
+        any_moment = followed_by _ _ _ During before then;
+      }
+
   pub tells_join : {a b c : Counter D P} {s mid left : Session} {lines more : List (List ℕ)}
       {before between after : Given} → RunsAndWrites bound peripherals a s lines before between b mid
       → RunsAndWrites bound peripherals b mid more between after c left
       → RunsAndWrites bound peripherals a s (lines ++ more) before after c left
-  tells_join {a} {b} {c} {s} {mid} {left} {lines} {more} first second = record {
+  tells_join {a} {b} {c} first second = record {
     text = first.text ++ second.text;
-    runs = λ standing leaves.
-        let (one, leave, done) = first.runs standing leaves in
-        let (two, there, further) = second.runs one leave in (
-          two,
-          there,
-          record {
-            steps = done.steps ++ further.steps;
-            run = run_append _ _ _ done.steps further.steps done.run further.run;
-            prints = prints_join s lines done.steps first.text mid more further.steps second.text left done.prints
-                further.prints;
-          },
-        );
+    runs = lines_join a b c first.runs second.runs;
     written = Appends-trans _ _ _ first.text second.text first.written second.written;
     kept = both_keep bound a.totals.disk b.totals.disk c.totals.disk first.kept second.kept;
   }
@@ -223,8 +287,9 @@ module _ {D P : Type 0} (bound : DiskGhosts D) (peripherals : Ghosts P) where
       → Stops (IsRun bound peripherals) a s (line ∷ []) before after left b → StopsAlone a s line before after b left
   stops_alone h = alone h.earlier h.later h.split h.done h.failed
 
-  module _ (a b : Counter D P) (s left : Session) (lines : List (List ℕ)) (line : List ℕ) (only : lines ≡ line ∷ [])
-      (start before after now : Given) (empty : start ≡ given_with [] 0) (far : Progress) where
+  module _ (only : (disk : D) → OnlyNow bound disk) (a b : Counter D P) (s left : Session) (lines : List (List ℕ))
+      (line : List ℕ) (is_one : lines ≡ line ∷ []) (start before after now : Given) (empty : start ≡ given_with [] 0)
+      (far : Progress) where
     -- a line whose text failed
     pub cuts_failed : Stops (IsRun bound peripherals) a s lines start now left b
         → (now.faults ≡ 0) ⊎ (8 ≤ length now.bytes) → GivesFront before after now.bytes
@@ -232,7 +297,7 @@ module _ {D P : Type 0} (bound : DiskGhosts D) (peripherals : Ghosts P) where
     cuts_failed h fails (given, held, split, written) =
         let stops : Stops (IsRun bound peripherals) a s (line ∷ []) (given_with [] 0) now left b =
         subst (λ g. Stops (IsRun bound peripherals) a s (line ∷ []) g now left b) empty
-        (subst (λ (ls : List (List ℕ)). Stops (IsRun bound peripherals) a s ls start now left b) only h) in
+        (subst (λ (ls : List (List ℕ)). Stops (IsRun bound peripherals) a s ls start now left b) is_one h) in
         let (text, done, cut) = stops_alone stops in
         let (front, back, is, some, failed) = cut in
         let bytes : now.bytes ≡ front = ap (λ (g : Given). g.bytes) failed in
@@ -241,7 +306,7 @@ module _ {D P : Type 0} (bound : DiskGhosts D) (peripherals : Ghosts P) where
         ⊎_elim (λ none. absurd (omega (arith, none, faults))) (λ are. subst (λ l. 8 ≤ length l) bytes are) fails in (
           record {
             text = text;
-            runs = runs_lines done;
+            runs = runs_lines only done;
             front = (
               given,
               held ++ back,
@@ -258,7 +323,7 @@ module _ {D P : Type 0} (bound : DiskGhosts D) (peripherals : Ghosts P) where
       bytes_are = ap (λ (g : Given). g.bytes) (done.written ∙ ap (λ g. given_after g done.text) empty)
 
       ran : Transcript (IsRun bound peripherals) a s (line ∷ []) done.text left b
-      ran = subst (λ (ls : List (List ℕ)). Transcript (IsRun bound peripherals) a s ls done.text left b) only
+      ran = subst (λ (ls : List (List ℕ)). Transcript (IsRun bound peripherals) a s ls done.text left b) is_one
           done.transcript
 
       -- a line whose text was given
@@ -267,7 +332,7 @@ module _ {D P : Type 0} (bound : DiskGhosts D) (peripherals : Ghosts P) where
       tells_given written not_held = (
         record {
           text = done.text;
-          runs = runs_lines ran;
+          runs = runs_lines only ran;
           written = subst (Appends before after) bytes_are written;
           kept = run_keeps a b ran.steps ran.run;
         },
@@ -280,7 +345,7 @@ module _ {D P : Type 0} (bound : DiskGhosts D) (peripherals : Ghosts P) where
       cuts_given front not_held = (
         record {
           text = done.text;
-          runs = runs_lines ran;
+          runs = runs_lines only ran;
           front = subst (GivesFront before after) bytes_are front;
           kept = run_keeps a b ran.steps ran.run;
         },
@@ -294,9 +359,15 @@ module _ {D P : Type 0} (bound : DiskGhosts D) (peripherals : Ghosts P) where
           subst (λ (t : List ℕ). LinesPrint s (line ∷ []) ran.steps t left) (sym bytes_are ∙ memory) ran.prints in
           record {
             stays = λ standing leaves.
-                let (later, leave, run) = machine_runs bound peripherals a b ran.steps standing leaves ran.run in
-                let (same, names) = one_wanting line prints run in
-                (later, leave, same, names);
+                let r = runs_from bound peripherals a b ran.steps standing only leaves ran.run in
+                let (same, names, idle) = one_wanting line prints r.run in
+                record {
+                  after = r.after;
+                  leaves = r.leaves;
+                  machine = same;
+                  still = names;
+                  any_moment = weaker _ _ _ (StandsForOneOf standing) idle r.any_moment;
+                };
             nothing = refl;
             kept = run_keeps a b ran.steps ran.run;
           }
@@ -324,9 +395,10 @@ module _ {D P : Type 0} (bound : DiskGhosts D) (peripherals : Ghosts P) where
 
   module _ {A : Type 0} where
     -- no line yet
-    pub carries_none : (c : Counter D P) (s : Session) (texts : List (Vec ℕ A)) (given : Given)
+    pub carries_none : ((disk : D) → OnlyNow bound disk) → (c : Counter D P) (s : Session) (texts : List (Vec ℕ A))
+        (given : Given)
         → CarriesOn bound peripherals c s texts texts given given c s
-    carries_none c s texts given = record { carried = []; split = refl; tells = tells_none c s given }
+    carries_none only c s texts given = record { carried = []; split = refl; tells = tells_none only c s given }
 
     module _ (a b : Counter D P) {c : Counter D P} (s : Session) {mid : Session} (left : Session)
         {texts : List (Vec ℕ A)} (before : Given) {between : Given} (after : Given) where

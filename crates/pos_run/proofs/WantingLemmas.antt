@@ -1,6 +1,6 @@
 -- A line that prints `memory` changed nothing.
 use Rattle.std.proofs.Common.{Bool, List, Option, Some, None, [], ap, arith, refl, subst, sym, true, false, get_or, ℕ}
-use Rattle.std.proofs.Common.{◌++◌, ◌∷◌, ◌≡◌, ◌∙◌, ◌⊎◌, inl, inr}
+use Rattle.std.proofs.Common.{◌++◌, ◌∷◌, ◌≡◌, ◌∙◌, ◌⊎◌, inl, inr, ⊎_elim}
 use Rattle.std.proofs.lemmas.List.{append_cancel_right}
 use Rattle.pos_run.proofs.Common.{append-nil}
 use Rattle.std.specs.Bool.{MatchBool}
@@ -19,10 +19,12 @@ use Rattle.pos_script.specs.declared.print.LineReply.TheVariants as reply
 use Rattle.pos_script.specs.Arguments.{Reading}
 use Rattle.pos_script.specs.Commands.{LineRequest, asked_by}
 use Rattle.pos_script.specs.Lines.{is_quiet}
+use Rattle.pos_counter.specs.Counters.{IsLeftDuring}
 use Rattle.pos_counter.specs.Machine.{Machine}
 use Rattle.pos_counter.specs.Steps.{Request, Response, Run, Step, Wants, NewControl, CallOf, InputTo, WorkOn}
 use Rattle.pos_counter.specs.Steps.{Snapshot, Made, Full, Answered, TakenIn, NoDevice, WrongInput}
 use Rattle.pos_counter.specs.Steps.{Worked, Delivered, Shown, Attached, NotAttached, Detached, NotDetached, OutOfMemory}
+use Rattle.pos_store.specs.Standing.{StandsForOneOf}
 use Rattle.pos_run.specs.Transcript.{AskingBecomes, LineBecomes, LinesPrint, Outcome, ReadingBecomes, RequestBecomes}
 use Rattle.pos_run.specs.Transcript.{Session, passed_over, rebuke, request_of, session_after, turned_down}
 
@@ -87,9 +89,14 @@ kept : (s : Session) (asking : LineRequest) → session_after s asking OutOfMemo
 kept s (NewControl name category) = refl
 kept s asking = refl
 
+-- a run changed nothing, and a crash in it leaves what may be left before
+abbrev pub Idles : Session → Session → List (Request × Response) → Machine → Machine → Type 0
+Idles s left steps m n = (run : Run m steps n) → (n ≡ m) × (left ≡ s)
+    × ((bytes : List ℕ) → IsLeftDuring m steps n run bytes → StandsForOneOf m.totals.left bytes)
+
 -- a line of this outcome changed nothing, where it told that there was no memory
 abbrev Quiets : Session → Outcome → Machine → Machine → Type 0
-Quiets s o m n = o.reply ≡ Some (codes "memory") → Run m o.steps n → (n ≡ m) × (o.session ≡ s)
+Quiets s o m n = o.reply ≡ Some (codes "memory") → Idles s o.session o.steps m n
 
 abbrev told_in : Option (List ℕ) → List ℕ
 told_in None = []
@@ -98,14 +105,16 @@ told_in (Some text) = text
 module _ (s : Session) (m n : Machine) where
   asked_nothing : {o : Outcome} {reply : Option (List ℕ)} → o ≡ record { reply = reply; steps = []; session = s }
       → Quiets s o m n
-  asked_nothing is = subst (λ x. Quiets s x m n) (sym is) (λ told run. (run, refl))
+  asked_nothing is = subst (λ x. Quiets s x m n) (sym is) (λ told run. (run, refl, λ bytes h. h))
 
   by_response : (asking : LineRequest) (request : Request) {r : Response} → r ≡ OutOfMemory
-      → Run m ((request, r) ∷ []) n → (n ≡ m) × (session_after s asking r ≡ s)
-  by_response asking request is run = (
-    run.2 ∙ no_step request (subst (λ x. Step m request x run.0) is run.1),
-    ap (session_after s asking) is ∙ kept s asking,
-  )
+      → Idles s (session_after s asking r) ((request, r) ∷ []) m n
+  by_response asking request is run =
+      let same = no_step request (subst (λ x. Step m request x run.0) is run.1) in (
+        run.2 ∙ same,
+        ap (session_after s asking) is ∙ kept s asking,
+        λ bytes. ⊎_elim (λ h. h) (subst (λ (x : Machine). StandsForOneOf x.totals.left bytes) same),
+      )
 
   by_request : (asking : LineRequest) {o : Outcome} {request : Request} → RequestBecomes s asking request o
       → Quiets s o m n
@@ -146,10 +155,10 @@ told_memory (Some r) e = ap Some (append_cancel_right r (codes "memory") (10 ∷
 
 -- one line that printed it
 pub one_wanting : {s left : Session} (line : List ℕ) {steps : List (Request × Response)} {m n : Machine}
-    → LinesPrint s (line ∷ []) steps (codes "memory\n") left → Run m steps n → (n ≡ m) × (left ≡ s)
-one_wanting {s} line {steps} {m} {n} (o, more, rest, becomes, (none, nothing, same), is_steps, is_text) run =
-    let all : steps ≡ o.steps = is_steps ∙ ap (λ x. o.steps ++ x) none ∙ append-nil o.steps in
+    → LinesPrint s (line ∷ []) steps (codes "memory\n") left → Idles s left steps m n
+one_wanting {s} {left} line {steps} {m} {n} (o, more, rest, becomes, (none, nothing, same), is_steps, is_text) =
+    let all : o.steps ≡ steps = sym (is_steps ∙ ap (λ x. o.steps ++ x) none ∙ append-nil o.steps) in
     let text : printed o.reply ≡ codes "memory\n" =
     sym (is_text ∙ ap (λ x. printed o.reply ++ x) nothing ∙ append-nil (printed o.reply)) in
-    let h = by_line s m n line o becomes (told_memory o.reply text) (subst (λ x. Run m x n) all run) in
-    (h.0, same ∙ h.1)
+    subst (λ x. Idles s x steps m n) (sym same) (subst (λ x. Idles s o.session x m n) all
+    (by_line s m n line o becomes (told_memory o.reply text)))

@@ -11,14 +11,15 @@ use Rattle.pos_run.proofs.waiting_lines.carry_on.Goals as goal
 
 pub returns-then-is_out-clause-carried : goal.returns-then-is_out-clause-carried
 returns-then-is_out-clause-carried g c = (
-  carries_none g.D.Disk g.P.Peripheral c.args.counter.now (session_of g.P.Peripheral c.args.names.now c.args.spares.now)
+  carries_none g.D.Disk g.P.Peripheral g.met.D.Disk.only_now c.args.counter.now
+      (session_of g.P.Peripheral c.args.names.now c.args.spares.now)
       c.args.lines.now.items (g.W.Sink.given c.args.writer.now),
   subst (λ (p : Progress). is_out p ≡ true) c.progress.ensures (sym c.is_out.ensures ∙ c.if-is_out.true),
 )
 
 pub loop-line-init : goal.loop-line-init
 loop-line-init g c = record {
-  carries = carries_none g.D.Disk g.P.Peripheral c.args.counter.now
+  carries = carries_none g.D.Disk g.P.Peripheral g.met.D.Disk.only_now c.args.counter.now
       (session_of g.P.Peripheral c.args.names.now c.args.spares.now) c.args.lines.now.items
       (g.W.Sink.given c.args.writer.now);
   lines = c.requires.lines;

@@ -8,8 +8,8 @@ use Rattle.std.specs.Prelude.{true, ◌≡◌}
 use Rattle.pos_run.proofs.waiting_lines.run_held.Goals as goal
 
 pub returns-in_default-clause-line : goal.returns-in_default-clause-line
-returns-in_default-clause-line g c line_in one = cuts_failed g.D.Disk g.P.Peripheral c.args.counter.now
-    c.run_given_lines.new.counter (session_of g.P.Peripheral c.args.names.now c.args.spares.now)
+returns-in_default-clause-line g c line_in one = cuts_failed g.D.Disk g.P.Peripheral g.met.D.Disk.only_now
+    c.args.counter.now c.run_given_lines.new.counter (session_of g.P.Peripheral c.args.names.now c.args.spares.now)
     (session_of g.P.Peripheral c.run_given_lines.new.names c.run_given_lines.new.spares)
     (lines_of c.args.line.now) line_in one (text_of c.new-text.result) (g.W.Sink.given c.args.writer.now)
     (g.W.Sink.given c.write_to.new.writer) (text_of c.run_given_lines.new.writer) c.new-text.ensures
@@ -17,8 +17,8 @@ returns-in_default-clause-line g c line_in one = cuts_failed g.D.Disk g.P.Periph
     c.write_to.ensures.front
 
 pub returns-in-Ok-write_to-clause-line : goal.returns-in-Ok-write_to-clause-line
-returns-in-Ok-write_to-clause-line g c line_in one = tells_given g.D.Disk g.P.Peripheral c.args.counter.now
-    c.run_given_lines.new.counter (session_of g.P.Peripheral c.args.names.now c.args.spares.now)
+returns-in-Ok-write_to-clause-line g c line_in one = tells_given g.D.Disk g.P.Peripheral g.met.D.Disk.only_now
+    c.args.counter.now c.run_given_lines.new.counter (session_of g.P.Peripheral c.args.names.now c.args.spares.now)
     (session_of g.P.Peripheral c.run_given_lines.new.names c.run_given_lines.new.spares)
     (lines_of c.args.line.now) line_in one (text_of c.new-text.result) (g.W.Sink.given c.args.writer.now)
     (g.W.Sink.given c.write_to-in-Printed.new.writer) (text_of c.run_given_lines.new.writer) c.new-text.ensures
@@ -27,8 +27,8 @@ returns-in-Ok-write_to-clause-line g c line_in one = tells_given g.D.Disk g.P.Pe
     c.in-Printed.ensures)
 
 pub returns-in-Printed-clause-line : goal.returns-in-Printed-clause-line
-returns-in-Printed-clause-line g c line_in one = cuts_given g.D.Disk g.P.Peripheral c.args.counter.now
-    c.run_given_lines.new.counter (session_of g.P.Peripheral c.args.names.now c.args.spares.now)
+returns-in-Printed-clause-line g c line_in one = cuts_given g.D.Disk g.P.Peripheral g.met.D.Disk.only_now
+    c.args.counter.now c.run_given_lines.new.counter (session_of g.P.Peripheral c.args.names.now c.args.spares.now)
     (session_of g.P.Peripheral c.run_given_lines.new.names c.run_given_lines.new.spares)
     (lines_of c.args.line.now) line_in one (text_of c.new-text.result) (g.W.Sink.given c.args.writer.now)
     (g.W.Sink.given c.write_to-in-Printed.new.writer) (text_of c.run_given_lines.new.writer) c.new-text.ensures
@@ -38,7 +38,7 @@ returns-in-Printed-clause-line g c line_in one = cuts_given g.D.Disk g.P.Periphe
 
 pub returns-in-Waits-clause-line : goal.returns-in-Waits-clause-line
 returns-in-Waits-clause-line g c line_in one = (
-  holds_line g.D.Disk g.P.Peripheral c.args.counter.now c.run_given_lines.new.counter
+  holds_line g.D.Disk g.P.Peripheral g.met.D.Disk.only_now c.args.counter.now c.run_given_lines.new.counter
       (session_of g.P.Peripheral c.args.names.now c.args.spares.now)
       (session_of g.P.Peripheral c.run_given_lines.new.names c.run_given_lines.new.spares)
       (lines_of c.args.line.now) line_in one (text_of c.new-text.result) (g.W.Sink.given c.args.writer.now)
@@ -49,7 +49,7 @@ returns-in-Waits-clause-line g c line_in one = (
 
 pub returns-clause-line : goal.returns-clause-line
 returns-clause-line g c line_in one = (
-  holds_line g.D.Disk g.P.Peripheral c.args.counter.now c.run_given_lines.new.counter
+  holds_line g.D.Disk g.P.Peripheral g.met.D.Disk.only_now c.args.counter.now c.run_given_lines.new.counter
       (session_of g.P.Peripheral c.args.names.now c.args.spares.now)
       (session_of g.P.Peripheral c.run_given_lines.new.names c.run_given_lines.new.spares)
       (lines_of c.args.line.now) line_in one (text_of c.new-text.result) (g.W.Sink.given c.args.writer.now)
