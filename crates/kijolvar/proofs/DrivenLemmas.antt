@@ -19,9 +19,10 @@ use Rattle.pos_run.specs.WaitingLines.{IsOneLine, lines_in}
 use Rattle.kijolvar.specs.declared.device.Device.{Device}
 use Rattle.kijolvar.specs.HeldLines.{AreHeld, BeginsAnswer, DropsHeld, GoesOn, behind_first}
 use Rattle.kijolvar.specs.Reports.{CutsInputs, IsReported, TakesDone, TakesFailure}
-use Rattle.kijolvar.specs.TillDisks.{HostedDisk, IsInStep, file_of}
+use Rattle.kijolvar.specs.TillDisks.{HostedDisk, IsInStep, fixed_of}
 use Rattle.kijolvar.specs.Tills.{KeepsRest, disk_of, session_in}
 use Rattle.kijolvar.proofs.HeldLemmas.{each_behind, lines_behind}
+use Rattle.kijolvar.proofs.HostedLemmas.{file_follows}
 
 -- the lines of inputs behind the first of those that are held
 pub held_behind : {these those held : List (Vec ℕ Global)} → held ≡ behind_first these those → AreHeld these
@@ -30,12 +31,13 @@ held_behind {these} {those} is each others =
     record { each = subst (All IsOneLine) (sym is) (each_behind these those each.each others.each) }
 
 -- what the till keeps, if it kept it before too
-pub rest_from : {old mid new : TillState} → file_of (disk_of mid) ≡ file_of (disk_of old) → mid.failed ≡ old.failed
+pub rest_from : {old mid new : TillState} → fixed_of (disk_of mid) ≡ fixed_of (disk_of old) → mid.failed ≡ old.failed
     → mid.profile ≡ old.profile → mid.orders ≡ old.orders → mid.is_driven ≡ old.is_driven → KeepsRest mid new
     → KeepsRest old new
-rest_from file failed profile orders is_driven rest = record {
+rest_from {old} {new = new} file failed profile orders is_driven rest = record {
   file = rest.file ∙ file;
   in_step = rest.in_step;
+  follows = file_follows (disk_of old) (disk_of new) (rest.file ∙ file) rest.in_step;
   told = rest.told;
   failed = rest.failed ∙ failed;
   profile = rest.profile ∙ profile;
@@ -85,8 +87,8 @@ module _ (bound : DiskGhosts HostedDisk) (hosts : Device → Course) (peripheral
         are = ap lines_in inserted ∙ lines_behind these old.held.items each.each
             ∙ ap (λ (ls : List (List ℕ)). behind_first ls (lines_in old.held.items)) are;
         go_on = goes_from _ _ new session answer held go;
-        rest = rest_from (ap (λ (t : TotalsView HostedDisk). file_of t.disk) stays.totals
-            ∙ ap (λ (c : Counter HostedDisk Device). file_of c.totals.disk) counter)
+        rest = rest_from (ap (λ (t : TotalsView HostedDisk). fixed_of t.disk) stays.totals
+            ∙ ap (λ (c : Counter HostedDisk Device). fixed_of c.totals.disk) counter)
             (ap (λ (k : TillState). k.failed) begins.stays ∙ ap (λ (k : TillState). k.failed) is)
             (ap (λ (k : TillState). k.profile) begins.stays ∙ ap (λ (k : TillState). k.profile) is)
             (ap (λ (k : TillState). k.orders) begins.stays ∙ ap (λ (k : TillState). k.orders) is)
@@ -129,7 +131,7 @@ module _ (bound : DiskGhosts HostedDisk) (hosts : Device → Course) (peripheral
       (left : Session) (between : Given) (result : Result (Unit {0}) E) {new : TillState} {inputs : List ℕ}
       → BeginsAnswer old begun → RunsGivenLines bound peripherals begun.counter (session_in peripherals begun)
       (lines_of inputs) (given_to begun.answer) between result left fed → is_ok result ≡ true
-      → file_of fed.totals.disk ≡ file_of (disk_of begun) → Stays peripherals fed reported
+      → fixed_of fed.totals.disk ≡ fixed_of (disk_of begun) → Stays peripherals fed reported
       → hosts_in hosts reported ≡ changed_pending (reported_course false) (hosts_in hosts fed) → mid ≡ record begun {
         counter = reported;
         names = mid.names;
@@ -147,8 +149,8 @@ module _ (bound : DiskGhosts HostedDisk) (hosts : Device → Course) (peripheral
         reported = reported;
         reports = record { stays = stays; course = course };
         go_on = goes_from left _ new refl refl (ap (λ (k : TillState). k.held.items) begins.stays) go;
-        rest = rest_from (ap (λ (k : TillState). file_of (disk_of k)) is ∙ ap (λ (t : TotalsView HostedDisk).
-            file_of t.disk) stays.totals ∙ file ∙ ap (λ (k : TillState). file_of (disk_of k)) begins.stays)
+        rest = rest_from (ap (λ (k : TillState). fixed_of (disk_of k)) is ∙ ap (λ (t : TotalsView HostedDisk).
+            fixed_of t.disk) stays.totals ∙ file ∙ ap (λ (k : TillState). fixed_of (disk_of k)) begins.stays)
             (ap (λ (k : TillState). k.failed) is ∙ ap (λ (k : TillState). k.failed) begins.stays)
             (ap (λ (k : TillState). k.profile) is ∙ ap (λ (k : TillState). k.profile) begins.stays)
             (ap (λ (k : TillState). k.orders) is ∙ ap (λ (k : TillState). k.orders) begins.stays)
@@ -159,7 +161,7 @@ module _ (bound : DiskGhosts HostedDisk) (hosts : Device → Course) (peripheral
       (result : Result (Unit {0}) E) {new : TillState} {inputs : List ℕ} → BeginsAnswer old begun
       → RunsGivenLines bound peripherals begun.counter (session_in peripherals begun) (lines_of inputs)
       (given_to begun.answer) (given_to mid.answer) result (session_in peripherals mid) fed → is_ok result ≡ false
-      → file_of fed.totals.disk ≡ file_of (disk_of begun) → mid ≡ record begun {
+      → fixed_of fed.totals.disk ≡ fixed_of (disk_of begun) → mid ≡ record begun {
         counter = fed;
         names = mid.names;
         spares = mid.spares;
@@ -173,6 +175,10 @@ module _ (bound : DiskGhosts HostedDisk) (hosts : Device → Course) (peripheral
       let session : session_in peripherals mid ≡ session_in peripherals new =
       sym (ap (session_in peripherals) drops.stays) in
       let whole = cut_carried result cut (carries_from old begun fed _ _ _ result begins done) in
+      let file_stays : fixed_of (disk_of new) ≡ fixed_of (disk_of old) =
+      ap (λ (t : TotalsView HostedDisk). fixed_of t.disk) drops.counter.totals
+      ∙ ap (λ (c : Counter HostedDisk Device). fixed_of c.totals.disk) counter ∙ file
+      ∙ ap (λ (k : TillState). fixed_of (disk_of k)) begins.stays in
       record {
         fed = fed;
         carries = subst (λ (x : Given). RunsGivenLines {E = Unit {0}} bound peripherals old.counter
@@ -184,10 +190,9 @@ module _ (bound : DiskGhosts HostedDisk) (hosts : Device → Course) (peripheral
         held = drops.held;
         left = ap (λ (k : TillState). k.left) drops.stays;
         rest = record {
-          file = ap (λ (t : TotalsView HostedDisk). file_of t.disk) drops.counter.totals
-              ∙ ap (λ (c : Counter HostedDisk Device). file_of c.totals.disk) counter ∙ file
-              ∙ ap (λ (k : TillState). file_of (disk_of k)) begins.stays;
+          file = file_stays;
           in_step = in_step;
+          follows = file_follows (disk_of old) (disk_of new) file_stays in_step;
           told = ap (λ (k : TillState). k.told) drops.stays ∙ ap (λ (k : TillState). k.told) is
               ∙ ap (λ (k : TillState). k.told) begins.stays;
           failed = ap (λ (k : TillState). k.failed) drops.stays ∙ ap (λ (k : TillState). k.failed) is

@@ -1,16 +1,19 @@
 -- What the calls of a till's disk do, in the terms of every disk.
 use Rattle.std.proofs.Common.{Bool, Err, List, Ok, Option, [], ap, arith, false, inl, inr, refl, subst, true, ℕ, ⊎_elim}
-use Rattle.std.proofs.Common.{◌++◌, ◌<◌, ◌^◌, ◌∙◌, ◌∷◌, ◌≡◌, ◌≢◌}
+use Rattle.std.proofs.Common.{length, option_map, sym, ◌++◌, ◌<◌, ◌≤◌, ◌^◌, ◌∙◌, ◌∷◌, ◌≡◌, ◌≢◌}
 use Rattle.std.specs.Prelude.{IfSome, None, OnOk, Some, ◌||◌}
-use Rattle.pos_disk.proofs.Common.{DiskState, Elapses, HasCause, Memory, Reads, Writes, splice, state_of}
+use Rattle.pos_disk.proofs.CallLemmas.{elapsed}
+use Rattle.pos_disk.proofs.Common.{DiskState, Elapses, HasCause, MayLeave, Memory, Reads, Writes, state_of}
 use Rattle.pos_disk.specs.Fuse.{may_under, with_failures}
+use Rattle.pos_disk.specs.Kept.{counts}
+use Rattle.pos_disk.specs.Memory.{synced, written}
 use Rattle.pos_disk.specs.State.{Answer}
 use Rattle.pos_disk.specs.declared.device.DiskFault.{DiskFault}
 use Rattle.kijolvar.specs.Codes.{ok}
 use Rattle.kijolvar.specs.Errands.{Does, HostWork, IsSync, IsWrite, WritesOldest, file_after, file_after_all}
-use Rattle.kijolvar.specs.TillDisks.{AddsIfHosted, DoesIfHosted, HostedDisk, IsInFile, IsInStep, errands_of}
-use Rattle.kijolvar.specs.TillDisks.{failures_by, failures_of, hosted, hosted_state, DoesTold, settlement_by}
-use Rattle.kijolvar.specs.TillDisks.{settlement_with}
+use Rattle.kijolvar.specs.TillDisks.{AddsIfHosted, DoesIfHosted, FileFollows, GoesOnFrom, HostedDisk, IsInFile}
+use Rattle.kijolvar.specs.TillDisks.{IsInStep, errands_of, fixed_of, failures_by, failures_of, hosted, hosted_state}
+use Rattle.kijolvar.specs.TillDisks.{DoesTold, settlement_by, settlement_with}
 use Rattle.kijolvar.specs.declared.till_disk.Settlement.TheVariants.{Failed, InMemory, Owed, Settled}
 use Rattle.kijolvar.specs.declared.errands.Errand.{Errand}
 use Rattle.kijolvar.specs.declared.errands.Errand.TheVariants.{Sync, Write}
@@ -90,38 +93,108 @@ writes_hosted old new {at} {bytes} (Ok u) {answer} done writes adds = record {
   cause = cause_of (IsWrite at bytes) old.work new.work answer (state_of old.memory) (state_of new.memory) adds;
 }
 
+-- a disk goes on from where it is
+goes_nowhere : (disk : Memory) → GoesOnFrom disk disk
+goes_nowhere disk = record { later = omega arith; leaves = λ t bytes le left. left }
+
+-- and from where it was, by its calls
+pub went_on : (old new : Memory) → Elapses (state_of old) (state_of new) → GoesOnFrom old new
+went_on old new time = record { later = time.later; leaves = time.keeps }
+
+goes_further : (old mid new : Memory) → GoesOnFrom old mid → GoesOnFrom mid new → GoesOnFrom old new
+goes_further old mid new first second = record {
+  later = omega (arith, first.later, second.later);
+  leaves = λ t bytes le left. second.leaves t bytes (omega (arith, le, first.later)) (first.leaves t bytes le left);
+}
+
 -- behind the others, an errand is done last
-pub last_done : (errands : List Errand) (one : Errand) (file : List ℕ)
+last_done : (errands : List Errand) (one : Errand) (file : Memory)
     → file_after_all (errands ++ one ∷ []) file ≡ file_after one (file_after_all errands file)
 last_done [] one file = refl
 last_done (errand ∷ errands) one file = last_done errands one (file_after errand file)
 
 -- The file stays behind by one errand more.
-module _ (Is : Errand → Type 0) (after : List ℕ → List ℕ)
-    (does : (one : Errand) (file : List ℕ) → Is one → file_after one file ≡ after file) where
+module _ (Is : Errand → Type 0) (after : Memory → Memory)
+    (does : (one : Errand) (file : Memory) → Is one → file_after one file ≡ after file) where
   pub in_step_on : (old new : Option HostWork) (answer : Answer) (memory next : Memory) → AddsIfHosted Is old new answer
-      → (answer ≡ Ok tt → next.present.reading ≡ after memory.present.reading) → IsInStep (hosted memory old)
+      → (answer ≡ Ok tt → next ≡ after memory) → GoesOnFrom memory next → IsInStep (hosted memory old)
       → IsInStep (hosted next new)
-  in_step_on None new answer memory next (none, done) reads is = rw none tt
-  in_step_on (Some old) None answer memory next adds reads is = absurd adds
-  in_step_on (Some old) (Some new) (Ok u) memory next (kept, (one, it_is, now)) reads is =
-      λ present. rw (now, reads refl) (last_done old.errands one old.file ∙ does one _ it_is ∙ ap after (is kept))
-  in_step_on (Some old) (Some new) (Err e) memory next now reads is = λ present. absurd (cc (now, present))
+  in_step_on None new answer memory next (none, done) same time is = rw none tt
+  in_step_on (Some old) None answer memory next adds same time is = absurd adds
+  in_step_on (Some old) (Some new) (Ok u) memory next (kept, (one, it_is, now)) same time is =
+      let all : file_after_all (old.errands ++ one ∷ []) old.file ≡ next =
+      last_done old.errands one old.file ∙ does one _ it_is ∙ ap after (is.same kept) ∙ sym (same refl) in
+      rw now (record { same = λ none. all; goes_on = subst (GoesOnFrom _) all (goes_nowhere _) })
+  in_step_on (Some old) (Some new) (Err e) memory next now same time is = rw now (record {
+    same = λ none. absurd cc;
+    goes_on = goes_further _ memory next is.goes_on time;
+  })
 
 -- what a write and a sync do to a file
-pub written_so : (at : ℕ) (bytes : List ℕ) (one : Errand) (file : List ℕ) → IsWrite at bytes one
-    → file_after one file ≡ splice file at bytes
+pub written_so : (at : ℕ) (bytes : List ℕ) (one : Errand) (file : Memory) → IsWrite at bytes one
+    → file_after one file ≡ written at bytes file
 written_so at bytes (Write place kept) file (here, these) = rw (here, these) refl
 written_so at bytes Sync file is = absurd is
 
-pub synced_so : (one : Errand) (file : List ℕ) → IsSync one → file_after one file ≡ file
+pub synced_so : (one : Errand) (file : Memory) → IsSync one → file_after one file ≡ synced file
 synced_so (Write place kept) file is = absurd is
 synced_so Sync file is = refl
 
--- where nothing is left and nothing failed, the file has the bytes of the disk
-settled_file : (lost failed : Bool) (errands : List Errand) {file reading : List ℕ}
-    → (lost ≡ false → file_after_all errands file ≡ reading) → settlement_by (lost || failed) errands ≡ Settled
-    → Some file ≡ Some reading
+-- a lost sync leaves the disk as it is
+pub stays_on : (old new : Option HostWork) {fault : DiskFault} (memory : Memory)
+    → AddsIfHosted IsSync old new (Err fault) → IsInStep (hosted memory old) → IsInStep (hosted memory new)
+stays_on old new memory adds is = in_step_on IsSync synced synced_so old new (Err _) memory memory adds
+    (λ done. absurd cc) (goes_nowhere memory) is
+
+-- errands that are done are calls of the file
+after_one : (errand : Errand) (file : Memory) → GoesOnFrom file (file_after errand file)
+after_one (Write at bytes) file =
+    went_on file (written at bytes.items file) (elapsed file (written at bytes.items file).present file.settled)
+after_one Sync file = went_on file (synced file) (elapsed file (synced file).present file.present.reading)
+
+after_all : (errands : List Errand) (file : Memory) → GoesOnFrom file (file_after_all errands file)
+after_all [] file = goes_nowhere file
+after_all (errand ∷ errands) file =
+    let next = file_after errand file in
+    goes_further file next (file_after_all errands next) (after_one errand file) (after_all errands next)
+
+after_more : (done left : List Errand) (file : Memory)
+    → file_after_all (done ++ left) file ≡ file_after_all left (file_after_all done file)
+after_more [] left file = refl
+after_more (errand ∷ done) left file = after_more done left (file_after errand file)
+
+-- while they are done, a crash leaves of the file what one of the disk may have left
+follows_work : (memory : Memory) (work : Option HostWork) (t : ℕ) → IsInStep (hosted memory work)
+    → IfSome work (λ w. t ≡ length w.file.past) → IfSome work (λ w. (done left : List Errand)
+    → w.errands ≡ done ++ left → (bytes : List ℕ) → MayLeave (state_of (file_after_all done w.file)) bytes
+    → (state_of memory).left_since t bytes)
+follows_work memory None t is at = tt
+follows_work memory (Some w) t is at = λ done left split bytes may.
+    let file = file_after_all done w.file in
+    let all : file_after_all left file ≡ file_after_all w.errands w.file =
+    sym (ap (λ (es : List Errand). file_after_all es w.file) split ∙ after_more done left w.file) in
+    let rest = goes_further file (file_after_all left file) memory (after_all left file)
+    (subst (λ (m : Memory). GoesOnFrom m memory) (sym all) is.goes_on) in
+    let now : t ≤ length file.past = omega (arith, at, (after_all done w.file).later) in
+    rest.leaves t bytes now (counts file t bytes now may)
+
+-- no errand was done meanwhile
+as_many : (old new : Option HostWork) (memory : Memory)
+    → option_map (λ w. length w.file.past ∷ w.file.present.reading) new
+    ≡ option_map (λ w. length w.file.past ∷ w.file.present.reading) old
+    → option_map (λ w. w.file) old ≡ Some memory → IfSome new (λ w. length memory.past ≡ length w.file.past)
+as_many old None memory fixed in_file = tt
+as_many None (Some w) memory fixed in_file = absurd cc
+as_many (Some v) (Some w) memory fixed in_file = cc
+
+pub file_follows : (old new : HostedDisk) → fixed_of new ≡ fixed_of old → IsInStep new → FileFollows old new
+file_follows old new fixed is in_file =
+    follows_work new.memory new.work (length old.memory.past) is (as_many old.work new.work old.memory fixed in_file)
+
+-- where nothing is left and nothing failed, the file is what the disk is
+settled_file : (lost failed : Bool) (errands : List Errand) {file memory : Memory}
+    → (lost ≡ false → file_after_all errands file ≡ memory) → settlement_by (lost || failed) errands ≡ Settled
+    → Some file ≡ Some memory
 settled_file true failed errands is settled = absurd (cc)
 settled_file false true errands is settled = absurd (cc)
 settled_file false false [] is settled = ap Some (is refl)
@@ -130,7 +203,7 @@ settled_file false false (errand ∷ errands) is settled = absurd (cc)
 pub in_file : (memory : Memory) (work : Option HostWork) (failed : Bool) → IsInStep (hosted memory work)
     → settlement_with work failed ≡ Settled → IsInFile (hosted memory work)
 in_file memory None failed is settled = absurd (cc)
-in_file memory (Some work) failed is settled = settled_file work.lost failed work.errands is settled
+in_file memory (Some work) failed is settled = settled_file work.lost failed work.errands is.same settled
 
 -- a host that owes errands lost none
 owed_kept : (lost failed : Bool) (errands : List Errand) → settlement_by (lost || failed) errands ≡ Owed → lost ≡ false
@@ -147,12 +220,12 @@ told_code (Sync ∷ errands) at_before at before after needed_before needed told
 told_code (Write place bytes ∷ errands) at_before at before after needed_before needed told (tells, rest) is =
     absurd (⊎_elim (λ fits. omega (arith, fits.1, is)) (λ long. omega (arith, long.1, is)) tells.1)
 
--- a file whose errands are all done has the bytes of the disk
+-- a file whose errands are all done is what the disk is
 all_done : (memory : Memory) (work : Option HostWork) → IsInStep (hosted memory work) → errands_of work ≡ []
     → IfSome work (λ w. w.lost ≡ false) → work ≢ None → IsInFile (hosted memory work)
 all_done memory None is none kept some = absurd (some refl)
 all_done memory (Some work) is none kept some =
-    ap Some (subst (λ errands. file_after_all errands work.file ≡ memory.present.reading) none (is kept))
+    ap Some (subst (λ errands. file_after_all errands work.file ≡ memory) none (is.same kept))
 
 -- what is lost stays so while errands are done
 kept_on : (old new : HostWork) (one : Option Errand) → Does old new one → old.lost ≡ false → new.lost ≡ false
@@ -176,7 +249,7 @@ still_owed : (told : Bool) (old new : HostedDisk) (failed : Bool) → settlement
 still_owed true old new failed owed (one, does) = still_hosted old.work new.work failed one owed does.does
 still_owed false old new failed owed same = rw same (owed_work old.work failed owed)
 
--- where the host is told that nothing is left, its file has the bytes of the disk
+-- where the host is told that nothing is left, its file is what the disk is
 pub told_in_file : (told : Bool) (old new : HostedDisk) (failed : Bool) → settlement_with old.work failed ≡ Owed
     → DoesTold told old new → IsInStep new
     → (at_before at : ℕ) (before after : List ℕ) (needed_before needed : ℕ) {code : ℕ} (now : Bool)

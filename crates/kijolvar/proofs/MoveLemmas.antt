@@ -5,23 +5,25 @@ use Rattle.pos_disk.specs.Memory.{fresh}
 use Rattle.pos_store.specs.Migrations.{KeepsFirstLayout}
 use Rattle.pos_store.specs.MovedDisks.{MovesAny}
 use Rattle.pos_store.specs.declared.fault.StoreFault.{StoreFault}
+use Rattle.kijolvar.proofs.HostedLemmas.{file_follows}
 use Rattle.kijolvar.specs.Codes.{no_memory}
 use Rattle.kijolvar.specs.Errands.{no_work}
-use Rattle.kijolvar.specs.Openings.{IsMovedOf, RefusesMove, move_code}
-use Rattle.kijolvar.specs.TillDisks.{HostedDisk, IsInStep, file_of, hosted, hosted_state, settlement_with}
+use Rattle.kijolvar.specs.Openings.{IsMovedOf, RefusesMove, disk_in_file, move_code}
+use Rattle.kijolvar.specs.TillDisks.{HostedDisk, IsInStep, fixed_of, hosted, hosted_state, settlement_with}
 use Rattle.kijolvar.specs.declared.till_disk.Settlement.TheVariants.{Owed}
 
 -- a disk of the file that was moved, with its errands, is the one that the move makes; one was lost for want of memory
 pub is_moved : {bytes : List ℕ} {old : HostedDisk} (new : HostedDisk) (result : Result HostedDisk ℕ)
     → old ≡ hosted (fresh bytes) (Some (no_work bytes)) → MovesAny (hosted_state old) (hosted_state new) (Ok tt)
-    → KeepsFirstLayout (hosted_state old).reading (hosted_state new).reading → file_of new ≡ file_of old
+    → KeepsFirstLayout (hosted_state old).reading (hosted_state new).reading → fixed_of new ≡ fixed_of old
     → MatchResult result (λ same. (same ≡ new) × IsInStep new × (settlement_with new.work false ≡ Owed))
     (λ code. code ≡ no_memory) → MatchResult result (IsMovedOf bytes) (RefusesMove bytes)
-is_moved new (Ok it) same moves rest file (is, in_step, owed) = rw is (record {
+is_moved {bytes} new (Ok it) same moves rest file (is, in_step, owed) = rw is (record {
   moves = subst (λ (d : HostedDisk). MovesAny (hosted_state d) (hosted_state new) (Ok tt)) same moves;
   rest = subst (λ (d : HostedDisk). KeepsFirstLayout (hosted_state d).reading (hosted_state new).reading) same rest;
-  file = file ∙ ap file_of same;
+  file = file ∙ ap fixed_of same;
   in_step = in_step;
+  follows = file_follows (disk_in_file bytes) new (file ∙ ap fixed_of same) in_step;
   owed = owed;
 })
 is_moved new (Err code) same moves rest file none = inl none

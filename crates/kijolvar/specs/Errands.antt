@@ -2,21 +2,22 @@
 use Rattle.std.specs.Prelude.{◌≡◌, ◌≢◌, ◌≤◌, ◌<◌, ◌⊎◌, ◌++◌, ◌∷◌, [], ℕ, Bool, List, Option, Some, None, Ok, Err, true}
 use Rattle.std.specs.Prelude.{false, length, drop}
 use Rattle.std.specs.Bool.{MatchBool}
-use Rattle.pos_disk.specs.State.{Answer, splice}
+use Rattle.pos_disk.specs.Memory.{Memory, fresh, synced, written}
+use Rattle.pos_disk.specs.State.{Answer}
 use Rattle.kijolvar.specs.declared.errands.Errand.{Errand}
 use Rattle.kijolvar.specs.declared.errands.Errand.TheVariants.{Write, Sync}
 use Rattle.kijolvar.specs.Codes.{ok, short, sync, write}
 
 -- What a host has to do: the errands, the oldest first; whether one was lost, because there was no memory for it; and
--- the bytes of its file, once it has done all that isn't among the errands any more.
+-- its file, as a disk in which all was done that isn't among the errands any more.
 pub record HostWork : Type 0 where
   pub errands : List Errand
   pub lost : Bool
-  pub file : List ℕ
+  pub file : Memory
 
 -- nothing has to be done, and the file has these bytes
 abbrev pub no_work : List ℕ → HostWork
-no_work bytes = record { errands = []; lost = false; file = bytes }
+no_work bytes = record { errands = []; lost = false; file = fresh bytes }
 
 -- the errand writes these bytes at this place
 abbrev pub IsWrite : (at : ℕ) (bytes : List ℕ) → Errand → Type 0
@@ -28,13 +29,13 @@ abbrev pub IsSync : Errand → Type 0
 IsSync (Write place written) = ⊥
 IsSync Sync = Unit {0}
 
--- the bytes of a file after an errand was done in it
-abbrev pub file_after : Errand → List ℕ → List ℕ
-file_after (Write at bytes) file = splice file at bytes.items
-file_after Sync file = file
+-- a file after an errand was done in it
+abbrev pub file_after : Errand → Memory → Memory
+file_after (Write at bytes) file = written at bytes.items file
+file_after Sync file = synced file
 
--- the bytes of a file after errands were done in it, one after another
-abbrev pub file_after_all : List Errand → List ℕ → List ℕ
+-- a file after errands were done in it, one after another
+abbrev pub file_after_all : List Errand → Memory → Memory
 file_after_all [] file = file
 file_after_all (errand ∷ errands) file = file_after_all errands (file_after errand file)
 

@@ -1,5 +1,5 @@
 -- What the calls that open a till answer, and the till that they leave (abi/README.md).
-use Rattle.std.specs.Prelude.{◌≡◌, ◌<◌, ◌⊎◌, ℕ, List, Some, Ok, Err, false, length, nat_lt, if◌then◌else◌}
+use Rattle.std.specs.Prelude.{◌≡◌, ◌<◌, ◌⊎◌, ◌∷◌, ℕ, List, Some, Ok, Err, false, length, nat_lt, if◌then◌else◌}
 use Rattle.pos_disk.specs.Memory.{fresh, state_of}
 use Rattle.pos_disk.specs.State.{DiskState}
 use Rattle.pos_image.specs.Layout.{disk_size}
@@ -18,7 +18,7 @@ use Rattle.kijolvar.specs.Tills.{Begins}
 use Rattle.kijolvar.specs.declared.device.Device.{Device}
 use Rattle.kijolvar.specs.declared.till_state.TillState.{TillState}
 use Rattle.kijolvar.specs.declared.till_disk.Settlement.TheVariants.{Owed}
-use Rattle.kijolvar.specs.TillDisks.{HostedDisk, IsInStep, file_of, hosted, hosted_state, settlement_with}
+use Rattle.kijolvar.specs.TillDisks.{FileFollows, HostedDisk, IsInStep, fixed_of, hosted, hosted_state, settlement_with}
 
 -- the code for the bytes of a file: whether they are enough for a disk
 abbrev pub open_code : List ℕ → ℕ
@@ -30,26 +30,31 @@ format_code bytes =
     if nat_lt (length bytes) disk_size then too_small else if is_marked bytes then formatted else ok
 
 -- The disk that formatting makes of a file of these bytes: it has no files, and no byte changed but gates and the first
--- fields. The file is as it was; once the errands that its host has are done, it has the bytes of the disk.
+-- fields. The file is as it was; once the errands that its host has are done, it is what the disk is.
 pub record IsFormattedOf (bytes : List ℕ) (disk : HostedDisk) : Type 0 where
   pub files : HasNoFiles (state_of disk.memory)
   pub rest : KeepsRest bytes disk.memory.present.reading
-  pub file : file_of disk ≡ Some bytes
+  pub file : fixed_of disk ≡ Some (0 ∷ bytes)
   pub in_step : IsInStep disk
   pub owed : settlement_with disk.work false ≡ Owed
 
--- the disk of a file of these bytes, in the terms of every disk, before anything is done to it
+-- the disk of a file of these bytes, before anything is done to it
+abbrev pub disk_in_file : List ℕ → HostedDisk
+disk_in_file bytes = hosted (fresh bytes) (Some (no_work bytes))
+
+-- likewise, in the terms of every disk
 abbrev pub file_state : List ℕ → DiskState
-file_state bytes = hosted_state (hosted (fresh bytes) (Some (no_work bytes)))
+file_state bytes = hosted_state (disk_in_file bytes)
 
 -- The disk that a move to layout 2 makes of a file of these bytes: it has the files that it had by layout 1, and none
--- of the slots of layout 1 was written. The file is as it was; once the errands that its host has are done, it has the
--- bytes of the disk.
+-- of the slots of layout 1 was written. The file is as it was; once the errands that its host has are done, it is what
+-- the disk is, and until then a crash leaves of it what one of the disk may have left.
 pub record IsMovedOf (bytes : List ℕ) (disk : HostedDisk) : Type 0 where
   pub moves : MovesAny (file_state bytes) (hosted_state disk) (Ok tt)
   pub rest : KeepsFirstLayout bytes disk.memory.present.reading
-  pub file : file_of disk ≡ Some bytes
+  pub file : fixed_of disk ≡ Some (0 ∷ bytes)
   pub in_step : IsInStep disk
+  pub follows : FileFollows (disk_in_file bytes) disk
   pub owed : settlement_with disk.work false ≡ Owed
 
 -- the code for why totals aren't moved; an errand is lost for want of memory alone

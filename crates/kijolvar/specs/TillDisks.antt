@@ -1,7 +1,7 @@
 -- The disk of a till, and how its host stands to it (abi/README.md, "Totals in a file").
-use Rattle.std.specs.Prelude.{◌≡◌, ◌||◌, ◌^◌, ◌-◌, [], ◌∷◌, ℕ, Bool, List, Option, Some, None, OnOk, OnErr, Ok, IfSome}
-use Rattle.std.specs.Prelude.{true, false, option_map}
-use Rattle.pos_disk.specs.State.{Answer, CountsNow, DiskState, OnlyNow}
+use Rattle.std.specs.Prelude.{◌≡◌, ◌≤◌, ◌||◌, ◌^◌, ◌-◌, ◌++◌, [], ◌∷◌, ℕ, Bool, List, Option, Some, None, OnOk, OnErr}
+use Rattle.std.specs.Prelude.{Ok, IfSome, true, false, length, option_map}
+use Rattle.pos_disk.specs.State.{Answer, CountsNow, DiskState, MayLeave, OnlyNow}
 use Rattle.pos_disk.specs.Fuse.{counts_under, only_under, with_failures}
 use Rattle.pos_disk.specs.Kept.{counts, only}
 use Rattle.pos_disk.specs.Memory.{Memory, state_of, synced, written}
@@ -19,9 +19,13 @@ pub record HostedDisk : Type 0 where
 abbrev pub hosted : Memory → Option HostWork → HostedDisk
 hosted memory work = record { memory = memory; work = work }
 
--- the bytes of the host's file, if there is one, once the host has done all that isn't among the errands any more
-abbrev pub file_of : HostedDisk → Option (List ℕ)
+-- the host's file, if there is one, in which all was done that isn't among the errands any more
+abbrev pub file_of : HostedDisk → Option Memory
 file_of disk = option_map (λ work. work.file) disk.work
+
+-- What no call of the disk changes: how many errands were done in the host's file, and its bytes.
+abbrev pub fixed_of : HostedDisk → Option (List ℕ)
+fixed_of disk = option_map (λ work. length work.file.past ∷ work.file.present.reading) disk.work
 
 -- a disk of which an errand was lost has failed, and fails from then on
 abbrev pub failures_by : Bool → ℕ
@@ -44,14 +48,33 @@ counts_hosted disk t bytes =
 pub only_hosted : (disk : HostedDisk) (bytes : List ℕ) → OnlyNow (hosted_state disk) bytes
 only_hosted disk bytes = only_under (state_of disk.memory) (failures_of disk.work) bytes (only disk.memory bytes)
 
--- Once the errands are done in the host's file, in order, it has the bytes of the disk, unless an errand was lost.
-abbrev pub IsInStep : HostedDisk → Type 0
-IsInStep disk =
-    IfSome disk.work (λ work. work.lost ≡ false → file_after_all work.errands work.file ≡ disk.memory.present.reading)
+-- A disk in memory is as far as another, or has gone on from there: a crash may have left all that one of the other may
+-- have left.
+pub record GoesOnFrom (file memory : Memory) : Type 0 where
+  pub later : length file.past ≤ length memory.past
+  pub leaves : (t : ℕ) (bytes : List ℕ) → t ≤ length file.past → (state_of file).left_since t bytes
+      → (state_of memory).left_since t bytes
 
--- the host's file has the bytes of the disk
+-- Once the errands are done in the host's file, in order, it is what the disk is, unless an errand was lost. Then the
+-- disk has gone on from there.
+pub record IsBehind (work : HostWork) (memory : Memory) : Type 0 where
+  pub same : work.lost ≡ false → file_after_all work.errands work.file ≡ memory
+  pub goes_on : GoesOnFrom (file_after_all work.errands work.file) memory
+
+-- likewise, if there is a file
+abbrev pub IsInStep : HostedDisk → Type 0
+IsInStep disk = IfSome disk.work (λ work. IsBehind work disk.memory)
+
+-- the host's file is what the disk is
 abbrev pub IsInFile : HostedDisk → Type 0
-IsInFile disk = file_of disk ≡ Some disk.memory.present.reading
+IsInFile disk = file_of disk ≡ Some disk.memory
+
+-- If the host's file was what the disk was, then at any moment while the errands are done, in order, a crash leaves of
+-- the file what a crash of the disk may have left since then.
+abbrev pub FileFollows : HostedDisk → HostedDisk → Type 0
+FileFollows old new = IsInFile old → IfSome new.work (λ work. (done left : List Errand) → work.errands ≡ done ++ left
+    → (bytes : List ℕ) → MayLeave (state_of (file_after_all done work.file)) bytes
+    → (hosted_state new).left_since (hosted_state old).moment bytes)
 
 -- exactly one errand more is there, after the others, or it is lost; a till in memory has none
 abbrev pub AddsIfHosted : (Errand → Type 0) → Option HostWork → Option HostWork → Answer → Type 0

@@ -19,7 +19,8 @@ use Rattle.kijolvar.specs.declared.till_state.TillState.{TillState}
 use Rattle.kijolvar.specs.declared.till_disk.Settlement.{Settlement}
 use Rattle.kijolvar.specs.declared.till_disk.Settlement.TheVariants.{InMemory, Settled, Owed, Failed}
 use Rattle.kijolvar.specs.Errands.{WritesOldest}
-use Rattle.kijolvar.specs.TillDisks.{DoesTold, HostedDisk, IsInFile, IsInStep, errands_of, file_of, settlement_with}
+use Rattle.kijolvar.specs.TillDisks.{DoesTold, FileFollows, HostedDisk, IsInFile, IsInStep, errands_of, fixed_of}
+use Rattle.kijolvar.specs.TillDisks.{settlement_with}
 use Rattle.kijolvar.specs.Codes.{carried, disk_failed, errands_left, ok}
 
 -- what the lines of a till have: the names of its controls, and its spares
@@ -57,11 +58,12 @@ pub record Begins (peripherals : Ghosts Device) (contents : Contents) (disk : Ho
   pub left : till.left ≡ Printed
 
 -- Beside the counter, the names, the spares and the answer nothing changes. The host's file stays as it is, and none of
--- the errands was told; once they are done in it, it has the bytes of the totals' disk. The orders that wait already
--- stay too.
+-- the errands was told; once they are done in it, it is what the totals' disk is, and until then a crash leaves of it
+-- what one of the disk may have left. The orders that wait already stay too.
 pub record KeepsRest (old new : TillState) : Type 0 where
-  pub file : file_of (disk_of new) ≡ file_of (disk_of old)
+  pub file : fixed_of (disk_of new) ≡ fixed_of (disk_of old)
   pub in_step : IsInStep (disk_of new)
+  pub follows : FileFollows (disk_of old) (disk_of new)
   pub told : new.told ≡ false
   pub failed : new.failed ≡ old.failed
   pub profile : new.profile ≡ old.profile
@@ -97,8 +99,8 @@ pub record WritesAll (till : TillState) (before after : List ℕ) (needed code :
   pub code_told : code
       ≡ carried till.outcome (nat_le (length (given_to till.answer).bytes) (length before)) till.left
 
--- what is handed over of a till's answer, by how its host stands to its disk: all of it, and the host's file has the
--- bytes of the totals' disk; or nothing while errands are left or one failed
+-- what is handed over of a till's answer, by how its host stands to its disk: all of it, and the host's file is what
+-- the totals' disk is; or nothing while errands are left or one failed
 abbrev pub HandsOverBy : Settlement → (till : TillState) (before after : List ℕ) (needed_before needed code : ℕ)
     → Type 0
 HandsOverBy InMemory till before after needed_before needed code = WritesAll till before after needed code
@@ -127,7 +129,7 @@ pub record WritesNoErrand (old : TillState) (at_before at : ℕ) (before after :
   pub tells : WritesNothing before after needed_before needed code why
 
 -- The errand that was told is done, if one was. Of those that are left the oldest is told, if there is one and room for
--- it. If none is left, the host's file has the bytes of the totals' disk.
+-- it. If none is left, the host's file is what the totals' disk is.
 pub record WritesNext (old : TillState) (at_before at : ℕ) (before after : List ℕ) (needed_before needed code : ℕ)
     (new : TillState) : Type 0 where
   pub done : DoesTold old.told (disk_of old) (disk_of new)

@@ -1,10 +1,10 @@
 //! The disks that tills begin with.
-ghost use Rattle.std.specs.Prelude.{◌≡◌, ◌≢◌, ◌⊎◌, MatchResult, Some, false};
+ghost use Rattle.std.specs.Prelude.{◌≡◌, ◌≢◌, ◌⊎◌, ◌∷◌, MatchResult, Some, false};
 ghost use Rattle.kijolvar.specs.Codes.{no_memory, ok};
 ghost use Rattle.kijolvar.specs.Openings.{IsFormattedOf, IsMovedOf, RefusesMove, format_code, move_code};
 ghost use Rattle.pos_disk.specs.Memory.{fresh};
 ghost use Rattle.kijolvar.specs.Errands.{no_work};
-ghost use Rattle.kijolvar.specs.TillDisks.{IsInStep, file_of, hosted, settlement_with};
+ghost use Rattle.kijolvar.specs.TillDisks.{IsInStep, fixed_of, hosted, settlement_with};
 ghost use Rattle.kijolvar.specs.declared.till_disk.Settlement.TheVariants.{Owed};
 
 use crate::codes::{DAMAGED, FORMATTED, MOVED, NO_MEMORY, TOO_SMALL, UNFORMATTED};
@@ -37,7 +37,7 @@ pub(crate) fn format_in_file(alloc: Global, bytes: &[u8]) -> Result<TillDisk, u3
 
 // Formats a disk that has the bytes of its host's file, and returns it. What formatting writes are errands of the host.
 fn format_disk(disk: TillDisk) -> Result<TillDisk, u32>
-    ensures { let bytes = disk.memory.present.reading in file_of disk ≡ Some bytes → MatchResult result
+    ensures { let bytes = disk.memory.present.reading in fixed_of disk ≡ Some (0 ∷ bytes) → MatchResult result
         (λ formatted. (format_code bytes ≡ ok) × IsFormattedOf bytes formatted)
         (λ code. (code ≡ no_memory) ⊎ ((code ≡ format_code bytes) × (code ≢ ok))) }
 {

@@ -65,6 +65,7 @@ impl TillState {
     }
 
     /// Carries out the lines that are held, up to one that waits, and adds what they print to the answer.
+    #[tactic(auto, using(crate::proofs::HostedLemmas::file_follows))]
     fn go_on(&mut self, alloc: Global, buffer: &mut LineBuffer)
         requires told { self.old.told ≡ false }
         requires sound { IsTillSound ⟦<Device as Peripheral>⟧ self.old }

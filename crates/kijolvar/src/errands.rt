@@ -78,7 +78,7 @@ impl Model for Errands {
 
     ghost Value = { HostWork };
 
-    ghost view = { λ e. record { errands = e.errands.items; lost = e.is_lost; file = e.file.bytes } };
+    ghost view = { λ e. record { errands = e.errands.items; lost = e.is_lost; file = e.file.disk } };
 
     ghost invariant = { λ _. Unit {0} };
 }

@@ -54,8 +54,8 @@ impl TillDisk {
         })
     }
 
-    /// States what is true of every disk of a till: once the errands are done in the host's file, it has the bytes of
-    /// the disk, unless an errand was lost.
+    /// States what is true of every disk of a till: once the errands are done in the host's file, it is what the disk
+    /// is, unless an errand was lost.
     pub fn is_in_step(&self)
         ensures { IsInStep self.now }
     {
@@ -120,12 +120,12 @@ fn next_of(errands: &mut Option<Errands>) -> Option<Errand>
 impl Disk for TillDisk {
     ghost use Rattle.std.specs.Prelude.{length, ⊤};
     ghost use Rattle.std.proofs.Common.{refl};
-    ghost use Rattle.kijolvar.specs.TillDisks.{HostedReads, HostedSyncs, HostedWrites, file_of};
+    ghost use Rattle.kijolvar.specs.TillDisks.{HostedReads, HostedSyncs, HostedWrites, fixed_of};
     ghost use Rattle.kijolvar.specs.TillDisks.{counts_hosted, hosted_state, only_hosted};
 
     ghost size = { λ disk. length disk.memory.present.reading };
 
-    ghost fixed = { λ disk. file_of disk };
+    ghost fixed = { λ disk. fixed_of disk };
 
     ghost honest = { λ _. ⊤ };
 

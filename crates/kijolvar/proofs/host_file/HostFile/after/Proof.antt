@@ -20,7 +20,7 @@ passed = ref 0 tt file.the_row ∷ ref 1 tt errand.the_row ∷ []
 
 -- the file after the errand
 abbrev made : (κs : Lfts 2) → Args f.signature κs → file.the_row.Denot
-made κs (self, (errand, _)) = record { bytes = file_after errand.now self.now.bytes }
+made κs (self, (errand, _)) = record { disk = file_after errand.now self.now.disk }
 
 pub after_spec : {M : Type 1} → stated.statement M
 after_spec 𝓤 𝓛 𝓜 𝓡 wired =

@@ -4,6 +4,7 @@ use Rattle.pos_disk.proofs.Common.{no_more, owns, pass_all, pure_i, qed, raw, re
 use Rattle.pos_disk.proofs.Common.{vnil, vstruct, ‵, ◌$◌, ◌∵◌, ◌∷◌}
 use Rattle.pos_disk.proofs.EmptyBodyLemmas.{Passed, slice}
 use Rattle.pos_disk.proofs.EmptyBodyLemmas as empty
+use Rattle.pos_disk.specs.Memory.{fresh}
 use Rattle.kijolvar.specs.contracts.host_file.HostFile.of.Key.{name as key}
 use contract.Lifetimes.{Lfts}
 use denote.Builtin.{u8}
@@ -19,7 +20,7 @@ passed = slice 0 tt u8 ∷ []
 
 -- the file with these bytes
 abbrev made : (κs : Lfts 1) → Args f.signature κs → file.the_row.Denot
-made κs (bytes, _) = record { bytes = bytes.now }
+made κs (bytes, _) = record { disk = fresh bytes.now }
 
 pub of_spec : {M : Type 1} → stated.statement M
 of_spec 𝓤 𝓛 𝓜 𝓡 wired =
