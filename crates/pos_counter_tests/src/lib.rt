@@ -1,4 +1,4 @@
-//! What only tests can say of a counter: drivers that find no memory, disks that fail and crashes, which very
+//! What only tests can say of a counter: drivers that find no memory, disks that fail or lie, and crashes, which very
 //! peripherals are handed back, what is answered where memory is ample, and the texts of the faults.
 #![tactic(auto)]
 
@@ -10,6 +10,10 @@ mod drivers;
 mod exchanges;
 #[cfg(test)]
 mod growths;
+#[cfg(test)]
+mod liar;
+#[cfg(test)]
+mod lies;
 #[cfg(test)]
 mod moves;
 #[cfg(test)]
