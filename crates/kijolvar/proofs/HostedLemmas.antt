@@ -1,11 +1,14 @@
 -- What the calls of a till's disk do, in the terms of every disk.
 use Rattle.std.proofs.Common.{Bool, Err, List, Ok, Option, [], ap, arith, false, inl, inr, refl, subst, true, ℕ, ⊎_elim}
-use Rattle.std.proofs.Common.{length, option_map, sym, ◌++◌, ◌<◌, ◌≤◌, ◌^◌, ◌∙◌, ◌∷◌, ◌≡◌, ◌≢◌}
+use Rattle.std.proofs.Common.{drop, get_or, length, map, option_map, replicate, sym, take, ◌++◌, ◌<◌, ◌≤◌, ◌^◌, ◌∙◌}
+use Rattle.std.proofs.Common.{◌∷◌, ◌≡◌, ◌≢◌}
+use Rattle.std.proofs.Math.Seq.{drop-append_seam, take-append_seam}
 use Rattle.std.specs.Prelude.{IfSome, None, OnOk, Some, ◌||◌}
 use Rattle.pos_disk.proofs.CallLemmas.{elapsed}
-use Rattle.pos_disk.proofs.Common.{DiskState, Elapses, HasCause, MayLeave, Memory, Reads, Writes, state_of}
+use Rattle.pos_disk.proofs.Common.{DiskState, Elapses, HasCause, LeftAt, MayLeave, Memory, Moment, Reads, Writes}
+use Rattle.pos_disk.proofs.Common.{splice, state_of}
 use Rattle.pos_disk.specs.Fuse.{may_under, with_failures}
-use Rattle.pos_disk.specs.Kept.{counts}
+use Rattle.pos_disk.specs.Kept.{to_moment}
 use Rattle.pos_disk.specs.Memory.{synced, written}
 use Rattle.pos_disk.specs.State.{Answer}
 use Rattle.pos_disk.specs.declared.device.DiskFault.{DiskFault}
@@ -13,6 +16,7 @@ use Rattle.kijolvar.specs.Codes.{ok}
 use Rattle.kijolvar.specs.Errands.{Does, HostWork, IsSync, IsWrite, WritesOldest, file_after, file_after_all}
 use Rattle.kijolvar.specs.TillDisks.{AddsIfHosted, DoesIfHosted, FileFollows, GoesOnFrom, HostedDisk, IsInFile}
 use Rattle.kijolvar.specs.TillDisks.{IsInStep, errands_of, fixed_of, failures_by, failures_of, hosted, hosted_state}
+use Rattle.kijolvar.specs.TillDisks.{listed, loose_number}
 use Rattle.kijolvar.specs.TillDisks.{DoesTold, settlement_by, settlement_with}
 use Rattle.kijolvar.specs.declared.till_disk.Settlement.TheVariants.{Failed, InMemory, Owed, Settled}
 use Rattle.kijolvar.specs.declared.errands.Errand.{Errand}
@@ -93,6 +97,10 @@ writes_hosted old new {at} {bytes} (Ok u) {answer} done writes adds = record {
   cause = cause_of (IsWrite at bytes) old.work new.work answer (state_of old.memory) (state_of new.memory) adds;
 }
 
+-- a moment of these parts
+abbrev moment_of : List ℕ → List Bool → Moment
+moment_of reading loose = record { reading = reading; loose = loose }
+
 -- a disk goes on from where it is
 goes_nowhere : (disk : Memory) → GoesOnFrom disk disk
 goes_nowhere disk = record { later = omega arith; leaves = λ t bytes le left. left }
@@ -163,33 +171,75 @@ after_more : (done left : List Errand) (file : Memory)
 after_more [] left file = refl
 after_more (errand ∷ done) left file = after_more done left (file_after errand file)
 
+-- a list of numbers tells which places are loose
+loose_same : (xs ys : List Bool) → map loose_number xs ≡ map loose_number ys → xs ≡ ys
+loose_same [] [] same = refl
+loose_same [] (y ∷ ys) same = absurd cc
+loose_same (x ∷ xs) [] same = absurd cc
+loose_same (true ∷ xs) (true ∷ ys) same = ap (λ zs. true ∷ zs) (loose_same xs ys (ap (drop 1) same))
+loose_same (false ∷ xs) (false ∷ ys) same = ap (λ zs. false ∷ zs) (loose_same xs ys (ap (drop 1) same))
+loose_same (true ∷ xs) (false ∷ ys) same =
+    let first : 1 ≡ 0 = ap (λ (l : List ℕ). get_or l 0 0) same in absurd (omega (arith, first))
+loose_same (false ∷ xs) (true ∷ ys) same =
+    let first : 0 ≡ 1 = ap (λ (l : List ℕ). get_or l 0 0) same in absurd (omega (arith, first))
+
+-- and that of a file what the file is at present
+present_same : (file other : Memory) → listed file ≡ listed other → file.present ≡ other.present
+present_same file other same =
+    let one = file.present in
+    let two = other.present in
+    let count : length one.reading ≡ length two.reading = ap (λ (l : List ℕ). get_or l 1 0) same in
+    let rest : one.reading ++ map loose_number one.loose ≡ two.reading ++ map loose_number two.loose =
+    ap (drop 2) same in
+    let reading : one.reading ≡ two.reading = sym (take-append_seam one.reading (map loose_number one.loose))
+    ∙ ap (λ n. take n (one.reading ++ map loose_number one.loose)) count
+    ∙ ap (take (length two.reading)) rest ∙ take-append_seam two.reading (map loose_number two.loose) in
+    let loose : one.loose ≡ two.loose = loose_same one.loose two.loose
+    (sym (drop-append_seam one.reading (map loose_number one.loose))
+    ∙ ap (λ n. drop n (one.reading ++ map loose_number one.loose)) count
+    ∙ ap (drop (length two.reading)) rest ∙ drop-append_seam two.reading (map loose_number two.loose)) in
+    ap (λ (r : List ℕ). moment_of r one.loose) reading ∙ ap (λ (l : List Bool). moment_of two.reading l) loose
+
+-- the same errands leave the same of it
+after_present : (errands : List Errand) (file other : Memory) → file.present ≡ other.present
+    → (file_after_all errands file).present ≡ (file_after_all errands other).present
+after_present [] file other same = same
+after_present (Write at bytes ∷ errands) file other same =
+    after_present errands (written at bytes.items file) (written at bytes.items other) (ap (λ (m : Moment).
+    moment_of (splice m.reading at bytes.items) (splice m.loose at (replicate (length bytes.items) true))) same)
+after_present (Sync ∷ errands) file other same = after_present errands (synced file) (synced other)
+    (ap (λ (m : Moment). moment_of m.reading (replicate (length m.reading) false)) same)
+
 -- while they are done, a crash leaves of the file what one of the disk may have left
-follows_work : (memory : Memory) (work : Option HostWork) (t : ℕ) → IsInStep (hosted memory work)
-    → IfSome work (λ w. t ≡ length w.file.past) → IfSome work (λ w. (done left : List Errand)
-    → w.errands ≡ done ++ left → (bytes : List ℕ) → MayLeave (state_of (file_after_all done w.file)) bytes
-    → (state_of memory).left_since t bytes)
-follows_work memory None t is at = tt
-follows_work memory (Some w) t is at = λ done left split bytes may.
+follows_work : (before memory : Memory) (work : Option HostWork) → IsInStep (hosted memory work)
+    → IfSome work (λ w. listed w.file ≡ listed before) → IfSome work (λ w. (done left : List Errand)
+    → w.errands ≡ done ++ left → (bytes : List ℕ) → MayLeave (state_of (file_after_all done before)) bytes
+    → (state_of memory).left_since (length before.past) bytes)
+follows_work before memory None is fixed = tt
+follows_work before memory (Some w) is fixed = λ done left split bytes may.
     let file = file_after_all done w.file in
     let all : file_after_all left file ≡ file_after_all w.errands w.file =
     sym (ap (λ (es : List Errand). file_after_all es w.file) split ∙ after_more done left w.file) in
     let rest = goes_further file (file_after_all left file) memory (after_all left file)
     (subst (λ (m : Memory). GoesOnFrom m memory) (sym all) is.goes_on) in
-    let now : t ≤ length file.past = omega (arith, at, (after_all done w.file).later) in
-    rest.leaves t bytes now (counts file t bytes now may)
+    let count : length w.file.past ≡ length before.past = ap (λ (l : List ℕ). get_or l 0 0) fixed in
+    let now : length before.past ≤ length file.past = omega (arith, count, (after_all done w.file).later) in
+    let here : LeftAt file.present bytes = subst (λ (m : Moment). LeftAt m bytes)
+    (sym (after_present done w.file before (present_same w.file before fixed)))
+    (to_moment (file_after_all done before) bytes may) in
+    rest.leaves (length before.past) bytes now (inr here)
 
 -- no errand was done meanwhile
-as_many : (old new : Option HostWork) (memory : Memory)
-    → option_map (λ w. length w.file.past ∷ w.file.present.reading) new
-    ≡ option_map (λ w. length w.file.past ∷ w.file.present.reading) old
-    → option_map (λ w. w.file) old ≡ Some memory → IfSome new (λ w. length memory.past ≡ length w.file.past)
-as_many old None memory fixed in_file = tt
-as_many None (Some w) memory fixed in_file = absurd cc
-as_many (Some v) (Some w) memory fixed in_file = cc
+same_file : (old new : Option HostWork) (memory : Memory)
+    → option_map (λ w. listed w.file) new ≡ option_map (λ w. listed w.file) old
+    → option_map (λ w. w.file) old ≡ Some memory → IfSome new (λ w. listed w.file ≡ listed memory)
+same_file old None memory fixed in_file = tt
+same_file None (Some w) memory fixed in_file = absurd cc
+same_file (Some v) (Some w) memory fixed in_file = cc
 
 pub file_follows : (old new : HostedDisk) → fixed_of new ≡ fixed_of old → IsInStep new → FileFollows old new
 file_follows old new fixed is in_file =
-    follows_work new.memory new.work (length old.memory.past) is (as_many old.work new.work old.memory fixed in_file)
+    follows_work old.memory new.memory new.work is (same_file old.work new.work old.memory fixed in_file)
 
 -- where nothing is left and nothing failed, the file is what the disk is
 settled_file : (lost failed : Bool) (errands : List Errand) {file memory : Memory}

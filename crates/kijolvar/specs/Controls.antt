@@ -29,8 +29,8 @@ SaysEvent peripherals till from before after code = (part : TotalsPart) →
     ((code ≡ event_there) × IsNextEvent (machine peripherals till.counter part) from (Some after))
     ⊎ ((code ≡ ok) × (after ≡ before) × IsNextEvent (machine peripherals till.counter part) from None)
 
--- what a host that asks for the next event is told, by how it stands to the disk: the control, and its file has the
--- bytes of the totals' disk; or nothing while errands are left or one failed
+-- what a host that asks for the next event is told, by how it stands to the disk: the control, and its file equals the
+-- totals' disk; or nothing while errands are left or one failed
 abbrev pub NextEventBy : Settlement → Ghosts Device → (till : TillState) (from before after code : ℕ) → Type 0
 NextEventBy InMemory peripherals till from before after code = SaysEvent peripherals till from before after code
 NextEventBy Settled peripherals till from before after code =

@@ -15,7 +15,7 @@ pub record HostWork : Type 0 where
   pub lost : Bool
   pub file : Memory
 
--- nothing has to be done, and the file has these bytes
+-- nothing has to be done, and the file has these bytes, all of them synced
 abbrev pub no_work : List ℕ → HostWork
 no_work bytes = record { errands = []; lost = false; file = fresh bytes }
 

@@ -73,8 +73,8 @@ pub record HandsOut (hosts : Device → Course) (peripherals : Ghosts Device) (o
   pub driven : waiting ≡ [] → old.is_driven ≡ true →
       (new.orders.items ≡ []) × GivesDriven hosts peripherals old before after needed_before needed code new
 
--- what a host that asks for the next order is told, by how it stands to the disk: an order, and its file has the bytes
--- of the totals' disk; or nothing while errands are left or one failed
+-- what a host that asks for the next order is told, by how it stands to the disk: an order, and its file equals the
+-- totals' disk; or nothing while errands are left or one failed
 abbrev pub NextOrderBy : Settlement → (Device → Course) → Ghosts Device → (old : TillState) (before after : List ℕ)
     (needed_before needed code : ℕ) (new : TillState) → Type 0
 NextOrderBy InMemory hosts peripherals old before after needed_before needed code new =

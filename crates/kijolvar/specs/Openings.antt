@@ -1,5 +1,5 @@
 -- What the calls that open a till answer, and the till that they leave (abi/README.md).
-use Rattle.std.specs.Prelude.{◌≡◌, ◌<◌, ◌⊎◌, ◌∷◌, ℕ, List, Some, Ok, Err, false, length, nat_lt, if◌then◌else◌}
+use Rattle.std.specs.Prelude.{◌≡◌, ◌<◌, ◌⊎◌, ℕ, List, Some, Ok, Err, false, length, nat_lt, if◌then◌else◌}
 use Rattle.pos_disk.specs.Memory.{fresh, state_of}
 use Rattle.pos_disk.specs.State.{DiskState}
 use Rattle.pos_image.specs.Layout.{disk_size}
@@ -29,30 +29,30 @@ abbrev pub format_code : List ℕ → ℕ
 format_code bytes =
     if nat_lt (length bytes) disk_size then too_small else if is_marked bytes then formatted else ok
 
--- The disk that formatting makes of a file of these bytes: it has no files, and no byte changed but gates and the first
--- fields. The file is as it was; once the errands that its host has are done, it is what the disk is.
-pub record IsFormattedOf (bytes : List ℕ) (disk : HostedDisk) : Type 0 where
-  pub files : HasNoFiles (state_of disk.memory)
-  pub rest : KeepsRest bytes disk.memory.present.reading
-  pub file : fixed_of disk ≡ Some (0 ∷ bytes)
-  pub in_step : IsInStep disk
-  pub owed : settlement_with disk.work false ≡ Owed
-
 -- the disk of a file of these bytes, before anything is done to it
 abbrev pub disk_in_file : List ℕ → HostedDisk
 disk_in_file bytes = hosted (fresh bytes) (Some (no_work bytes))
 
--- likewise, in the terms of every disk
+-- The disk that formatting makes of a file of these bytes: it has no files, and no byte changed but gates and the first
+-- fields. The file is as it was; once the errands that its host has are done, it equals the disk.
+pub record IsFormattedOf (bytes : List ℕ) (disk : HostedDisk) : Type 0 where
+  pub files : HasNoFiles (state_of disk.memory)
+  pub rest : KeepsRest bytes disk.memory.present.reading
+  pub file : fixed_of disk ≡ fixed_of (disk_in_file bytes)
+  pub in_step : IsInStep disk
+  pub owed : settlement_with disk.work false ≡ Owed
+
+-- the disk of a file of these bytes in the terms of every disk, before anything is done to it
 abbrev pub file_state : List ℕ → DiskState
 file_state bytes = hosted_state (disk_in_file bytes)
 
 -- The disk that a move to layout 2 makes of a file of these bytes: it has the files that it had by layout 1, and none
--- of the slots of layout 1 was written. The file is as it was; once the errands that its host has are done, it is what
--- the disk is, and until then a crash leaves of it what one of the disk may have left.
+-- of the slots of layout 1 was written. The file is as it was; once the errands that its host has are done, it equals
+-- the disk, and until then a crash leaves of it only what one of the disk may have left.
 pub record IsMovedOf (bytes : List ℕ) (disk : HostedDisk) : Type 0 where
   pub moves : MovesAny (file_state bytes) (hosted_state disk) (Ok tt)
   pub rest : KeepsFirstLayout bytes disk.memory.present.reading
-  pub file : fixed_of disk ≡ Some (0 ∷ bytes)
+  pub file : fixed_of disk ≡ fixed_of (disk_in_file bytes)
   pub in_step : IsInStep disk
   pub follows : FileFollows (disk_in_file bytes) disk
   pub owed : settlement_with disk.work false ≡ Owed

@@ -1,6 +1,6 @@
 -- The disk of a till, and how its host stands to it (abi/README.md, "Totals in a file").
 use Rattle.std.specs.Prelude.{◌≡◌, ◌≤◌, ◌||◌, ◌^◌, ◌-◌, ◌++◌, [], ◌∷◌, ℕ, Bool, List, Option, Some, None, OnOk, OnErr}
-use Rattle.std.specs.Prelude.{Ok, IfSome, true, false, length, option_map}
+use Rattle.std.specs.Prelude.{Ok, IfSome, true, false, length, map, option_map}
 use Rattle.pos_disk.specs.State.{Answer, CountsNow, DiskState, MayLeave, OnlyNow}
 use Rattle.pos_disk.specs.Fuse.{counts_under, only_under, with_failures}
 use Rattle.pos_disk.specs.Kept.{counts, only}
@@ -23,9 +23,20 @@ hosted memory work = record { memory = memory; work = work }
 abbrev pub file_of : HostedDisk → Option Memory
 file_of disk = option_map (λ work. work.file) disk.work
 
--- What no call of the disk changes: how many errands were done in the host's file, and its bytes.
+-- whether a place is loose, as a number
+abbrev pub loose_number : Bool → ℕ
+loose_number true = 1
+loose_number false = 0
+
+-- a file as one list: how many errands were done in it, how many bytes it has, these bytes, and for each place 1 if it
+-- is loose, else 0
+abbrev pub listed : Memory → List ℕ
+listed file = length file.past ∷ length file.present.reading ∷ file.present.reading
+    ++ map loose_number file.present.loose
+
+-- what no call of the disk changes: the file
 abbrev pub fixed_of : HostedDisk → Option (List ℕ)
-fixed_of disk = option_map (λ work. length work.file.past ∷ work.file.present.reading) disk.work
+fixed_of disk = option_map (λ work. listed work.file) disk.work
 
 -- a disk of which an errand was lost has failed, and fails from then on
 abbrev pub failures_by : Bool → ℕ
@@ -48,15 +59,15 @@ counts_hosted disk t bytes =
 pub only_hosted : (disk : HostedDisk) (bytes : List ℕ) → OnlyNow (hosted_state disk) bytes
 only_hosted disk bytes = only_under (state_of disk.memory) (failures_of disk.work) bytes (only disk.memory bytes)
 
--- A disk in memory is as far as another, or has gone on from there: a crash may have left all that one of the other may
--- have left.
+-- The clock of the second disk isn't behind that of the first. Since any moment of the first, a crash of the second may
+-- have left all that a crash of the first may have left.
 pub record GoesOnFrom (file memory : Memory) : Type 0 where
   pub later : length file.past ≤ length memory.past
   pub leaves : (t : ℕ) (bytes : List ℕ) → t ≤ length file.past → (state_of file).left_since t bytes
       → (state_of memory).left_since t bytes
 
--- Once the errands are done in the host's file, in order, it is what the disk is, unless an errand was lost. Then the
--- disk has gone on from there.
+-- Once the errands are done in the host's file, in order, it equals the disk, unless an errand was lost. In either case
+-- a crash of the disk may have left all that a crash of the file may have left.
 pub record IsBehind (work : HostWork) (memory : Memory) : Type 0 where
   pub same : work.lost ≡ false → file_after_all work.errands work.file ≡ memory
   pub goes_on : GoesOnFrom (file_after_all work.errands work.file) memory
@@ -65,15 +76,15 @@ pub record IsBehind (work : HostWork) (memory : Memory) : Type 0 where
 abbrev pub IsInStep : HostedDisk → Type 0
 IsInStep disk = IfSome disk.work (λ work. IsBehind work disk.memory)
 
--- the host's file is what the disk is
+-- the host's file equals the disk: its bytes, which of them are loose, and its past
 abbrev pub IsInFile : HostedDisk → Type 0
 IsInFile disk = file_of disk ≡ Some disk.memory
 
--- If the host's file was what the disk was, then at any moment while the errands are done, in order, a crash leaves of
--- the file what a crash of the disk may have left since then.
+-- If the host's file equalled the disk before: at any moment while the errands that there are now are done in order, a
+-- crash of the file leaves only what a crash of the disk may have left since then.
 abbrev pub FileFollows : HostedDisk → HostedDisk → Type 0
 FileFollows old new = IsInFile old → IfSome new.work (λ work. (done left : List Errand) → work.errands ≡ done ++ left
-    → (bytes : List ℕ) → MayLeave (state_of (file_after_all done work.file)) bytes
+    → (bytes : List ℕ) → MayLeave (state_of (file_after_all done old.memory)) bytes
     → (hosted_state new).left_since (hosted_state old).moment bytes)
 
 -- exactly one errand more is there, after the others, or it is lost; a till in memory has none

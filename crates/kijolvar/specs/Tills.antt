@@ -57,9 +57,9 @@ pub record Begins (peripherals : Ghosts Device) (contents : Contents) (disk : Ho
   pub held : till.held.items ≡ []
   pub left : till.left ≡ Printed
 
--- Beside the counter, the names, the spares and the answer nothing changes. The host's file stays as it is, and none of
--- the errands was told; once they are done in it, it is what the totals' disk is, and until then a crash leaves of it
--- what one of the disk may have left. The orders that wait already stay too.
+-- Beside the counter, the names, the spares, the answer with its outcome, and the lines that are held, nothing changes.
+-- The host's file stays as it is, and none of the errands was told. Once they are done in it, it equals the totals'
+-- disk. Until then a crash leaves of it only what one of the disk may have left since. The orders that wait stay too.
 pub record KeepsRest (old new : TillState) : Type 0 where
   pub file : fixed_of (disk_of new) ≡ fixed_of (disk_of old)
   pub in_step : IsInStep (disk_of new)
@@ -99,8 +99,8 @@ pub record WritesAll (till : TillState) (before after : List ℕ) (needed code :
   pub code_told : code
       ≡ carried till.outcome (nat_le (length (given_to till.answer).bytes) (length before)) till.left
 
--- what is handed over of a till's answer, by how its host stands to its disk: all of it, and the host's file is what
--- the totals' disk is; or nothing while errands are left or one failed
+-- what is handed over of a till's answer, by how its host stands to its disk: all of it, and the host's file equals
+-- the totals' disk; or nothing while errands are left or one failed
 abbrev pub HandsOverBy : Settlement → (till : TillState) (before after : List ℕ) (needed_before needed code : ℕ)
     → Type 0
 HandsOverBy InMemory till before after needed_before needed code = WritesAll till before after needed code
@@ -129,7 +129,7 @@ pub record WritesNoErrand (old : TillState) (at_before at : ℕ) (before after :
   pub tells : WritesNothing before after needed_before needed code why
 
 -- The errand that was told is done, if one was. Of those that are left the oldest is told, if there is one and room for
--- it. If none is left, the host's file is what the totals' disk is.
+-- it. If none is left, the host's file equals the totals' disk.
 pub record WritesNext (old : TillState) (at_before at : ℕ) (before after : List ℕ) (needed_before needed code : ℕ)
     (new : TillState) : Type 0 where
   pub done : DoesTold old.told (disk_of old) (disk_of new)

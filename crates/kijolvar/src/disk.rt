@@ -1,7 +1,7 @@
 //! The disks that tills begin with.
-ghost use Rattle.std.specs.Prelude.{◌≡◌, ◌≢◌, ◌⊎◌, ◌∷◌, MatchResult, Some, false};
+ghost use Rattle.std.specs.Prelude.{◌≡◌, ◌≢◌, ◌⊎◌, MatchResult, Some, false};
 ghost use Rattle.kijolvar.specs.Codes.{no_memory, ok};
-ghost use Rattle.kijolvar.specs.Openings.{IsFormattedOf, IsMovedOf, RefusesMove, format_code, move_code};
+ghost use Rattle.kijolvar.specs.Openings.{IsFormattedOf, IsMovedOf, RefusesMove, disk_in_file, format_code, move_code};
 ghost use Rattle.pos_disk.specs.Memory.{fresh};
 ghost use Rattle.kijolvar.specs.Errands.{no_work};
 ghost use Rattle.kijolvar.specs.TillDisks.{IsInStep, fixed_of, hosted, settlement_with};
@@ -35,9 +35,11 @@ pub(crate) fn format_in_file(alloc: Global, bytes: &[u8]) -> Result<TillDisk, u3
     }
 }
 
-// Formats a disk that has the bytes of its host's file, and returns it. What formatting writes are errands of the host.
+// Formats a disk that has the bytes of its host's file, in which no errand was done, and returns it. What formatting
+// writes are errands of the host.
 fn format_disk(disk: TillDisk) -> Result<TillDisk, u32>
-    ensures { let bytes = disk.memory.present.reading in fixed_of disk ≡ Some (0 ∷ bytes) → MatchResult result
+    ensures { let bytes = disk.memory.present.reading in fixed_of disk ≡ fixed_of (disk_in_file bytes) →
+        MatchResult result
         (λ formatted. (format_code bytes ≡ ok) × IsFormattedOf bytes formatted)
         (λ code. (code ≡ no_memory) ⊎ ((code ≡ format_code bytes) × (code ≢ ok))) }
 {

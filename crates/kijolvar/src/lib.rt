@@ -9,7 +9,8 @@
 //! - Each export answers a code of `codes`.
 //!
 //! The caller relies on this: lines do to the till what the standard asks, and no line is answered before what it
-//! changed is in the host's file. In return the caller passes the till that it was given last.
+//! changed is in the host's file. Until then a crash leaves of the file what a step of the lines may leave. In return
+//! the caller passes the till that it was given last.
 #![tactic(auto)]
 
 ghost use Rattle.std.specs.Prelude.{◌≡◌, ◌≢◌, IfOk, MatchOption, MatchResult, None, Some};

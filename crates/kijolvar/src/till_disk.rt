@@ -10,7 +10,8 @@ use std::alloc::{AllocError, Global};
 use std::marker::Model;
 
 /// The disk of a till: one in memory. If a host keeps it in a file, each write and each sync is also an errand of the
-/// host. Once the errands are done, the file has the bytes of the disk.
+/// host. Once the errands are done, the file equals the disk. Until then a crash leaves of it only what one of the disk
+/// may have left.
 ///
 /// A call whose errand is lost returns a fault, and so does each later write and sync.
 #[derive(Drop)]
@@ -54,8 +55,8 @@ impl TillDisk {
         })
     }
 
-    /// States what is true of every disk of a till: once the errands are done in the host's file, it is what the disk
-    /// is, unless an errand was lost.
+    /// States what is true of every disk of a till: once the errands are done in the host's file, it equals the disk,
+    /// unless an errand was lost.
     pub fn is_in_step(&self)
         ensures { IsInStep self.now }
     {

@@ -44,8 +44,8 @@ pub struct TillState {
 }
 
 impl TillState {
-    /// Returns whether its changes are in its host's file. If no errand is left and none failed, the file has the bytes
-    /// of the totals' disk.
+    /// Returns whether its changes are in its host's file. If no errand is left and none failed, the file equals the
+    /// totals' disk.
     pub fn settlement(&self) -> Settlement
         ensures settlement { result ≡ settlement_of self.now }
         ensures in_file { result ≡ Settled → IsInFile (disk_of self.now) }

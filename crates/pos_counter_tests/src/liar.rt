@@ -3,24 +3,33 @@ ghost use Rattle.std.specs.Prelude.{◌≡◌, length};
 
 use pos_disk::{Disk, DiskFault, MemDisk};
 
-/// A disk that lies in one of four calls, by a number that it begins with: it changes the first byte that a read gives,
-/// drops a write, or fails a sync.
+/// A disk that tells the truth in its first calls, and then lies in one of four, by a number that it begins with: it
+/// changes the first byte that a read gives, drops a write, or fails a sync and counts no failure.
 #[derive(Drop)]
 pub struct Liar {
     inner: MemDisk,
+    truths: u64,
     turn: u64,
 }
 
 impl Liar {
-    /// Returns a disk of these bytes that lies by this number.
-    pub fn new(inner: MemDisk, seed: u64) -> Liar {
-        Liar { inner, turn: seed }
+    /// Returns a disk of these bytes that lies by this number, after so many calls.
+    pub fn new(inner: MemDisk, truths: u64, seed: u64) -> Liar {
+        Liar {
+            inner,
+            truths,
+            turn: seed,
+        }
     }
 
     // Returns whether it lies this time.
     fn lies(&mut self) -> bool
         ensures { self.new.inner ≡ self.old.inner }
     {
+        if self.truths > 0 {
+            self.truths -= 1;
+            return false;
+        }
         self.turn = self
             .turn
             .wrapping_mul(6_364_136_223_846_793_005)
