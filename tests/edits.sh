@@ -1,6 +1,7 @@
 #!/usr/bin/env bash
 # Tries the wrong bodies that the gate leaves out, tests/edits/CRATE/*.edit, in a copy of the tree: the prover has to
-# refuse each. What was proved before is used; what wasn't is proved first.
+# refuse each, and not only because a proof file names what the edit took away. What was proved before is used; what
+# wasn't is proved first.
 # Usage: tests/edits.sh [CRATE ..]. Without a word it tries those of each crate. Its last line is 'N passed, M failed'; it
 # ends with 0 where none failed.
 set -u
@@ -21,7 +22,7 @@ for crate in "$@"; do
   cp -r "$edits/$crate" "crates/$crate/must-fail" || exit 1
   tried=$(ls "$edits/$crate" | wc -l)
   rt must-fail "$crate" 2>&1 | tee said
-  refused=$(grep -c "must-fail $crate/.*: refused, as it must be" said)
+  refused=$(grep "must-fail $crate/.*: refused, as it must be" said | grep -vc "only because a proof file names")
   passed=$((passed + refused))
   failed=$((failed + tried - refused))
 done
