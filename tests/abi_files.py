@@ -453,10 +453,10 @@ def calls(wrapper):
         wrapper.told("a new file is whole and synced before it has a name, and its folder before it is used",
                      [*FORMAT, "link totals", folder, "print ready"], wrapper.recorded("create")[2])
     found = wrapper.recorded("open", CHANGE)
-    wrapper.told("the folder is synced before a file is used", ["lock", folder, "print ready"], found[2][:3])
+    wrapper.told("file and folder are synced before it is used", ["lock", "sync file", folder, "print ready"], found[2][:4])
     wrapper.told("a record is synced before its gate, and the gate before the answer",
                  ["print ok", "print ok", "sync file", "print ok", *record(16384, 9), "print ok 1", *record(16398, 21), "print ok"],
-                 found[2][3:])
+                 found[2][4:])
 
 
 def record(at, length):

@@ -273,6 +273,10 @@ int kij_internal_move_file(const char *path);
 /* Whether a file or a folder is synced, whatever signals come; else errno says why. */
 bool kij_internal_is_synced(int file);
 
+/* Syncs a file before it is read: what a till has written last before it was killed may be in memory alone, and not
+   stay. A file system that can't sync can't be written. 0, or errno. */
+int kij_internal_sync_first(int file);
+
 /* Reads a file, as many bytes as totals have: 0 or errno. */
 int kij_internal_read_file(int file, uint8_t *bytes, size_t *size);
 

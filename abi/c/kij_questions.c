@@ -97,12 +97,11 @@ kij_result kij_devices(const char *profile, kij_device *devices, size_t room, si
 /* Reads a file that no till has open, as many bytes as totals have: 0, or errno, or KIJ_NO_MEMORY with a minus. */
 static int read_file(int file, uint8_t **bytes, size_t *size) {
     if (flock(file, LOCK_SH | LOCK_NB) != 0) return errno;
-    /* What a till has written last before it was killed may be in memory alone, and not stay. A file system that can't
-       sync can't be written. */
-    if (!kij_internal_is_synced(file) && errno != EINVAL && errno != EROFS) return errno;
+    int why = kij_internal_sync_first(file);
+    if (why != 0) return why;
     *bytes = (uint8_t *)malloc(KIJOLVAR_DISK_LENGTH);
     if (*bytes == NULL) return -KIJ_NO_MEMORY;
-    int why = kij_internal_read_file(file, *bytes, size);
+    why = kij_internal_read_file(file, *bytes, size);
     if (why != 0) free(*bytes);
     return why;
 }

@@ -34,6 +34,10 @@ bool kij_internal_is_synced(int file) {
     return found == 0;
 }
 
+int kij_internal_sync_first(int file) {
+    return kij_internal_is_synced(file) || errno == EINVAL || errno == EROFS ? 0 : errno;
+}
+
 int kij_internal_read_file(int file, uint8_t *bytes, size_t *size) {
     ssize_t found = 1;
     *size = 0;
@@ -161,14 +165,15 @@ static int open_locked(const char *path, int *file) {
     return why;
 }
 
-/* Opens a file that is there, and locks it. Its folder is synced too, since a creation that was killed may have named
-   the file and not synced its name. */
+/* Opens a file that is there, locks it, and syncs it. Its folder is synced too, since a creation that was killed may
+   have named the file and not synced its name. */
 static int open_existing(const char *path, int *file) {
     const char *name;
     int folder;
     int why = open_locked(path, file);
     if (why != 0) return why;
-    why = open_folder(path, &name, &folder);
+    why = kij_internal_sync_first(*file);
+    if (why == 0) why = open_folder(path, &name, &folder);
     if (why != 0) return dropped(*file, why);
     if (!kij_internal_is_synced(folder)) why = errno;
     close(folder);

@@ -59,9 +59,19 @@ def _has_name(totals: BinaryIO, path: str) -> bool:
         return False
 
 
+def _sync_first(totals: BinaryIO) -> None:
+    """Syncs a file of totals before it is read: what a till has written last before it was killed may be in memory
+    alone, and not stay. A file system that can't sync can't be written."""
+    try:
+        os.fsync(totals.fileno())
+    except OSError as fault:
+        if fault.errno not in (errno.EINVAL, errno.EROFS):
+            raise
+
+
 def open_totals(path: Path) -> BinaryIO:
-    """Opens a file of totals, and locks it against every other till. The lock ends when the file is closed, also in
-    processes that were forked meanwhile.
+    """Opens a file of totals, locks it against every other till, and syncs it. The lock ends when the file is closed,
+    also in processes that were forked meanwhile.
 
     It syncs the folder too, since a creation that was killed may have named the file and not synced its name.
 
@@ -72,6 +82,7 @@ def open_totals(path: Path) -> BinaryIO:
     name = os.fspath(path)
     with contextlib.ExitStack() as undo, _folder(name) as folder:
         totals = undo.enter_context(_locked(name, "r+b", fcntl.LOCK_EX))
+        _sync_first(totals)
         os.fsync(folder)
         undo.pop_all()
     return totals
@@ -109,9 +120,7 @@ def move_totals(library: ctypes.CDLL, path: Path) -> None:
 
 
 def read_totals(path: Path) -> bytes:
-    """The bytes of a file of totals that no till has open, as many as totals have.
-
-    It syncs them: what a till has written last before it was killed may be in memory alone, and not stay.
+    """The bytes of a file of totals that no till has open, as many as totals have. It syncs them first.
 
     Raises:
         FileNotFoundError: The file is missing.
@@ -121,12 +130,7 @@ def read_totals(path: Path) -> bytes:
     name = os.fspath(path)
     with _locked(name, "rb", fcntl.LOCK_SH) as totals:
         try:
-            try:
-                os.fsync(totals.fileno())
-            except OSError as fault:
-                # A file system that can't sync can't be written.
-                if fault.errno not in (errno.EINVAL, errno.EROFS):
-                    raise
+            _sync_first(totals)
             return read_whole(totals.fileno())
         except OSError as fault:
             raise OSError(fault.errno, fault.strerror, name) from None

@@ -140,25 +140,31 @@ fn open_locked(path: &Path) -> io::Result<LockedFile> {
     }
 }
 
-/// Opens a file that is there, and locks it. Its folder is synced too, since a creation that was killed may have named
-/// the file and not synced its name.
+/// The system's number of a fault: the file system is only read.
+const EROFS: c_int = 30;
+
+/// Syncs a file before it is read: what a till wrote last before it was killed may be in memory alone, and not stay. A
+/// file system that can't sync can't be written.
+fn sync_first(file: &File) -> io::Result<()> {
+    match file.sync_all() {
+        Err(fault) if !matches!(fault.raw_os_error(), Some(EINVAL | EROFS)) => Err(fault),
+        _ => Ok(()),
+    }
+}
+
+/// Opens a file that is there, locks it, and syncs it. Its folder is synced too, since a creation that was killed may
+/// have named the file and not synced its name.
 pub(crate) fn open_existing(path: &Path) -> io::Result<LockedFile> {
     let file = open_locked(path)?;
+    sync_first(&file)?;
     File::open(folder_of(path)?.0)?.sync_all()?;
     Ok(file)
 }
 
-/// The system's number of a fault: the file system is only read.
-const EROFS: c_int = 30;
-
-/// The bytes of a file that no till has open, as many as totals have. What a till wrote last before it was killed may
-/// be in memory alone, so it is synced first. A file system that can't sync can't be written. A pipe isn't waited for.
+/// The bytes of a file that no till has open, as many as totals have. It is synced first. A pipe isn't waited for.
 pub(crate) fn read_file(path: &Path) -> io::Result<Vec<u8>> {
     let file = LockedFile::shared(OpenOptions::new().read(true).custom_flags(O_NONBLOCK).open(path)?)?;
-    match file.sync_all() {
-        Err(fault) if !matches!(fault.raw_os_error(), Some(EINVAL | EROFS)) => return Err(fault),
-        _ => {}
-    }
+    sync_first(&file)?;
     let (mut bytes, mut count) = (vec![0; DISK_LENGTH as usize], 0);
     loop {
         match file.read_at(&mut bytes[count..], count as u64) {
