@@ -1,7 +1,7 @@
 #!/usr/bin/env bash
-# Tries the page of abi/page: its server, and in a browser a sale by clicks and the devices by hand. The library is the
-# one that rt lib builds. It needs rt, gcc, python3 and chromium, and installs nothing; the whole test leaves it out,
-# since it needs a browser. With --server it tries the server alone, without chromium: that is in the gate.
+# Tries the server of abi/page. Without --server it also tries its page in a browser: a sale by clicks, and the devices by
+# hand. The library is the one that rt lib builds. It needs rt, gcc and python3, and for the browser chromium, and
+# installs nothing. The gate has it with --server.
 # Usage: tests/page.sh [PICTURE], or tests/page.sh --server. KIJOLVAR_ARCHIVE names another library. Its last line is
 # 'N passed, M failed'.
 set -u
