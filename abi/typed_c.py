@@ -69,8 +69,8 @@ def range_text(about):
     if names and (most is None or most - least < len(names)):
         return f" {', '.join(names)}."
     if about.get("range"):
-        said = about["range"]
-    elif least is not None and most is not None:
+        return f" Range: {about['range']}."
+    if least is not None and most is not None:
         said = f"{least} to {most}" if least != most else f"{least}"
     else:
         said = "" if least is None else f"from {least} on"

@@ -93,8 +93,8 @@ def lowered(text):
 def range_text(about):
     """The range of a number or of bytes with its unit, as a sentence of its own."""
     if about.get("range"):
-        said = about["range"]
-    elif about["least"] is not None and about["most"] is not None:
+        return f" Range: {about['range']}."
+    if about["least"] is not None and about["most"] is not None:
         said = f"{about['least']} to {about['most']}" if about["least"] != about["most"] else f"{about['least']}"
     else:
         said = ""

@@ -9,7 +9,7 @@ import sys
 sys.path.insert(0, str(pathlib.Path(__file__).resolve().parent.parent / "abi/python"))
 
 import kijolvar
-from kijolvar import ER_CLEAR, ER_RETRY, DataEvent, ErrorEvent
+from kijolvar import ER_CLEAR, ER_RETRY, DataEvent, ErrorEvent, OutputCompleteEvent, StatusUpdateEvent
 
 PROFILE = """
 device = [
@@ -66,7 +66,10 @@ def print_receipt(till, printer, basket):
             print(f"printer: ErrorEvent {event.code} {event.extended} {event.locus}: retry")
             at_printer.paper(100)
             return ER_RETRY
-        print(f"printer: OutputCompleteEvent {event.output_id}")
+        if isinstance(event, OutputCompleteEvent):
+            print(f"printer: OutputCompleteEvent {event.output_id}")
+        if isinstance(event, StatusUpdateEvent):
+            print(f"printer: StatusUpdateEvent {event.status}")
 
     printer.async_mode = True
     printer.print("".join(row(*article) + "\n" for article in [*basket, ("Total", sum(cents for _, cents in basket))]))

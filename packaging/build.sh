@@ -200,15 +200,16 @@ ask_tool() {
 # install_documents TO: puts the documents, the examples, the page and the conformance scripts into TO/share
 install_documents() {
   local doc=$1/share/doc/kijolvar data=$1/share/kijolvar
-  mkdir -p "$doc/abi" "$doc/examples" "$data/page" "$data/python" "$data/scripts"
+  mkdir -p "$doc/abi" "$doc/examples" "$doc/packaging" "$data/page" "$data/python" "$data/scripts"
   cp "$top/README.md" "$top/CHANGELOG.md" "$doc"
   cp -r "$top/docs" "$doc"
   cp "$top/abi/README.md" "$doc/abi"
-  cp "$top/packaging/README.md" "$doc/packaging.md"
+  cp "$top/packaging/README.md" "$doc/packaging"
   cp "$top"/examples/* "$doc/examples"
   cp "$top"/abi/page/* "$data/page"
   cp "$top/abi/python/till.py" "$top/abi/python/standard.py" "$data/python"
   cp "$top"/tests/scripts/* "$data/scripts"
+  cp -r "$top/tests/emulator" "$data"
   rm -rf "$data"/*/__pycache__
 }
 

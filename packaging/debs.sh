@@ -53,6 +53,7 @@ lay_python3-kijolvar() {
   ln -sf "../../../x86_64-linux-gnu/libkijolvar.so.$major" "$packages/kijolvar/libkijolvar.so"
   rm "$packages/$info/RECORD" "$packages/$info/WHEEL"
   take "$1" 'share/kijolvar/p*' "$2/usr/share/kijolvar"
+  take "$1" 'share/kijolvar/emulator' "$2/usr/share/kijolvar"
   take "$1" 'share/doc/kijolvar/examples/sale.py' "$2/usr/share/doc/python3-kijolvar/examples"
   cp "$top/packaging/debian/python3-kijolvar.postinst" "$2/DEBIAN/postinst"
   cp "$top/packaging/debian/python3-kijolvar.prerm" "$2/DEBIAN/prerm"

@@ -1613,6 +1613,80 @@ def try_answer_from_before():
         shop.same_paper("an answer from before: the paper")
 
 
+class Telling(Printer):
+    """A simpler printer that sends its status by itself whenever it is switched on, until it is told not to: by its DIP
+    switch."""
+
+    def started(self):
+        self._is_automatic = True
+        self._changed()
+
+
+def try_power_of_one_that_tells():
+    """A printer that is asked, and sends an automatic status once it is on again after it has lost its power in a line:
+    the status is no answer for the line."""
+    for kind in ("asked stays", "asked tcp stays", "asked holds"):
+        with contextlib.ExitStack() as stack:
+            name, shop = f"one that tells, over {kind}", Shop(stack, kind, made=Telling, timeout=5 * TIMEOUT)
+            shop.begins()
+            told(f"{name}: it doesn't tell any more", True, shop.device.wait(lambda: not shop.device._is_automatic))
+            shop.device.ROOM = 8
+            timer = threading.Timer(TIMEOUT / 4, shop.device.plug_in)
+            shop.device.after_characters(2, shop.device.pull_plug, timer.start)
+            began = time.monotonic()
+            told(f"{name}: the answer", (111, 0), raised(shop.control.print, b"A line that is longer\n"))
+            told(f"{name}: it comes with the status", True, time.monotonic() - began < 5 * TIMEOUT)
+            timer.join()
+            told(f"{name}: again", True, until(
+                lambda: raised(shop.control.print, b"A line that is longer\n") is None))
+            told(f"{name}: another order", None, raised(shop.control.print, b"Other\n"))
+            items = shop.till.device("r1").show().items
+            told(f"{name}: each line is whole", (3, []), (len(items), not_whole(shop.device, items)))
+            told(f"{name}: it was told again", True, shop.device.wait(lambda: not shop.device._is_automatic))
+            told(f"{name}: it is online", (True, True), (shop.settle(), shop.driver.link.signs["offline"] == "no"))
+
+
+def try_status_of_one_that_is_asked():
+    """An automatic status is none of the answers that a printer is asked for, however it comes. A byte that is none of
+    it is an answer."""
+    for name, found, wanted, is_reset in (
+            ("an answer", b"\0", None, False), ("a status", b"\x14\0\0\0", (111, 0), True),
+            ("an answer and a status", b"\0\x14\0\0\0", None, True),
+            ("a part of a status and a whole one", b"\x10\0\x14\0\0\0", (111, 0), True),
+            ("a part of a status", b"\x14\0\0", (111, 0), False),
+            ("a part, and a question's answer", b"\x14\0\x12", (111, 0), False),
+            ("a part, and two answers", b"\x14\0\x12\0", None, False)):
+        with contextlib.ExitStack() as stack:
+            shop, written = Shop(stack, "asked"), []
+            shop.begins()
+            shop.device.hang()
+            link = shop.driver.link
+
+            def loses(data):
+                """The line loses what is sent, and something else comes once a line is."""
+                if b"Lost" in data:
+                    os.write(shop.device.cable._master, found)
+                written.append(data)
+                return len(data)
+            stack.enter_context(mock.patch.object(link.port, "write_some", loses))
+            # Each byte comes alone.
+            stack.enter_context(mock.patch.object(link.port, "read_some", lambda: os.read(link.port.fileno(), 1)))
+            told(f"{name}: the order", wanted, raised(shop.control.print, b"Lost\n"))
+            until(lambda: shop.till.run_devices(0.01) and False, TIMEOUT / 4)
+            sent = b"".join(written).partition(b"Lost")[2]
+            told(f"{name}: the start is sent again", is_reset, link._start in sent)
+    with contextlib.ExitStack() as stack:
+        device = stack.enter_context(Telling(cable("asked"), is_simple=True))
+        till = stack.enter_context(opened())
+        # It comes as soon as the port is open.
+        till.drive("r1", driver := EscPosPrinter(device.path, is_asked=True, timeout=TIMEOUT, pause=PAUSE))
+        told("a status before all", True, until(lambda: till.run_devices(0.01) is not None and driver.is_online
+                                                and driver.link.signs == signs_of(device)))
+        with till.printer("r1").in_use() as control:
+            told("a status before all: an order", None, raised(control.print, TEXT))
+            same_paper("a status before all: the paper", device, till.device("r1").show().items)
+
+
 def try_absent():
     """A printer that isn't there yet."""
     with contextlib.ExitStack() as stack:
@@ -2710,6 +2784,28 @@ def try_forked():
         driver.close = lambda: None
 
 
+def try_closed_by_the_other_end():
+    """A TCP port whose other end has closed is lost without SIGPIPE, which would end the program."""
+    signals = []
+    before = signal.signal(signal.SIGPIPE, lambda *_: signals.append("SIGPIPE"))
+    with socket.create_server(("127.0.0.1", 0)) as listener:
+        port = kijolvar.TcpPort(*listener.getsockname())
+        port.open()
+        listener.accept()[0].close()
+        faults = []
+        lost = until(lambda: faults.append(fault_of(port.write_some, b"x" * 3)) or faults[-1] is not None)
+        told("the other end has closed", (True, "PortError", errno.EIO, True, []),
+             (lost, type(faults[-1]).__name__, faults[-1].errno, "Broken pipe" in str(faults[-1]), signals))
+        told("the port is closed", False, port.is_open)
+        port.open()
+        with listener.accept()[0] as other:
+            told("it sends", (3, b"\0\1\2"), (port.write_some(b"\0\1\2"), other.recv(9)))
+            told("there is no room in the end", (True, True),
+                 (until(lambda: port.write_some(bytes(70_000)) == 0), port.is_open))
+        port.close()
+    signal.signal(signal.SIGPIPE, before)
+
+
 def try_forked_connections():
     """A process that is forked closes a connection that is being made."""
     with SilentHost() as silent:
@@ -2817,6 +2913,8 @@ def try_refusals():
     told("no such pin", "ValueError", name_of(EscPosPrinter, "/dev/null", pin=3))
     told("no such roll", "ValueError", name_of(EscPosPrinter, "/dev/null", lines=MOST_LINES + 1))
     told("no such protocol", "ValueError", name_of(SerialDisplay, "/dev/null", "morse"))
+    told("no such timeout", ["ValueError"] * 8, [name_of(made, "/dev/null", timeout=timeout) for timeout in (
+        0, 0.0, -1.0, float("nan")) for made in (EscPosPrinter, SerialDisplay)])
     told("no such speed", "ValueError", name_of(SerialPort, "/dev/ttyS0", 9601))
     told("no such parity", "ValueError", name_of(SerialPort, "/dev/ttyS0", parity="odder"))
     told("ports", ["FilePort", "SerialPort", "TcpPort tcp://a:1", "TcpPort tcp://a:1", "TcpPort tcp://a:9100",

@@ -1373,6 +1373,96 @@ def try_asked_retries():
         told("it is printed once", 1, [item[1] for item in shop.paper()].count(b"Last"))
 
 
+class SayingPrinter(Printer):
+    """A printer that says by itself how it is once it is on, until it is told not to."""
+
+    def started(self):
+        self._is_automatic = True
+        self._changed()
+
+
+def try_status_of_reset():
+    """A printer that is asked is reset, and sends an automatic status: none of its bytes acknowledges a line."""
+    for kind in ("asked stays", "asked serial", "asked tcp stays", "asked holds"):
+        with contextlib.ExitStack() as stack:
+            shop = Shop(stack, kind, made=SayingPrinter)
+            device = shop.device
+
+            def is_told():
+                """Whether it is told not to say how it is."""
+                return until(lambda: shop.host.ask("run 10") and not device._is_automatic)
+            told(f"it is told how to begin, {kind}", True, is_told())
+            told(f"an order, {kind}", "ok", shop.print(b"First\n"))
+            device.pull_plug()
+            device.plug_in()
+            told(f"it is told again, {kind}", True, is_told())
+            told(f"an order after a reset, {kind}", "ok", shop.print(b"Second\n"))
+            timer = threading.Timer(0.2, device.plug_in)
+            device.after_characters(2, device.pull_plug, timer.start)
+            told(f"a reset in a line, {kind}", "err 111", shop.print(b"Third\n"))
+            timer.join()
+            told(f"it is told after that, {kind}", True, is_told())
+            told(f"the line isn't whole, {kind}", False, ("left", b"Third") in shop.paper())
+            told(f"the order again, {kind}", True, until(lambda: shop.print(b"Third\n") == "ok"))
+            told(f"it is printed once, {kind}", 1, shop.paper().count(("left", b"Third")))
+            told(f"it is on, {kind}", "online 0", shop.host.ask("state r1"))
+
+
+def try_status_in_parts():
+    """An automatic status that comes byte by byte; and one whose end doesn't come."""
+    for status in (b"\x14\0\0\0", b"\x18\x60\x0f\x6f", b"\x10\0\x10\0\0\0"):
+        with contextlib.ExitStack() as stack:
+            name, shop = status.hex(), Shop(stack, "asked")
+            device = shop.device
+
+            def says():
+                for byte in status:
+                    time.sleep(0.03)
+                    device.garbage(bytes([byte]))
+            saying = threading.Thread(target=says)
+            device.after_characters(2, device.hang, saying.start)
+            told(f"the status {name} in a line", "err 111", shop.print(b"First\n"))
+            saying.join()
+            told(f"nothing is printed, {name}", [], device.receipt())
+            device.hang(False)
+            told(f"the order again, {name}", True, until(lambda: shop.print(b"First\n") == "ok"))
+            told(f"it is printed, {name}", True, ("left", b"First") in shop.paper())
+    with contextlib.ExitStack() as stack:
+        shop = Shop(stack, "asked", timeout=AMPLE)
+        for part in (1, 2, 3):
+            shop.device.garbage(b"\x14\0\0"[:part])
+            # The answers to questions are none of it.
+            shop.host.ask("run 1000")
+            told(f"an order after {part} bytes of a status", "ok", shop.print(b"Next\n"))
+        told("each is printed once", [("left", b"Next")] * 3, shop.paper())
+
+
+def try_answer_too_early():
+    """A byte that comes while a line is still in this machine doesn't acknowledge it."""
+    with contextlib.ExitStack() as stack:
+        shop = Shop(stack, "asked")
+        device = shop.device
+        device.hang()
+        device.ROOM = 0
+        os.set_blocking(device.cable._slave, False)
+        # Zero bytes do nothing. The system makes a little room again a moment after its line is full.
+        for _ in range(100):
+            time.sleep(0.003)
+            with contextlib.suppress(BlockingIOError):
+                while True:
+                    os.write(device.cable._slave, bytes(64))
+        noise = threading.Timer(0.2, device.garbage, [b"\0"])
+        noise.start()
+        told("it isn't done", "err 111", shop.print(b"First\n"))
+        noise.join()
+        told("nothing is printed", [], device.receipt())
+        device.ROOM = Printer.ROOM
+        device.hang(False)
+        told("it is well", True, shop.settle())
+        told("the order again", True, until(lambda: shop.print(b"First\n") == "ok"))
+        told("it is printed once", [("left", b"First")], shop.paper())
+
+
 def try_begun_late():
     """An order whose time is over when what is due before it is given up isn't sent: it has failed."""
     with contextlib.ExitStack() as stack:

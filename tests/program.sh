@@ -186,8 +186,8 @@ ends 'a path with controls' 4 \
 meets() {
   local name=$1 fault=$2 status=$3 message=$4
   shift 4
-  under=(strace -o trace -P "$work/faulty.disk" -P "$work" -e trace=flock,statx,ftruncate,fsync,pread64,pwrite64
-    -e "inject=$fault")
+  under=(strace -o trace -e quiet=path-resolution -P faulty.disk -P "$work/faulty.disk" -P "$work"
+    -e trace=flock,statx,ftruncate,fsync,pread64,pwrite64 -e "inject=$fault")
   ends "$name" "$status" "pos_console: faulty.disk: $message" "$@"
   under=()
 }
@@ -197,11 +197,16 @@ formats() {
   meets "$@" format --disk faulty.disk
 }
 failed_format='a read, a write or a sync failed while it was formatted'
+in_use='is in use: close the other program that has it open'
 formats 'a lock that fails' flock:error=ENOLCK 4 "can't be locked: No locks available (os error 37)"
 told 'a file without a lock is asked nothing' 'flock' "$(sed -n 's/(.*INJECTED.*//p; t; s/(.*//p' trace | grep -v '^+' | tr -d '\n')"
 told 'a file without a lock stays empty' 0 "$(wc -c < faulty.disk)"
 formats 'a lock without memory' flock:error=ENOMEM 6 'no memory to open it'
 formats 'a length that is not told' statx:error=EIO 4 "its length can't be told: Input/output error (os error 5)"
+formats 'a file of whose name nothing is told' statx:error=EIO:when=2 4 "$opened: Input/output error (os error 5)"
+formats 'a file that has no name any more' statx:error=ENOENT:when=2 4 "$in_use"
+formats 'a file that is told of no second time' statx:error=EIO:when=3 4 "$opened: Input/output error (os error 5)"
+told 'a file that may have another name stays empty' 0 "$(wc -c < faulty.disk)"
 formats 'a folder that is not synced' fsync:error=EIO:when=1 4 \
   "its folder can't be opened and synced: Input/output error (os error 5)"
 formats 'a file that is not lengthened' ftruncate:error=EFBIG 4 "can't be lengthened: File too large (os error 27)"
@@ -489,6 +494,54 @@ limited() {
 limited 16 'err 111\nerr 111\nerr 111' # the first record is refused
 limited 17 'ok 1\nerr 111\nerr 111'    # the second is cut short
 limited 19 'ok 1\nok\nok 1 2000'
+
+# --- a file in whose place another one is put after it was opened and before it is locked
+# overtaken NAME WORD ..: whether the program ends so on the words, and leaves both files as they are
+overtaken() {
+  local name=$1
+  shift
+  cp till.disk early.disk
+  cp early.disk late.disk
+  rm -f kept.disk
+  strace -o trace -e quiet=path-resolution -P early.disk -e trace=openat -e inject=openat:signal=STOP "$program" "$@" \
+    < script > out 2> err &
+  local tracer=$! stopped=
+  for _ in {1..600}; do
+    stopped=$(ps -o pid=,stat= --ppid "$tracer" | sed -n 's/^ *\([0-9]*\) *[tT].*/\1/p')
+    grep -q 'SIGSTOP' trace 2> /dev/null && [ -n "$stopped" ] && break
+    sleep 0.1
+  done
+  ln early.disk kept.disk
+  mv late.disk early.disk
+  kill -CONT "$stopped"
+  wait "$tracer"
+  told "$name: status" 4 $?
+  told "$name: message" "pos_console: early.disk: $in_use" "$(cat err)"
+  told "$name: files" same "$(cmp -s kept.disk till.disk && cmp -s early.disk till.disk && echo same)"
+}
+overtaken 'a run of a file that is replaced' run --profile sound.toml --disk early.disk
+overtaken 'a move of a file that is replaced' migrate --disk early.disk
+overtaken 'a format of a file that is replaced' format --disk early.disk
+
+# --- streams that are closed: no file is opened in their place
+cp till.disk closed.disk
+printf 'new a HardTotals\nopen a t1\nset a DeviceEnabled true\n' > script
+over_closed=(run --profile sound.toml --disk closed.disk)
+"$program" "${over_closed[@]}" < script 2> err >&-
+told 'closed output: status' 5 $?
+told 'closed output: message' "pos_console: the answers can't be written" "$(cat err)"
+"$program" "${over_closed[@]}" > out 2> err <&-
+told 'closed input: status' 5 $?
+told 'closed input: message' "pos_console: the script can't be read" "$(cat err)"
+told 'closed input: output' '' "$(cat out)"
+"$program" "${over_closed[@]}" < script > out 2>&-
+told 'closed errors: status' 0 $?
+told 'closed errors: output' "$(printf 'ok\nok\nok')" "$(cat out)"
+"$program" "${over_closed[@]}" <&- >&- 2>&-
+told 'all closed: status' 5 $?
+"$program" files --disk closed.disk 2> err >&-
+told 'files on closed output: status' 5 $?
+told 'closed streams leave the file as it was' same "$(cmp -s closed.disk till.disk && echo same)"
 
 # --- syncs, by strace: between what has to settle and what follows, and before an answer is written
 # calls WORD ..: the calls of the program on the words that change a file: w where bytes are written, l where it is

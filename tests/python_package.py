@@ -1016,6 +1016,67 @@ def try_totals():
         told("and no call after it", "DiskError", name_of(lambda: totals.state))
 
 
+def try_disabled_transactions():
+    """A transaction whose block disables or closes the control is rolled back, and a later write is made at once."""
+    def disables(totals, _):
+        totals.device_enabled = False
+
+    def uses(totals, _):
+        with totals.in_use():
+            totals["A"].write(0, b"\7")
+
+    def fails(totals, _):
+        totals.device_enabled = False
+        raise KeyError("an exception")
+
+    def another_claims(totals, other):
+        other.claim()
+        totals.device_enabled = False
+
+    def closes(totals, _):
+        totals.close()
+
+    def opens_again(totals, _):
+        totals.close()
+        totals.open("t1")
+
+    def within(totals, other, block):
+        with totals.transaction():
+            totals["A"].write(0, b"\7")
+            block(totals, other)
+
+    def left(totals, other):
+        return totals.transaction_in_progress, totals.device_enabled, other["A"].read()
+    for block, wanted in ((disables, "DisabledError"), (uses, "DisabledError"), (fails, "KeyError"),
+                          (another_claims, "ClaimedError"), (closes, "ClosedError"), (opens_again, "DisabledError")):
+        with opened() as till:
+            totals, other = till.totals("t1"), till.totals("t1")
+            totals.create("A", 1)
+            name = block.__name__
+            told(f"a transaction whose block {name}", wanted, name_of(within, totals, other, block))
+            if totals.device is None:
+                totals.open("t1")
+            told(f"is rolled back if it {name}", (False, False, b"\0"), left(totals, other))
+            if other.claimed:
+                other.release()
+            totals.device_enabled = True
+            totals["A"].write(0, b"\1")
+            told(f"a later write if it {name}", b"\1", other["A"].read())
+    with opened() as till:
+        totals, other = till.totals("t1"), till.totals("t1")
+        totals.create("A", 1)
+        carry_out = totals._carry_out
+        for refused in (b" DeviceEnabled true", b" rollback"):
+            def forgets(line):
+                return b"memory\n" if line.endswith(refused) else carry_out(line)
+            with mock.patch.object(totals, "_carry_out", forgets):
+                told(f"no memory for{refused.decode()}", "DisabledError", name_of(within, totals, other, disables))
+            told("the control stays in the transaction", (True, False, b"\0"), left(totals, other))
+            totals.device_enabled = True
+            totals.rollback()
+            told("which rollback ends", (False, True, b"\0"), left(totals, other))
+
+
 # ---- what a signal's handler does during a call
 
 class Signalled:
@@ -1356,6 +1417,36 @@ def try_lines_without_memory():
     told("memory for all", (type(None), None, 3), refused_at(4))
 
 
+def try_lost_openings():
+    """A control whose opening or closing has no answer is open or closed all the same."""
+    with opened() as till:
+        drawer, heard = till.new_control(kijolvar.CashDrawer), []
+        drawer.listen(heard.append)
+        carry_out = drawer._carry_out
+
+        def loses(line):
+            carry_out(line)
+            raise kijolvar.NoMemoryError(kijolvar.KIJOLVAR_CUT)
+
+        def lost(call, *words):
+            with mock.patch.object(drawer, "_carry_out", loses):
+                return code_of(call, *words)
+        told("a lost answer of open", (kijolvar.KIJOLVAR_CUT, "d1", [drawer]),
+             (lost(drawer.open, "d1"), drawer.device, till.controls()))
+        drawer.device_enabled = True
+        till.device("d1").drawer(is_open=True)
+        told("its events come", (1, 1), (till.deliver(), len(heard)))
+        told("a lost answer as it is opened again", (kijolvar.KIJOLVAR_CUT, "d1"),
+             (lost(drawer.open, "zz"), drawer.device))
+        told("a lost answer of close", (kijolvar.KIJOLVAR_CUT, None, [], S_CLOSED),
+             (lost(drawer.close), drawer.device, till.controls(), drawer.state))
+        told("a lost answer of an open that is refused", kijolvar.KIJOLVAR_CUT, lost(drawer.open, "zz"))
+        told("closing tells it", ("ClosedError", None), (name_of(drawer.close), drawer.device))
+        with drawer:
+            told("a lost answer of open in a block", kijolvar.KIJOLVAR_CUT, lost(drawer.open, "d1"))
+        told("whose end closes it", S_CLOSED, drawer.state)
+
+
 class Replaced:
     """An export, in whose place a function answers while there is one: it gets the export and its words."""
 
@@ -1534,6 +1625,72 @@ class Part(kijolvar.Driver):
 
 def fails(text="the port failed"):
     raise OSError(text)
+
+
+def try_given_up_by_a_closed_control():
+    """ER_CLEAR after the control was closed, and a clear whose answer is lost: one printer's output is given up."""
+    with opened(TWO_PRINTERS) as till:
+        gave_up = []
+        for name in ("r1", "r2"):
+            part = Part()
+            part.given_up = lambda name=name: gave_up.append(name)
+            till.drive(name, part)
+        for leaves in ("release", "close"):
+            printer = printer_in_error(till)
+            event = by_word(printer, None)
+            getattr(printer, leaves)()
+            gave_up.clear()
+            told(f"a reply after a {leaves}", (None, ["r1"]), (raised(event.reply, ER_CLEAR), gave_up))
+        gave_up.clear()
+        till._drives.gave_up(b"call %b clearOutput" % printer.name.encode(), None)
+        told("a lost answer of a clear of a closed control", ["r1"], gave_up)
+
+
+def try_held_orders():
+    """An interrupt as an order begins to wait: it is its driver's, and the host doesn't get it."""
+    with opened(TWO_PRINTERS) as till:
+        till.drive("r1", part := Part())
+        till.host("d1")
+        session, asks = till._session, till._session._next_order
+        printer, drawer = till.printer("r1"), till.drawer("d1")
+        printer.claim()
+        printer.device_enabled = True
+
+        def interrupts(*_):
+            session._next_order = asks
+            raise KeyboardInterrupt
+        for has_hosted in (False, True):
+            if has_hosted:
+                drawer.open_drawer()
+            session._next_order = interrupts
+            told("an interrupt as an order waits", "KeyboardInterrupt", interrupted(printer.print, "A\n"))
+            told(f"the host's orders, of which there are some: {has_hosted}", ["openDrawer"] * has_hosted,
+                 [order.name for order in till.orders()])
+            told("nothing is printed", [], part.did)
+        told("the next order is printed", (None, ["print"]), (raised(printer.print, "A\n"), part.did))
+
+
+def try_words_of_drivers():
+    """What drivers say, with a line end or none: each input once."""
+    with opened(TWO_PRINTERS) as till:
+        till.drive("r1", part := Part())
+        till.drive("d1", drawer := Part())
+        till.run_devices()
+        part.says, drawer.says = ["cover open\n", "", " \n", "paper 50\r\n"], ["", "\n"]
+        told("line ends and blank words", [None] * 2, [name_of(till.run_devices) for _ in range(2)])
+        told("are left out", (True, 50), (till.device("r1").show().is_cover_open, till.device("r1").show().lines_left))
+        till.device("r1").cover(is_open=False)
+        told("nothing is told twice", (None, False),
+             (name_of(till.run_devices), till.device("r1").show().is_cover_open))
+        says = "the driver of 'r1' says {!r} has happened: return a str for each line"
+        for words in ("cover open\npaper 0", "cover\ropen"):
+            part.says, drawer.says = [words], ["open"]
+            fault = raised(till.run_devices)
+            told(f"{words!r} is refused", ("ValueError", says.format(words)), (type(fault).__name__, str(fault)))
+            told("the other device is served", True, till.device("d1").show().is_open)
+            till.device("d1").drawer(is_open=False)
+            told("once", (None, False), (name_of(till.run_devices), till.device("d1").show().is_open))
+            told("and nothing is told of the printer", False, till.device("r1").show().is_cover_open)
 
 
 def try_faults_of_drivers():
@@ -1819,8 +1976,9 @@ def try_devices():
              [till.device(name).show() for name in ("d1", "s1")])
         told("an unknown device", "NoDeviceError", name_of(till.device("zz").show))
         told("an input of another kind", "InputError", name_of(till.device("d1").paper, 5))
-        told("a spare", ("ExchangeError", "NoSpare"), (name_of(till.device("d1").attach, 9),
-                                                       raised(till.device("d1").attach, 9).reason))
+        for number in (9, 0, -1, 10 ** 18, -10 ** 18, 10 ** 5000):
+            fault = raised(till.device("d1").attach, number)
+            told("a spare", ("ExchangeError", "NoSpare"), (type(fault).__name__, getattr(fault, "reason", None)))
         till.device("d1").detach()
         told("a device without a peripheral", "NoServiceError", name_of(till.drawer, "d1"))
         till.device("d1").attach(1)
@@ -1968,10 +2126,11 @@ def main():
     try:
         for try_it in (try_scripts, try_threads, try_fork, try_closed, try_replies, try_events, try_listeners,
                        try_kept_listeners, try_claims,
-                       try_misuse, try_many_controls, try_totals, try_files, try_replaced_totals, try_handlers,
-                       try_closing_handlers, try_forking_handlers, try_any_event,
+                       try_misuse, try_many_controls, try_totals, try_disabled_transactions, try_files,
+                       try_replaced_totals, try_handlers, try_closing_handlers, try_forking_handlers, try_any_event,
                        try_lines_without_memory, try_orders_without_memory, try_order_without_memory,
-                       try_scan_before_power, try_lost_answers, try_faults_of_drivers, try_orders_in_polls,
+                       try_scan_before_power, try_lost_answers, try_lost_openings, try_given_up_by_a_closed_control,
+                       try_held_orders, try_words_of_drivers, try_faults_of_drivers, try_orders_in_polls,
                        try_closed_drivers, try_closed_in_a_round,
                        try_profiles, try_library,
                        try_help, try_texts, try_devices, try_order_bytes, try_interrupted_room, try_reply_lines):

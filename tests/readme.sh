@@ -58,7 +58,6 @@ FILE = re.compile(r"(?:# |/\* |// )(\w+\.(?:py|c|rs))(?: \*/)?\n")
 # Commands that aren't run here: what they begin with, and why.
 NOT_RUN = [
     (r"(?:\(cd crates/pos_console && rt run < stdin\))$", "it proves every crate, which the gate does"),
-    (r"\(cd crates/pos_console && rt try < stdin\)$", "it compiles every crate; the gate runs the same stdin"),
     (r"tests/quick\.sh$", "it runs by itself; all that it tries the gate tries too"),
     (r"\.ci/run$", "it runs this"),
     (r"rt check$", "it proves a crate, which the gate does"),

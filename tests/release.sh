@@ -205,7 +205,7 @@ try_files() {
   said+=$(sed -n 's/^commit: //p' "$tree/MANIFEST")
   told "SHA256SUMS" 0 "$(cd "$dist" && sha256sum --quiet -c SHA256SUMS 2>&1; echo $?)"
   told "its files are those of packaging.md" \
-    "$(sed -n "s/^| \`\([^\`]*VERSION[^\`]*\)\` .*/\1/p" "$tree/share/doc/kijolvar/packaging.md" \
+    "$(sed -n "s/^| \`\([^\`]*VERSION[^\`]*\)\` .*/\1/p" "$tree/share/doc/kijolvar/packaging/README.md" \
       | sed "s/VERSION/$version/" | LC_ALL=C sort)" \
     "$(listed "$dist")"
   told "the manifest's checksums" 0 "$(cd "$tree" && sed -n "s/^\($sum\) *[0-9]* \(.*\)$/\1  \2/p" MANIFEST \
@@ -297,7 +297,7 @@ try_uninstall() {
   (umask 077 && "$top/tools/install" "$prefix") > "$work/said" 2>&1
   told "others may read what is installed" "" \
     "$(find "$work/private" ! -perm -o+r; find "$work/private" -type d ! -perm -o+x)"
-  command=$(blocks "$tree/share/doc/kijolvar/packaging.md" "Install it" indented | grep installed)
+  command=$(blocks "$tree/share/doc/kijolvar/packaging/README.md" "Install it" indented | grep installed)
   touch "$prefix/share/yours"
   (eval "${command/PREFIX/$prefix}") > "$work/said" 2>&1
   told "packaging.md's command removes it" "0 $prefix/share/yours" \
@@ -405,7 +405,7 @@ try_readme() {
   refused "the wheel, by a pip of an older glibc or of another C library" "not a supported wheel on this platform" \
     apart sh -c "${tree##*/}/day/venv/bin/pip download --no-index --no-deps --only-binary=:all: -d none \
       --platform manylinux_2_30_x86_64 --platform musllinux_1_2_x86_64 --platform linux_x86_64 ./*.whl"
-  blocks "$tree/share/doc/kijolvar/packaging.md" "Check it" indented | sed "1a cd $folder" > "$outside/check.sh"
+  blocks "$tree/share/doc/kijolvar/packaging/README.md" "Check it" indented | sed "1a cd $folder" > "$outside/check.sh"
   runs "the commands by which packaging.md checks a release" sh -e check.sh
 }
 
@@ -538,7 +538,7 @@ try_debs() {
   sells "the sale by CMake from the packages" cmake/system/sale_static
   sells "the sale in Python from the packages" python3 /usr/share/doc/python3-kijolvar/examples/sale.py
   try_page "the page is served from the packages" / \
-    "$(grep -o 'python3 /usr/share/kijolvar/page/[^`]*' "$tree/share/doc/kijolvar/packaging.md")"
+    "$(grep -o 'python3 /usr/share/kijolvar/page/[^`]*' "$tree/share/doc/kijolvar/packaging/README.md")"
   told "the day by the packages" "$(blocks "$tree/README.md" "A till's day" text)" \
     "$(apart sh -ec "mkdir other && cd other && . $inside/day.sh" 2>&1)"
   try_dependent

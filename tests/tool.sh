@@ -78,7 +78,8 @@ script() {
 
 hint_words='hint: `kijolvar help` lists the commands'
 hint_path='hint: check the path, and who may read and write it'
-hint_create='hint: is it the right file? `kijolvar create FILE` makes totals without files'
+hint_link='hint: if a file is there, give another path, or restore with --replace; the disk must have hard links'
+hint_create='hint: is it the right file? Restore a copy if it had totals'
 hint_salvage='hint: `kijolvar salvage FILE TO` makes a sound file of what can be had'
 hint_stop='hint: a till that runs locks its totals file: stop it first'
 none='No such file or directory (os error 2)'
@@ -147,7 +148,7 @@ ends 'check counts' 0 '' 'sound: layout 1, sequence 1, records 3, files 2' check
 ends 'check of no file' 4 "kijolvar: none.totals: $unread: $none"$'\n'"$hint_path" '' check none.totals
 ends 'a path with a line feed' 4 "kijolvar: a\\nb: $unread: $none"$'\n'"$hint_path" '' check "$(printf 'a\nb')"
 head -c 327680 /dev/zero > zero.totals
-unformatted='no totals: not formatted'$'\n''to do: `kijolvar create FILE` makes totals without files'
+unformatted='no totals: not formatted'$'\n''to do: restore a copy if it had any; `kijolvar create FILE` makes new ones'
 ends 'check of bytes without totals' 1 '' "$unformatted" check zero.totals
 ends 'the same, quiet' 1 '' '' check --quiet zero.totals
 head -c 100000 till.totals > short.totals
@@ -206,7 +207,8 @@ told 'files: lines of a file' 'file 41 name A size 4 hex 01020304 text ....' \
   "$(sed -n '7,11p' out | tr '\n' ' ' | sed 's/ $//')"
 ends 'files of bytes without totals' 1 "kijolvar: zero.totals: isn't formatted"$'\n'"$hint_create" '' files zero.totals
 ends 'files of a short file' 1 \
-  "kijolvar: short.totals: is shorter than a totals file, which has 327680 bytes"$'\n'"$hint_create" '' files short.totals
+  "kijolvar: short.totals: is shorter than a totals file, which has 327680 bytes"$'\n''hint: is it the right file? If it was cut off, restore a copy of it, or salvage what is left' \
+  '' files short.totals
 ends 'files of a folder' 4 \
   'kijolvar: .: can'"'"'t be read whole: check the device that it is on'$'\n''hint: check the device that it is on, and the space that is free there' \
   '' files .
@@ -265,7 +267,7 @@ cp moved.totals kept
 ends 'a second move' 4 'kijolvar: moved.totals: has layout 2 already: there is nothing to do'$'\n''hint: nothing is left to do' '' migrate moved.totals
 same 'a second move keeps the bytes' moved.totals kept
 ends 'migrate of bytes without totals' 1 \
-  "kijolvar: zero.totals: isn't formatted: format it first, which makes totals without files"$'\n''hint: `kijolvar create FILE` makes totals without files' \
+  "kijolvar: zero.totals: isn't formatted: format it first, which makes totals without files"$'\n''hint: restore a copy if it had totals; `kijolvar create FILE` makes new ones' \
   '' migrate zero.totals
 ends 'migrate of no file' 4 "kijolvar: none.totals: $unopened: $none"$'\n'"$hint_path" '' migrate none.totals
 { for at in $(seq 250); do printf 'call a create %s 3 false\n' "$(printf 'f%03d' "$at" | od -An -tx1 | tr -d ' \n')"; done; } |
@@ -300,7 +302,7 @@ ends 'load of a text that is cut' 1 "kijolvar: text: is no dump of totals"$'\n'"
 ends 'load of no text' 4 "kijolvar: none: $unread: $none"$'\n'"$hint_path" '' load none new
 told 'load makes nothing then' '' "$(ls new* 2> /dev/null)"
 ends 'load where a file is' 4 \
-  "kijolvar: till.totals: can't be put there: File exists (os error 17)"$'\n''hint: if a file is there: give another path, or restore with --replace' \
+  "kijolvar: till.totals: can't be put there: File exists (os error 17)"$'\n'"$hint_link" \
   '' load dumped till.totals
 
 # --- salvage
@@ -311,7 +313,7 @@ ends 'salvage of a file that was cut off' 0 '' '' salvage short.totals saved2.to
 same 'salvage adds the bytes that are missing' saved2.totals till.totals
 ends 'salvage of no file' 4 "kijolvar: none.totals: $unread: $none"$'\n'"$hint_path" '' salvage none.totals new
 ends 'salvage where a file is' 4 \
-  "kijolvar: other.totals: can't be put there: File exists (os error 17)"$'\n''hint: if a file is there: give another path, or restore with --replace' \
+  "kijolvar: other.totals: can't be put there: File exists (os error 17)"$'\n'"$hint_link" \
   '' salvage till.totals other.totals
 "$tool" create two.totals
 filler() { printf 'call a write 1 0 %s\n' "$(head -c 8192 /dev/zero | tr '\000' "\\$1" | od -An -v -tx1 | tr -d ' \n')"; }
@@ -346,7 +348,7 @@ same 'backup copies what counts' till.totals copy2.totals
 cp copy.totals kept
 there='File exists (os error 17)'
 ends 'backup where a file is' 4 \
-  "kijolvar: copy.totals: can't be put there: $there"$'\n''hint: if a file is there: give another path, or restore with --replace' \
+  "kijolvar: copy.totals: can't be put there: $there"$'\n'"$hint_link" \
   '' backup other.totals copy.totals
 same 'backup keeps that file' copy.totals kept
 told 'backup leaves nothing beside it' '' "$(ls ./*.part 2> /dev/null)"
@@ -362,7 +364,7 @@ ends 'backup into no folder' 4 \
 ends 'backup of no file' 4 "kijolvar: none.totals: $unread: $none"$'\n'"$hint_path" '' backup none.totals new
 ends 'backup of bytes without totals' 1 "kijolvar: zero.totals: isn't formatted"$'\n'"$hint_create" '' backup zero.totals new
 ends 'backup of a short file' 1 \
-  'kijolvar: short.totals: is shorter than a totals file, which has 327680 bytes'$'\n''hint: `kijolvar create FILE` makes totals without files' \
+  'kijolvar: short.totals: is shorter than a totals file, which has 327680 bytes'$'\n''hint: if it was cut off, restore a copy of it, or salvage what is left' \
   '' backup short.totals new
 (trap '' XFSZ; ulimit -f 32; exec "$tool" backup till.totals new > out 2> err)
 told 'backup onto a full disk: status' 4 $?
@@ -380,7 +382,7 @@ rm -f new
 ends 'restore' 0 '' '' restore copy.totals back.totals
 same 'restore copies the bytes' copy.totals back.totals
 ends 'restore over a file' 4 \
-  "kijolvar: other.totals: can't be put there: $there"$'\n''hint: if a file is there: give another path, or restore with --replace' \
+  "kijolvar: other.totals: can't be put there: $there"$'\n'"$hint_link" \
   '' restore copy.totals other.totals
 told 'restore over a file keeps it' 'sound: layout 1, sequence 1, records 0, files 0' "$("$tool" check other.totals)"
 cp other.totals kept
@@ -400,6 +402,38 @@ cp other.totals kept
 told 'restore onto a full disk: status' 4 $?
 same 'restore onto a full disk keeps the file' other.totals kept
 told 'restore onto a full disk leaves nothing' '' "$(ls other.totals.* 2> /dev/null)"
+
+strace -o trace -e inject=rename,renameat,renameat2:error=EPERM "$tool" restore till.totals other.totals --replace > out 2> err
+told 'restore whose file gets no name: status' 4 $?
+same 'restore whose file gets no name keeps the file' other.totals kept
+told 'restore whose file gets no name leaves nothing' '' "$(ls other.totals.* 2> /dev/null)"
+
+no_file='is no file, but a link, a folder, a pipe or a device'
+hint_no_file='hint: give the path of a file, and not of a link to it'
+ln -s other.totals link.totals
+ends 'restore, replacing a link' 4 "kijolvar: link.totals: $no_file"$'\n'"$hint_no_file" \
+  '' restore till.totals link.totals --replace
+told 'restore, replacing a link, leaves the link' other.totals "$(readlink link.totals)"
+same 'restore, replacing a link, keeps the file' other.totals kept
+told 'restore, replacing a link, leaves nothing' '' "$(ls link.totals.* other.totals.* 2> /dev/null)"
+
+# --- streams that are closed: no file is opened in their place
+cp till.totals closed.totals
+printf 'new a HardTotals\nopen a t1\nset a DeviceEnabled true\n' > closed.script
+over_closed=(run closed.script --profile till.toml --totals closed.totals)
+"$tool" "${over_closed[@]}" 2> err >&-
+told 'run on closed output: status' 5 $?
+told 'run on closed output: message' 1 "$(grep -c "^kijolvar: the output can't be written" err)"
+"$tool" "${over_closed[@]}" <&- >&- 2>&-
+told 'run on closed streams: status' 5 $?
+"$tool" run --profile till.toml --totals closed.totals > out 2> err <&-
+told 'run of closed input: status' 4 $?
+told 'run of closed input: output' '' "$(cat out)"
+for words in 'check closed.totals' 'files closed.totals' 'dump closed.totals'; do
+  "$tool" $words 2> err >&-
+  told "$words on closed output" 5 $?
+done
+same 'closed streams leave the file as it was' closed.totals till.totals
 
 # --- a file that a till has open
 mkfifo lines answers
@@ -491,7 +525,7 @@ for words in help version 'explain 106' 'dump till.totals' 'check till.totals' '
   "$tool" $words > /dev/full 2> err
   told "$words on a full output: status" 5 $?
   told "$words on a full output: message" \
-    "kijolvar: the output can't be written"$'\n''hint: check the space that is free where the output goes' "$(cat err)"
+    "kijolvar: the output can't be written"$'\n''hint: check where the output goes, and the space that is free there' "$(cat err)"
 done
 "$tool" check till.totals --quiet > /dev/full 2> err
 told 'a quiet check prints nothing' 0 $?
@@ -729,6 +763,16 @@ ends 'a report in no folder' 4 \
   $'ok sale.script\n1 passed, 0 failed' test sale.script --junit none/report.xml
 cp report.xml before.xml
 touch report.xml.part
+mkfifo pipe.xml
+mkdir folder.xml
+ln -s report.xml link.xml
+for there in pipe.xml link.xml folder.xml; do
+  ends "a report in place of $there" 4 "kijolvar: $there: $no_file"$'\n'"$hint_no_file" \
+    $'ok sale.script\n1 passed, 0 failed' test sale.script --junit "$there"
+done
+told 'they are as they were' 'p l d' "$(stat -c %A pipe.xml link.xml folder.xml | cut -c1 | tr '\n' ' ' | sed 's/ $//')"
+rm pipe.xml link.xml
+rmdir folder.xml
 "$tool" test sale.script --junit report.xml > out 2> err
 told 'a report beside a part of one' "4 ok sale.script" "$? $(head -n 1 out)"
 same 'the old report stays' before.xml report.xml

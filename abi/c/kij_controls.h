@@ -609,8 +609,7 @@ kij_result kij_display_clear_text(kij_control *display);
  * scrollText (Line Display): scrolls what the display shows, and leaves blanks behind it; the cursor stays.
  *
  * @param direction Where the text moves. KIJ_DISP_ST_UP, KIJ_DISP_ST_DOWN, KIJ_DISP_ST_LEFT, KIJ_DISP_ST_RIGHT.
- * @param units How far it moves. Range: 0 to Rows up or down, 0 to Columns left or right rows up or down, columns
- *         left or right.
+ * @param units How far it moves. Range: 0 to Rows up or down, 0 to Columns left or right.
  * @retval KIJ_E_CLOSED The control is closed.
  * @retval KIJ_E_CLAIMED Another control has claimed the device.
  * @retval KIJ_E_NOTCLAIMED No control has claimed the device.
@@ -638,8 +637,8 @@ kij_result kij_display_scroll_text(kij_control *display, int64_t direction, int6
  * @retval KIJ_E_CLAIMED Another control has claimed the device.
  * @retval KIJ_E_NOTCLAIMED No control has claimed the device.
  * @retval KIJ_E_DISABLED The control is disabled.
- * @retval KIJ_E_ILLEGAL The station isn't the receipt, or the data has more than 4,096 bytes, or one or a number
- *         that a printer doesn't take.
+ * @retval KIJ_E_ILLEGAL The station isn't the receipt; or the data has more than 4,096 bytes, a byte that isn't
+ *         ASCII text, LF, CR or ESC, or a number out of range.
  * @retval KIJ_E_BUSY AsyncMode is false, and earlier requests still wait.
  * @retval KIJ_E_FAILURE The printer didn't answer, or no OutputID is left.
  * @retval KIJ_E_OFFLINE The printer is off.
@@ -661,8 +660,8 @@ kij_result kij_printer_print(kij_control *printer, int64_t station, const void *
  * @retval KIJ_E_CLAIMED Another control has claimed the device.
  * @retval KIJ_E_NOTCLAIMED No control has claimed the device.
  * @retval KIJ_E_DISABLED The control is disabled.
- * @retval KIJ_E_ILLEGAL The station isn't the receipt, or the data has more than 4,096 bytes, or one or a number
- *         that a printer doesn't take.
+ * @retval KIJ_E_ILLEGAL The station isn't the receipt; or the data has more than 4,096 bytes, a byte that isn't
+ *         ASCII text, LF, CR or ESC, or a number out of range.
  * @retval KIJ_E_FAILURE The printer didn't answer.
  * @retval KIJ_E_OFFLINE The printer is off.
  * @retval KIJ_E_EXTENDED KIJ_EPTR_COVER_OPEN: the cover is open.
@@ -718,10 +717,11 @@ kij_result kij_printer_clear_output(kij_control *printer);
  * @retval KIJ_E_CLOSED The control is closed.
  * @retval KIJ_E_CLAIMED Another control has claimed the device.
  * @retval KIJ_E_DISABLED The control is disabled.
- * @retval KIJ_E_FAILURE The totals are off, or no handle is left.
+ * @retval KIJ_E_FAILURE The totals are off.
  * @retval KIJ_E_ILLEGAL The control is in a transaction, the name is bad, or the size is below 0.
  * @retval KIJ_E_EXISTS A file has the name.
  * @retval KIJ_E_EXTENDED KIJ_ETOT_NOROOM: the size is above FreeData, or there are as many files as there may be.
+ * @retval KIJ_E_FAILURE No handle is left, or the sequence of the totals has run out.
  * @retval KIJ_DISK_FAILED The disk failed, and the change may be in the file or not.
  * @retval KIJ_NO_MEMORY There was no memory.
  */
@@ -739,6 +739,7 @@ kij_result kij_totals_create(kij_control *totals, const void *name, size_t name_
  * @retval KIJ_E_ILLEGAL The control is in a transaction.
  * @retval KIJ_E_NOEXIST No file has the name.
  * @retval KIJ_E_CLAIMED Another control has claimed the file.
+ * @retval KIJ_E_FAILURE The sequence of the totals has run out.
  * @retval KIJ_DISK_FAILED The disk failed, and the change may be in the file or not.
  * @retval KIJ_NO_MEMORY There was no memory.
  */
@@ -777,8 +778,8 @@ kij_result kij_totals_find_by_index(kij_control *totals, int64_t index, const ui
  * them.
  *
  * @param handle The file's handle.
- * @param offset Where the bytes begin, counted from 0. Range: the bytes have to be within the file bytes.
- * @param count How many bytes are read. Range: the bytes have to be within the file bytes.
+ * @param offset Where the bytes begin, counted from 0. Range: the bytes have to be within the file.
+ * @param count How many bytes are read. Range: the bytes have to be within the file.
  * @param data The bytes. Lent. May be null.
  * @retval KIJ_E_CLOSED The control is closed.
  * @retval KIJ_E_CLAIMED Another control has claimed the device.
@@ -795,8 +796,8 @@ kij_result kij_totals_read(kij_control *totals, int64_t handle, int64_t offset, 
  * write (Hard Totals): writes bytes to a file; in a transaction they are buffered until it is committed.
  *
  * @param handle The file's handle.
- * @param offset Where the bytes begin, counted from 0. Range: the bytes have to be within the file bytes.
- * @param data The bytes that are written. Range: the bytes have to be within the file bytes. The size may be
+ * @param offset Where the bytes begin, counted from 0. Range: the bytes have to be within the file.
+ * @param data The bytes that are written. Range: the bytes have to be within the file. The size may be
  *         KIJ_ZERO_ENDED.
  * @retval KIJ_E_CLOSED The control is closed.
  * @retval KIJ_E_CLAIMED Another control has claimed the device.
@@ -805,6 +806,7 @@ kij_result kij_totals_read(kij_control *totals, int64_t handle, int64_t offset, 
  * @retval KIJ_E_ILLEGAL No file has the handle, or the bytes aren't all within the file.
  * @retval KIJ_E_CLAIMED Another control has claimed the file.
  * @retval KIJ_E_EXTENDED KIJ_ETOT_NOROOM: the transaction has no room for the write.
+ * @retval KIJ_E_FAILURE There is no transaction, and the sequence of the totals has run out.
  * @retval KIJ_DISK_FAILED The disk failed, and the change may be in the file or not.
  * @retval KIJ_NO_MEMORY There was no memory.
  */
@@ -823,6 +825,7 @@ kij_result kij_totals_write(kij_control *totals, int64_t handle, int64_t offset,
  * @retval KIJ_E_ILLEGAL No file has the handle, or the value isn't that of a byte.
  * @retval KIJ_E_CLAIMED Another control has claimed the file.
  * @retval KIJ_E_EXTENDED KIJ_ETOT_NOROOM: the transaction has no room for the change.
+ * @retval KIJ_E_FAILURE There is no transaction, and the sequence of the totals has run out.
  * @retval KIJ_DISK_FAILED The disk failed, and the change may be in the file or not.
  * @retval KIJ_NO_MEMORY There was no memory.
  */
@@ -840,6 +843,7 @@ kij_result kij_totals_set_all(kij_control *totals, int64_t handle, int64_t value
  * @retval KIJ_E_ILLEGAL The control is in a transaction, no file has the handle, or the name is bad.
  * @retval KIJ_E_EXISTS A file has the name, be it this one.
  * @retval KIJ_E_CLAIMED Another control has claimed the file.
+ * @retval KIJ_E_FAILURE The sequence of the totals has run out.
  * @retval KIJ_DISK_FAILED The disk failed, and the change may be in the file or not.
  * @retval KIJ_NO_MEMORY There was no memory.
  */
@@ -892,6 +896,7 @@ kij_result kij_totals_begin_trans(kij_control *totals);
  * @retval KIJ_E_ILLEGAL The control is in no transaction.
  * @retval KIJ_E_NOEXIST A file of the transaction was deleted.
  * @retval KIJ_E_CLAIMED Another control has claimed a file of the transaction.
+ * @retval KIJ_E_FAILURE The sequence of the totals has run out; the transaction stays.
  * @retval KIJ_DISK_FAILED The disk failed, and the change may be in the file or not.
  * @retval KIJ_NO_MEMORY There was no memory.
  */

@@ -191,6 +191,8 @@ typedef struct kij_link {
     kij_told heard[3];
     kij_signs hearing;
     unsigned rounds;
+    /* Of one that is asked: how many bytes of an automatic status that has begun still come. */
+    unsigned status_left;
 } kij_link;
 
 typedef enum kij_power { KIJ_POWER_UNKNOWN, KIJ_POWER_OFF, KIJ_POWER_ON } kij_power;
@@ -315,8 +317,9 @@ static inline bool kij_internal_port_is_open(const kij_port *port) { return port
    isn't limited. A connection that isn't made in that time is made on, and a later call finds it. */
 bool kij_internal_port_open(kij_port *port, int64_t time);
 
-/* Closes a port. What isn't sent yet is dropped, and a connection ends though a process that was forked has it too. In
-   such a process nothing else is done: there the port is still that of the process that opened it. */
+/* Closes a port. What isn't sent yet is dropped, but the system still sends what it has taken for a connection. This
+   ends though a process that was forked has it too. In such a process nothing else is done: there the port is still
+   that of the process that opened it. */
 void kij_internal_port_close(kij_port *port);
 
 /* Whether a port keeps what a device doesn't take, as one without power: a serial line with flow control. */

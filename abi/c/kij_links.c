@@ -21,6 +21,8 @@ enum {
     /* How many bytes ask for an acknowledgement: GS ( H, or GS r. */
     JOB_SIZE = 11,
     QUESTION_SIZE = 3,
+    /* How many bytes an automatic status has. */
+    STATUS_SIZE = 4,
     /* What the library has to know was asked: DLE EOT 1, and GS r 1. */
     ASKED_NOW = 1,
     ASKED_PAPER = 5,
@@ -527,14 +529,40 @@ static void take_answer(kij_link *link, const char *text, const kij_told *told) 
     compose(link);
 }
 
-/* Reads a byte as the answer to a question, or as an acknowledgement. */
+/* A printer that is asked has sent an automatic status, although it was told to send none: it was reset. What is due
+   may not be printed, it is told again, and questions from before may have no answer. */
+static void take_status(kij_link *link) {
+    if (link->due_count > 0) lose_sent(link);
+    link->is_there = link->is_started = false;
+    answered(link);
+    link->has_late_answers = link->unanswered > 0;
+    link->questioned_at = kij_internal_now();
+}
+
+/* Whether a byte is one of an automatic status. That counts once it is whole. */
+static bool is_of_status(kij_link *link, uint8_t byte) {
+    bool is_first = (byte & 0x93) == 0x10, is_next = link->status_left > 0 && (byte & 0x90) == 0;
+    link->status_left = is_first ? STATUS_SIZE - 1 : is_next ? link->status_left - 1 : 0;
+    if (is_next && link->status_left == 0) take_status(link);
+    return is_first || is_next;
+}
+
+/* Whether the first piece that is due has gone out whole, with its question. Nothing acknowledges it before. */
+static bool is_first_sent(const kij_link *link) {
+    const kij_parcel *first = &link->due[0];
+    uint64_t sent = link->put_out - (link->out.size - link->out_sent);
+    return first->place + (first->to - first->from) + link->end_size <= sent;
+}
+
+/* Reads a byte as one of an automatic status, as the answer to a question, or as an acknowledgement. */
 static void take_byte(kij_link *link, uint8_t byte) {
     char text[256];
+    if (is_of_status(link, byte)) return;
     for (int round = link->unanswered > 0 ? 0 : 1; round < 2; round++) {
         size_t used = 0, skipped = 0, needed = 0;
         kij_told told;
         memset(&told, 0, sizeof told);
-        if (round == 1 && link->due_count == 0) return;
+        if (round == 1 && (link->due_count == 0 || !is_first_sent(link))) return;
         told.bytes[0] = byte;
         told.size = 1;
         told.asked = round == 0 ? link->question : (uint32_t)ASKED_PAPER;
@@ -693,7 +721,7 @@ static void forget(kij_link *link) {
     /* Acknowledgements without a number can't be told from those of another connection. */
     lose_due(link);
     memset(&link->hearing, 0, sizeof link->hearing);
-    link->unanswered = 0;
+    link->unanswered = link->status_left = 0;
     link->has_late_answers = false;
     link->questioned_at = KIJ_NEVER;
 }

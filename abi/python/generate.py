@@ -363,7 +363,8 @@ def reason_line(code, when):
     line = f'        "{code}": "{" Or: ".join(when)}",'
     if len(line) <= WIDTH:
         return line
-    return f'        "{code}": "{when[0]} "\n            "Or: {" Or: ".join(when[1:])}",'
+    text = textwrap.wrap(" Or: ".join(when), WIDTH - 16, break_on_hyphens=False)
+    return "\n".join([f'        "{code}":', *(f'            "{part} "' for part in text[:-1]), f'            "{text[-1]}",'])
 
 
 def reasons(found):

@@ -8,11 +8,11 @@ from types import TracebackType
 from typing import TYPE_CHECKING, Any, ClassVar, Optional, Self, SupportsIndex, TypeVar, Union
 
 from . import _events
-from ._constants import E_EXTENDED, KIJOLVAR_NO_MEMORY, ErrorReply
+from ._constants import E_EXTENDED, KIJOLVAR_CUT, KIJOLVAR_NO_MEMORY, ErrorReply
 from ._events import ErrorEvent, Event
 from ._faults import LineError, NoMemoryError, UposError
 from ._reasons import REASONS
-from .errors import BY_CODE, BY_EXTENDED
+from .errors import BY_CODE, BY_EXTENDED, ClosedError
 
 if TYPE_CHECKING:
     from .till import Till
@@ -62,6 +62,11 @@ def undoing(value: BaseException | None) -> contextlib.AbstractContextManager[No
     return contextlib.nullcontext() if value is None else contextlib.suppress(Exception)
 
 
+def is_answer_lost(fault: BaseException) -> bool:
+    """Whether a call was carried out, and there was no memory for its answer."""
+    return isinstance(fault, NoMemoryError) and fault.library_code == KIJOLVAR_CUT
+
+
 def device_word(name: str) -> bytes:
     """The name of a device, as a line has it: 1 to 16 ASCII letters, digits and hyphens."""
     if not isinstance(name, str):
@@ -80,8 +85,8 @@ class Control:
     of its category.
     """
 
-    __slots__ = ("_till", "_name", "_carry_out", "_call", "_words", "_get", "_set", "_device", "_listener",
-                 "__weakref__")
+    __slots__ = ("_till", "_name", "_carry_out", "_call", "_words", "_get", "_set", "_device", "_last_device",
+                 "_listener", "__weakref__")
 
     category: ClassVar[str] = ""
     is_exclusive: ClassVar[bool] = False
@@ -95,6 +100,8 @@ class Control:
         self._get = b"get %b " % self._name
         self._set = b"set %b " % self._name
         self._device: str | None = None
+        # The device on which it was opened last.
+        self._last_device: str | None = None
         self._listener: Listener | None = None
 
     @property
@@ -162,13 +169,29 @@ class Control:
         self._device = device
         try:
             self._do(line, "open")
-        except BaseException:
-            self._device = before
+        except BaseException as fault:
+            # An open control refuses to be opened.
+            if before is None and is_answer_lost(fault):
+                self._mark_open()
+            else:
+                self._device = before
             raise
+        self._mark_open()
+
+    def _mark_open(self) -> None:
+        self._last_device = self._device
         self._till._keep(self, self._listener is not None)
 
     def _close(self) -> None:
-        self._do(b"close %b" % self._name, "close")
+        try:
+            self._do(b"close %b" % self._name, "close")
+        except Exception as fault:
+            if isinstance(fault, ClosedError) or is_answer_lost(fault):
+                self._mark_closed()
+            raise
+        self._mark_closed()
+
+    def _mark_closed(self) -> None:
         self._device = None
         self._till._keep(self, False)
 

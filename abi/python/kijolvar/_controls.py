@@ -867,8 +867,8 @@ class POSPrinter(StandardControl):
             ClaimedError: Another control has claimed the device.
             NotClaimedError: No control has claimed the device.
             DisabledError: The control is disabled.
-            IllegalError: The station isn't the receipt, or the data has more than 4,096 bytes, or one or a number that
-                a printer doesn't take.
+            IllegalError: The station isn't the receipt; or the data has more than 4,096 bytes, a byte that isn't ASCII
+                text, LF, CR or ESC, or a number out of range.
             BusyError: AsyncMode is false, and earlier requests still wait.
             FailureError: The printer didn't answer, or no OutputID is left.
             OfflineError: The printer is off.
@@ -896,8 +896,8 @@ class POSPrinter(StandardControl):
             ClaimedError: Another control has claimed the device.
             NotClaimedError: No control has claimed the device.
             DisabledError: The control is disabled.
-            IllegalError: The station isn't the receipt, or the data has more than 4,096 bytes, or one or a number that
-                a printer doesn't take.
+            IllegalError: The station isn't the receipt; or the data has more than 4,096 bytes, a byte that isn't ASCII
+                text, LF, CR or ESC, or a number out of range.
             FailureError: The printer didn't answer.
             OfflineError: The printer is off.
             CoverOpenError: The cover is open.
@@ -1099,10 +1099,11 @@ class HardTotals(StandardControl):
             ClosedError: The control is closed.
             ClaimedError: Another control has claimed the device.
             DisabledError: The control is disabled.
-            FailureError: The totals are off, or no handle is left.
+            FailureError: The totals are off.
             IllegalError: The control is in a transaction, the name is bad, or the size is below 0.
             ExistsError: A file has the name.
             NoRoomError: The size is above FreeData, or there are as many files as there may be.
+            FailureError: No handle is left, or the sequence of the totals has run out.
             DiskError: The disk failed, and the change may be in the file or not.
 
         UnifiedPOS 1.16, chapter Hard Totals.
@@ -1126,6 +1127,7 @@ class HardTotals(StandardControl):
             IllegalError: The control is in a transaction.
             NoExistError: No file has the name.
             ClaimedError: Another control has claimed the file.
+            FailureError: The sequence of the totals has run out.
             DiskError: The disk failed, and the change may be in the file or not.
 
         UnifiedPOS 1.16, chapter Hard Totals.
@@ -1226,6 +1228,7 @@ class HardTotals(StandardControl):
             IllegalError: No file has the handle, or the bytes aren't all within the file.
             ClaimedError: Another control has claimed the file.
             NoRoomError: The transaction has no room for the write.
+            FailureError: There is no transaction, and the sequence of the totals has run out.
             DiskError: The disk failed, and the change may be in the file or not.
 
         UnifiedPOS 1.16, chapter Hard Totals.
@@ -1251,6 +1254,7 @@ class HardTotals(StandardControl):
             IllegalError: No file has the handle, or the value isn't that of a byte.
             ClaimedError: Another control has claimed the file.
             NoRoomError: The transaction has no room for the change.
+            FailureError: There is no transaction, and the sequence of the totals has run out.
             DiskError: The disk failed, and the change may be in the file or not.
 
         UnifiedPOS 1.16, chapter Hard Totals.
@@ -1276,6 +1280,7 @@ class HardTotals(StandardControl):
             IllegalError: The control is in a transaction, no file has the handle, or the name is bad.
             ExistsError: A file has the name, be it this one.
             ClaimedError: Another control has claimed the file.
+            FailureError: The sequence of the totals has run out.
             DiskError: The disk failed, and the change may be in the file or not.
 
         UnifiedPOS 1.16, chapter Hard Totals.
@@ -1356,6 +1361,7 @@ class HardTotals(StandardControl):
             IllegalError: The control is in no transaction.
             NoExistError: A file of the transaction was deleted.
             ClaimedError: Another control has claimed a file of the transaction.
+            FailureError: The sequence of the totals has run out; the transaction stays.
             DiskError: The disk failed, and the change may be in the file or not.
 
         UnifiedPOS 1.16, chapter Hard Totals.

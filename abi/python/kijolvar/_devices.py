@@ -241,7 +241,9 @@ class Device:
         Raises:
             ExchangeError: No spare has the number, or the device is unknown, has its peripheral, or is of another kind.
         """
-        self._exchanged(b"attach %b %d" % (self._name, index(spare)))
+        number = index(spare)
+        # A line has no numbers below 0, and none of more than 18 digits. No spare has the number 0.
+        self._exchanged(b"attach %b %d" % (self._name, number if 0 <= number < 10 ** 18 else 0))
 
     def detach(self) -> None:
         """Detaches the device's peripheral, which ends.

@@ -56,7 +56,7 @@ class Drive:
         has_scans = self.has_scans()
         is_on = self.driver.is_online or has_scans
         if is_on:
-            happened = [] if has_scans else self.driver.happened()
+            happened = [] if has_scans else self.happened()
             if not (self.is_on or "power on" in happened):
                 happened = ["power on", *happened]
         else:
@@ -66,11 +66,20 @@ class Drive:
         self.is_on = is_on
         return self.left
 
+    def happened(self) -> list[str]:
+        """What the driver says has happened: the words of each input. Each has to be one line, since the till's answers
+        are taken by lines."""
+        found = [words for said in self.driver.happened() if (words := said.strip())]
+        for words in found:
+            if "\n" in words or "\r" in words:
+                raise ValueError(f"the driver of {self.name!r} says {words!r} has happened: return a str for each line")
+        return found
+
     def answered(self, answers: list[bytes]) -> None:
-        """The till has answered the first lines of inputs. Those that found no memory are told again."""
-        lines = self.left.splitlines(True)
-        again = [line for line, answer in zip(lines, answers) if answer == b"memory\n"]
-        self.left = b"".join(again + lines[len(answers):])
+        """The till has answered the first lines of inputs. From the first on that found no memory, they are told again,
+        so that they stay in their order."""
+        count = answers.index(b"memory\n") if b"memory\n" in answers else len(answers)
+        self.left = b"".join(self.left.splitlines(True)[count:])
 
     def taken(self, is_done: bool, answers: list[bytes]) -> None:
         """The till has taken what became of an order, and what happened at the device if it isn't done."""
@@ -213,7 +222,7 @@ class Drives:
         control = self._till._controls.get(words[1].decode())
         if control is not None:
             if control.category == "POSPrinter":
-                self.give_up(control.device)
+                self.give_up(control._last_device)
         elif words[0] == b"call" or answer is None or answer.endswith(b" %d\n" % EL_OUTPUT):
             # Lines made the control. Only a printer's has output.
             self.give_up()

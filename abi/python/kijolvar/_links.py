@@ -33,6 +33,8 @@ _JOB_SIZE, _NUMBER_SIZE, _QUESTION_SIZE = 11, 4, 3
 _READ_AT_ONCE = 64
 # What the library has to know was asked.
 _PRINTER, _CAUSE, _PAPER_IN_ORDER = int(Asked.PRINTER), int(Asked.OFFLINE_CAUSE), int(Asked.PAPER_IN_ORDER)
+# How many bytes an automatic status has, which bits tell its first byte and those behind it, and those of the first.
+_STATUS_SIZE, _FIRST_BITS, _OTHER_BITS, _FIRST = 4, 0x93, 0x90, 0x10
 # How long a lost port may take to open while other devices wait, and how often a printer is asked, in seconds.
 _QUICKLY, _OFTEN = 0.02, 0.1
 # How long late answers may be apart, in seconds.
@@ -649,7 +651,10 @@ class AskedLink(PrinterLink):
     """The line to a printer that says nothing by itself, and doesn't know the end of a job: it is asked. GS r is
     answered once everything before it is printed. Its replies have no number, so one piece at a time is out. Those to
     DLE EOT don't say what was asked, and are counted: a line may hold questions back, which were asked again
-    meanwhile."""
+    meanwhile.
+
+    One that sends an automatic status, which it was told not to do, was reset: some send it whenever they are switched
+    on. Its bytes would count as replies to GS r if they were read one by one."""
 
     _job = JOB_PAPER
     _start, _refresh = _ZEROS + _INITIALIZE + _STATUS_OFF, b""
@@ -696,9 +701,17 @@ class AskedLink(PrinterLink):
 
     def _takes(self, data: bytes) -> None:
         """Reads replies, each of which is a byte: to DLE EOT, or to GS r. One is forgotten before it counts, since it
-        must count for one piece alone."""
+        must count for one piece alone. The bytes of an automatic status that has only begun are kept."""
         self._got += data
         while self._got:
+            if self._got[0] & _FIRST_BITS == _FIRST:
+                size = self._count_of_status()
+                if size == len(self._got) < _STATUS_SIZE:
+                    return
+                if size == _STATUS_SIZE:
+                    self._restarts()
+                del self._got[:size]
+                continue
             one, text = bytes(self._got[:1]), b""
             for asked in [self._asked_last] * bool(self._unanswered) + [_PAPER_IN_ORDER] * bool(self._due):
                 _, text = self._reply(one, asked)
@@ -708,6 +721,19 @@ class AskedLink(PrinterLink):
             del self._got[:1]
             if text:
                 self._hears(text, one, asked)
+
+    def _count_of_status(self) -> int:
+        """How many bytes of an automatic status have come. If it isn't whole, the next byte is none of it."""
+        size = 1
+        while size < min(len(self._got), _STATUS_SIZE) and not self._got[size] & _OTHER_BITS:
+            size += 1
+        return size
+
+    def _restarts(self) -> None:
+        """The printer was reset, and is there. Questions that it has lost are found out as late answers are: the line
+        may still have some."""
+        self._tears()
+        self._answers()
 
     def _hears(self, text: bytes, data: bytes, asked: int) -> None:
         if asked == _PAPER_IN_ORDER:

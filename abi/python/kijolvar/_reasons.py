@@ -97,8 +97,9 @@ REASONS: dict[str, dict[str, str]] = {
         "E_CLAIMED": "Another control has claimed the device.",
         "E_NOTCLAIMED": "No control has claimed the device.",
         "E_DISABLED": "The control is disabled.",
-        "E_ILLEGAL": "The text has more than 4,096 bytes, or one other than 0x20 to 0x7E, LF and CR, or the attribute is out of its range. "
-            "Or: ",
+        "E_ILLEGAL":
+            "The text has more than 4,096 bytes, or one other than 0x20 to 0x7E, LF and CR, or the attribute is out "
+            "of its range.",
         "E_FAILURE": "The display didn't answer.",
         "E_OFFLINE": "The display is off.",
     },
@@ -150,8 +151,9 @@ REASONS: dict[str, dict[str, str]] = {
         "E_CLAIMED": "Another control has claimed the device.",
         "E_NOTCLAIMED": "No control has claimed the device.",
         "E_DISABLED": "The control is disabled.",
-        "E_ILLEGAL": "The station isn't the receipt, or the data has more than 4,096 bytes, or one or a number that a printer doesn't take. "
-            "Or: ",
+        "E_ILLEGAL":
+            "The station isn't the receipt; or the data has more than 4,096 bytes, a byte that isn't ASCII text, LF, "
+            "CR or ESC, or a number out of range.",
         "E_BUSY": "AsyncMode is false, and earlier requests still wait.",
         "E_FAILURE": "The printer didn't answer, or no OutputID is left.",
         "E_OFFLINE": "The printer is off.",
@@ -163,8 +165,9 @@ REASONS: dict[str, dict[str, str]] = {
         "E_CLAIMED": "Another control has claimed the device.",
         "E_NOTCLAIMED": "No control has claimed the device.",
         "E_DISABLED": "The control is disabled.",
-        "E_ILLEGAL": "The station isn't the receipt, or the data has more than 4,096 bytes, or one or a number that a printer doesn't take. "
-            "Or: ",
+        "E_ILLEGAL":
+            "The station isn't the receipt; or the data has more than 4,096 bytes, a byte that isn't ASCII text, LF, "
+            "CR or ESC, or a number out of range.",
         "E_FAILURE": "The printer didn't answer.",
         "E_OFFLINE": "The printer is off.",
         "EPTR_COVER_OPEN": "The cover is open.",
@@ -221,7 +224,7 @@ REASONS: dict[str, dict[str, str]] = {
         "E_CLOSED": "The control is closed.",
         "E_CLAIMED": "Another control has claimed the device.",
         "E_DISABLED": "The control is disabled.",
-        "E_FAILURE": "The totals are off, or no handle is left.",
+        "E_FAILURE": "The totals are off. Or: No handle is left, or the sequence of the totals has run out.",
         "E_ILLEGAL": "The control is in a transaction, the name is bad, or the size is below 0.",
         "E_EXISTS": "A file has the name.",
         "ETOT_NOROOM": "The size is above FreeData, or there are as many files as there may be.",
@@ -230,7 +233,7 @@ REASONS: dict[str, dict[str, str]] = {
         "E_CLOSED": "The control is closed.",
         "E_CLAIMED": "Another control has claimed the device. Or: Another control has claimed the file.",
         "E_DISABLED": "The control is disabled.",
-        "E_FAILURE": "The totals are off.",
+        "E_FAILURE": "The totals are off. Or: The sequence of the totals has run out.",
         "E_ILLEGAL": "The control is in a transaction.",
         "E_NOEXIST": "No file has the name.",
     },
@@ -259,7 +262,7 @@ REASONS: dict[str, dict[str, str]] = {
         "E_CLOSED": "The control is closed.",
         "E_CLAIMED": "Another control has claimed the device. Or: Another control has claimed the file.",
         "E_DISABLED": "The control is disabled.",
-        "E_FAILURE": "The totals are off.",
+        "E_FAILURE": "The totals are off. Or: There is no transaction, and the sequence of the totals has run out.",
         "E_ILLEGAL": "No file has the handle, or the bytes aren't all within the file.",
         "ETOT_NOROOM": "The transaction has no room for the write.",
     },
@@ -267,7 +270,7 @@ REASONS: dict[str, dict[str, str]] = {
         "E_CLOSED": "The control is closed.",
         "E_CLAIMED": "Another control has claimed the device. Or: Another control has claimed the file.",
         "E_DISABLED": "The control is disabled.",
-        "E_FAILURE": "The totals are off.",
+        "E_FAILURE": "The totals are off. Or: There is no transaction, and the sequence of the totals has run out.",
         "E_ILLEGAL": "No file has the handle, or the value isn't that of a byte.",
         "ETOT_NOROOM": "The transaction has no room for the change.",
     },
@@ -275,7 +278,7 @@ REASONS: dict[str, dict[str, str]] = {
         "E_CLOSED": "The control is closed.",
         "E_CLAIMED": "Another control has claimed the device. Or: Another control has claimed the file.",
         "E_DISABLED": "The control is disabled.",
-        "E_FAILURE": "The totals are off.",
+        "E_FAILURE": "The totals are off. Or: The sequence of the totals has run out.",
         "E_ILLEGAL": "The control is in a transaction, no file has the handle, or the name is bad.",
         "E_EXISTS": "A file has the name, be it this one.",
     },
@@ -300,10 +303,10 @@ REASONS: dict[str, dict[str, str]] = {
     },
     "commit_trans": {
         "E_CLOSED": "The control is closed.",
-        "E_CLAIMED": "Another control has claimed the device. "
-            "Or: Another control has claimed a file of the transaction.",
+        "E_CLAIMED":
+            "Another control has claimed the device. Or: Another control has claimed a file of the transaction.",
         "E_DISABLED": "The control is disabled.",
-        "E_FAILURE": "The totals are off.",
+        "E_FAILURE": "The totals are off. Or: The sequence of the totals has run out; the transaction stays.",
         "E_ILLEGAL": "The control is in no transaction.",
         "E_NOEXIST": "A file of the transaction was deleted.",
     },

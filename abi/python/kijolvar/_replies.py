@@ -25,4 +25,4 @@ def reply_to(control: Control, locus: ErrorLocus, reply: ErrorReply) -> None:
             control._do(control._call + _CLEARS[locus], "reply")
         except (ClaimedError, ClosedError, NotClaimedError):
             if locus == EL_OUTPUT:
-                control.till._drives.give_up(control.device)
+                control.till._drives.give_up(control._last_device)

@@ -590,11 +590,15 @@ class Session:
         if code != KIJOLVAR_OK:
             raise library_fault(code)
 
+    def _give_up_held(self) -> None:
+        """Gives up lines of an earlier call that are held: they have the order of a driven device, which is no order of
+        the host's."""
+        self.carry_out(b"")
+
     def keep_hosted(self) -> None:
         """Keeps the orders of hosted devices that nobody has taken: those of a device that is driven from now on aren't
         its driver's."""
-        # Lines of an earlier call that wait are given up first.
-        self.carry_out(b"")
+        self._give_up_held()
         self._keep_orders()
 
     @_as_call
@@ -660,9 +664,13 @@ class Session:
         while (order := self._next_hosted()) is not None:
             yield order
 
-    @_as_call
     def _next_hosted(self) -> bytes | None:
         """Takes out the oldest order of the devices that the host has, if there is one."""
+        self._give_up_held()
+        return self._take_hosted()
+
+    @_as_call
+    def _take_hosted(self) -> bytes | None:
         return self._hosted.popleft() if self._hosted else self._take_out()
 
     def _take_out(self) -> bytes | None:

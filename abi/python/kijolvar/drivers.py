@@ -45,6 +45,13 @@ _QUICKLY = 0.02
 _UNSEEN = 10.0
 
 
+def _check_timeout(timeout: float) -> None:
+    """Refuses a timeout in which no order can succeed."""
+    # Not even NaN is more than 0.
+    if not timeout > 0:
+        raise ValueError(f"the timeout is more than 0 seconds: {timeout!r}")
+
+
 class Driver:
     """What a till asks of a driver. Make a class of your own from it for your hardware.
 
@@ -83,8 +90,9 @@ class Driver:
         failed though the device has done it."""
 
     def happened(self) -> list[str]:
-        """What has happened at the device since the last call, as the words of an `input` line after the device's name:
-        "cover open", "paper 0". The till asks after an order that wasn't done, which it then answers accordingly."""
+        """What has happened at the device since the last call: a str for each `input` line, with the words after the
+        device's name, such as "cover open" and "paper 0". The till asks after an order that wasn't done, which it then
+        answers accordingly."""
         return []
 
     def poll(self) -> None:
@@ -152,11 +160,11 @@ class EscPosPrinter(Driver):
             counts with the device's `near` lines after each order: that is the longest request that may be taken then.
         is_asked: Whether the printer says nothing by itself, and doesn't know GS ( H, as simpler ones. Then it is asked
             for its status (DLE EOT), and after each line whether that is printed (GS r).
-        timeout: How long the printer may go on without acknowledging a line, in seconds.
+        timeout: How long the printer may go on without acknowledging a line, in seconds; more than 0.
         pause: How long to wait before a lost port is tried again, in seconds.
 
     Raises:
-        ValueError: No printer has such a setting.
+        ValueError: No printer has such a setting, or the timeout isn't more than 0.
     """
 
     category = "POSPrinter"
@@ -172,6 +180,7 @@ class EscPosPrinter(Driver):
             raise ValueError("feed and the times of the pulse are 0 to 255, and the pin is 2 or 5")
         if not 1 <= lines <= _MOST_LINES:
             raise ValueError(f"a roll has 1 to {_MOST_LINES} lines")
+        _check_timeout(timeout)
         # As it is given, and as it is for a device.
         self._given_width, self._width = width, width
         self._lines = lines
@@ -375,11 +384,11 @@ class SerialDisplay(Driver):
     Args:
         port: The port, or its name as `port_of` takes it. A serial line of that name has no flow control.
         protocol: "cd5220" or "escpos".
-        timeout: How long an order may take, in seconds.
+        timeout: How long an order may take, in seconds; more than 0.
         pause: How long to wait before a lost port is tried again, in seconds.
 
     Raises:
-        ValueError: There is no such protocol.
+        ValueError: There is no such protocol, or the timeout isn't more than 0.
     """
 
     category = "LineDisplay"
@@ -389,6 +398,7 @@ class SerialDisplay(Driver):
                  pause: float = 1.0) -> None:
         if protocol not in _PROTOCOLS:
             raise ValueError(f"no such protocol: {protocol!r}")
+        _check_timeout(timeout)
         self.port, self._timeout, self._pause = port_of(port, flow="none"), timeout, pause
         self.port.keeps_faults = False
         self._settings = WireSettings(protocol=_PROTOCOLS.index(protocol))

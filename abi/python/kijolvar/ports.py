@@ -6,6 +6,7 @@ unless a name has to be looked up.
 from __future__ import annotations
 
 import contextlib
+import ctypes
 import errno
 import fcntl
 import ipaddress
@@ -46,6 +47,9 @@ _ACKNOWLEDGED_WITHIN, _ASKED_EVERY = 60_000, 10
 # The system's number of the option for the first. Not all type stubs of `socket` have its name.
 _USER_TIMEOUT = 18
 _TCP = re.compile(r"tcp:(?://)?(?:\[(?P<address>.+)\]|(?P<name>[^:\[\]]*))(?::(?P<port>[0-9]+))?")
+# The system's call: an object of `socket` would close the port's descriptor with itself.
+_send = ctypes.CDLL(None, use_errno=True).send
+_send.argtypes, _send.restype = [ctypes.c_int, ctypes.c_char_p, ctypes.c_size_t, ctypes.c_int], ctypes.c_ssize_t
 _READABLE = select.POLLIN | select.POLLHUP | select.POLLERR | select.POLLNVAL
 
 
@@ -187,8 +191,9 @@ class Port:
                     os.close(file)
 
     def close(self) -> None:
-        """Closes the port, if it is open. What isn't sent yet is dropped. A process that is forked has the port as a
-        closed one, and drops nothing: it is still that of the process that has opened it."""
+        """Closes the port, if it is open. What isn't sent yet is dropped; of a TCP port the system still sends what it
+        has taken. A process that is forked has the port as a closed one, and drops nothing: it is still that of the
+        process that has opened it."""
         if self._file is not None:
             file, self._file = self._file, None
             try:
@@ -267,7 +272,7 @@ class Port:
         """
         file = self.fileno()
         try:
-            return os.write(file, data[:_AT_ONCE])
+            return self._put(file, data[:_AT_ONCE])
         except OSError as fault:
             self._loses(fault)
             return 0
@@ -312,6 +317,10 @@ class Port:
 
     def _opened(self, seconds: float) -> int:
         raise NotImplementedError
+
+    def _put(self, file: int, data: bytes) -> int:
+        """Writes what there is room for to the open file, and returns how many bytes that was."""
+        return os.write(file, data)
 
     def _let_go(self, file: int) -> None:
         """Ends what this process has done with a file, which is closed then."""
@@ -592,6 +601,14 @@ class TcpPort(Port):
                 with MinorFaults():
                     self._look_up()
             raise
+
+    def _put(self, file: int, data: bytes) -> int:
+        """As any port, but without SIGPIPE if the other end has closed: it ends a program that doesn't ignore it."""
+        count = _send(file, bytes(data), len(data), socket.MSG_NOSIGNAL)
+        if count < 0:
+            code = ctypes.get_errno()
+            raise OSError(code, os.strerror(code))
+        return int(count)
 
     def _look_up(self) -> None:
         """Finds the addresses of the name."""

@@ -9,7 +9,7 @@ from typing import SupportsIndex
 from ._constants import E_NOEXIST
 from ._control import Text, undoing
 from ._controls import HardTotals
-from .errors import IllegalError, NoExistError
+from .errors import DisabledError, IllegalError, NoExistError
 
 
 class Totals(HardTotals):
@@ -59,39 +59,47 @@ class Totals(HardTotals):
 
     @contextlib.contextmanager
     def transaction(self) -> Iterator[Totals]:
-        """Begins a transaction, and commits it at the end of the `with` block; an exception rolls it back.
+        """Begins a transaction, and commits it at the end of the `with` block. An exception in the block rolls it back,
+        and so does a commit that is refused: the totals are as before then.
 
         A loss of power leaves all of its changes or none. Inside it you can write and set files, but not create, delete
         or rename them, and reading gives what was there before it.
 
+        The commit is refused if the block has disabled the control, as `in_use` does at its end. The control is enabled
+        for the rollback alone. If that is refused too, as without memory, the control stays in the transaction:
+        `transaction_in_progress` is true then, and `rollback` ends it. A control that is closed is in none.
+
         Raises:
             IllegalError: The control is in a transaction already.
+            ClosedError, ClaimedError, DisabledError, NoExistError: As `commit_trans`.
             NoRoomError: Its changes are more than the totals have room for.
             FailureError: The totals are off.
             DiskError: The disk failed, and the changes may be in the file, all of them, or not.
+            NoMemoryError: There was no memory. With KIJOLVAR_CUT the changes may be made, all of them, or not.
         """
         was_in_transaction = self.transaction_in_progress
         try:
             self.begin_trans()
             yield self
-        except BaseException:
-            with contextlib.suppress(Exception):
-                if not was_in_transaction and self._is_in_transaction():
-                    self.rollback()
-            raise
-        self._commit()
-
-    def _is_in_transaction(self) -> bool:
-        return self._device is not None and not self._till.is_closed and self.transaction_in_progress
-
-    def _commit(self) -> None:
-        """Commits the transaction. One that is refused is rolled back."""
-        try:
             self.commit_trans()
         except BaseException:
-            with contextlib.suppress(Exception):
-                self.rollback()
+            if not was_in_transaction:
+                with contextlib.suppress(Exception):
+                    self._roll_back()
             raise
+
+    def _roll_back(self) -> None:
+        """Rolls the transaction back, unless it has ended. Closing the control ends it, and so does a failed disk."""
+        if not self.transaction_in_progress:
+            return
+        try:
+            self.rollback()
+        except DisabledError:
+            try:
+                self.device_enabled = True
+                self.rollback()
+            finally:
+                self.device_enabled = False
 
 
 class TotalsFile:

@@ -14,7 +14,7 @@ mod program;
 mod scripts;
 mod totals_run;
 
-use pos_program::{Fault, SystemFiles, read_words};
+use pos_program::{Fault, HeldStreams, SystemFiles, read_words};
 use pos_run::{AnswerWriter, ScriptReader};
 use pos_streams::{ReaderSource, WriterSink};
 use program::{end, perform};
@@ -22,6 +22,7 @@ use std::process::ExitCode;
 
 fn main(rt: HostRuntime) -> ExitCode {
     let alloc = rt.alloc();
+    let _streams = HeldStreams::hold(&rt);
     let Ok(mut writer) = AnswerWriter::new(alloc, WriterSink::new(rt.stdout())) else {
         return end(&rt, Err(Fault::NoMemory));
     };

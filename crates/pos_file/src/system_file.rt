@@ -5,9 +5,9 @@ ghost use Rattle.std.specs.Prelude.{◌≡◌, []};
 use crate::answers::{done, locks, number};
 use crate::block_file::BlockFile;
 use crate::history::{CallHistory, CallKind};
-use std::fs::{File, TryLockError};
+use std::fs::{File, Metadata, TryLockError};
 use std::io;
-use std::os::unix::fs::FileExt;
+use std::os::unix::fs::{FileExt, MetadataExt};
 
 /// A file of the system. Each of its calls is one call of `File`, and is noted with its answer.
 #[derive(Drop)]
@@ -25,6 +25,17 @@ impl SystemFile {
             file,
             history: CallHistory::new(),
         }
+    }
+
+    /// Returns whether the system told this of this file, and not of another one. It is no call that is noted, since it
+    /// looks at no byte.
+    ///
+    /// # Errors
+    ///
+    /// The system's cause if it tells nothing of the file.
+    pub fn is_told_of(&self, named: &Metadata) -> io::Result<bool> {
+        let opened = self.file.metadata()?;
+        Ok(opened.dev() == named.dev() && opened.ino() == named.ino())
     }
 }
 

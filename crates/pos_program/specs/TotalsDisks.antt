@@ -1,6 +1,6 @@
 -- How the disk of the totals in a file is opened (docs/reference/console.md, "The program").
 use Rattle.std.specs.Prelude.{◌≡◌, ◌∷◌, [], ℕ, List, Bool, true, false, max, min, nat_lt, Option, Some, Result, Ok}
-use Rattle.std.specs.Prelude.{length}
+use Rattle.std.specs.Prelude.{Err, length}
 use Rattle.std.specs.Bool.{MatchBool}
 use Rattle.std.specs.Fs.{new_options, with_create, with_read, with_write}
 use Rattle.std.specs.Path.{cur_dir, path_parent}
@@ -103,26 +103,41 @@ MakesLong system calls them path old result =
     × AnswersFor (λ u. LengthensDisk calls old) synced result)
     (result ≡ Ok old)
 
--- a file is opened as a disk, with this call for a lock, and the disk is mirrored
-abbrev pub MirrorsFile : {F : Type 0} → (Option ℕ → Call) → (F → List Call) → F → Result (Mirror (FileDisk F)) FileFault
-    → Type 0
-MirrorsFile {F} lock calls them result =
-    (disk : Result (FileDisk F) FileFault) × OpensDisk lock calls them disk
-    × AnswersFor (MirrorsDisk (file_disks calls)) disk result
+-- what the answer comes to whether the file at a path is this open one: if it isn't, another program uses the path
+abbrev pub IsNamed : Result Bool Error → Result (Unit {0}) FileFault → Type 0
+IsNamed (Ok true) result = result ≡ Ok tt
+IsNamed (Ok false) result = result ≡ Err file.InUse
+IsNamed (Err cause) (Err why) = ReportsOpen cause why
+IsNamed (Err cause) (Ok u) = ⊥
+
+-- what checking comes to that it is
+abbrev pub ChecksName : {S F : Type 0} → SystemGhosts S F → S → F → List ℕ → Result (Unit {0}) FileFault → Type 0
+ChecksName system them opened path result =
+    (answer : Result Bool Error) × system.names them opened path answer × IsNamed answer result
+
+-- a file is opened to be read and written, locked for this program alone, and still the one at its path
+abbrev pub LocksTotals : {S F : Type 0} → SystemGhosts S F → (F → List Call) → S → Bool → List ℕ
+    → Result (FileDisk F) FileFault → Type 0
+LocksTotals {F = F} system calls them may_make path result =
+    (opened : Result F FileFault) × OpensFile system ReportsOpen them (to_write may_make) path opened
+    × AnswersFor (λ file answer. (disk : Result (FileDisk F) FileFault) × OpensDisk lock_call calls file disk
+    × AnswersFor (λ locked last. (named : Result (Unit {0}) FileFault) × ChecksName system them locked.file path named
+    × AnswersFor (λ u passed. passed ≡ Ok locked) named last) disk answer) opened result
 
 -- opening the totals in a file that is there, to be read and written
 abbrev pub OpensTotals : {S F : Type 0} → SystemGhosts S F → (F → List Call) → S → List ℕ
     → Result (Mirror (FileDisk F)) FileFault → Type 0
 OpensTotals {F = F} system calls them path result =
-    (opened : Result F FileFault) × OpensFile system ReportsOpen them (to_write false) path opened
-    × AnswersFor (MirrorsFile lock_call calls) opened result
+    (locked : Result (FileDisk F) FileFault) × LocksTotals system calls them false path locked
+    × AnswersFor (MirrorsDisk (file_disks calls)) locked result
 
 -- opening the totals in a file that is there, to be read alone
 abbrev pub ReadsTotals : {S F : Type 0} → SystemGhosts S F → (F → List Call) → S → List ℕ
     → Result (Mirror (FileDisk F)) FileFault → Type 0
 ReadsTotals {F = F} system calls them path result =
     (opened : Result F FileFault) × OpensFile system ReportsUnreadable them to_read path opened
-    × AnswersFor (MirrorsFile share_call calls) opened result
+    × AnswersFor (λ file answer. (disk : Result (FileDisk F) FileFault) × OpensDisk share_call calls file disk
+    × AnswersFor (MirrorsDisk (file_disks calls)) disk answer) opened result
 
 -- a disk of a file is made long enough, and mirrored
 abbrev pub MirrorsLong : {S F : Type 0} → SystemGhosts S F → (F → List Call) → S → List ℕ → FileDisk F
@@ -135,9 +150,8 @@ MirrorsLong {F = F} system calls them path disk result =
 abbrev pub MakesTotals : {S F : Type 0} → SystemGhosts S F → (F → List Call) → S → List ℕ
     → Result (Mirror (FileDisk F)) FileFault → Type 0
 MakesTotals {F = F} system calls them path result =
-    (opened : Result F FileFault) × OpensFile system ReportsOpen them (to_write true) path opened
-    × AnswersFor (λ file answer. (disk : Result (FileDisk F) FileFault) × OpensDisk lock_call calls file disk
-    × AnswersFor (MirrorsLong system calls them path) disk answer) opened result
+    (locked : Result (FileDisk F) FileFault) × LocksTotals system calls them true path locked
+    × AnswersFor (MirrorsLong system calls them path) locked result
 
 -- Totals in a file that was asked for a lock for reading, its length, a sync, and then its first bytes, as many as a
 -- disk of totals has or all of a shorter file; and was asked nothing else. They show the bytes that this read gave.

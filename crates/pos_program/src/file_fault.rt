@@ -12,7 +12,7 @@ pub enum FileFault {
     /// It isn't there, or can't be opened for reading and writing.
     #[error("can't be opened for reading and writing: {0}")]
     Open(io::Error),
-    /// Another program has it open.
+    /// Another program has it open, or puts another file in its place.
     #[error("is in use: close the other program that has it open")]
     InUse,
     /// The system gives no lock on it.
@@ -36,7 +36,7 @@ pub enum FileFault {
     /// Its bytes can't be read, or fewer than it is said to have.
     #[error("can't be read whole: check the device that it is on")]
     NotRead,
-    /// It has totals already, which formatting would delete. Nothing was written.
+    /// It has totals already, which formatting would delete. They stay. A file that was too short has zeros at its end.
     #[error("is formatted already: remove it first if its totals may go")]
     Formatted,
     /// A read, a write or a sync failed while it was formatted.

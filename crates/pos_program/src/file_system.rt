@@ -1,5 +1,5 @@
 //! What the program asks of the file system.
-ghost use Rattle.std.specs.Prelude.{◌≡◌, [], IfOk, List, Result, ℕ, ⊤};
+ghost use Rattle.std.specs.Prelude.{◌≡◌, [], Bool, IfOk, List, Result, ℕ, ⊤};
 ghost use Rattle.std.specs.declared.fs.options.OpenOptions.{OpenOptions as Options};
 ghost use Rattle.std.specs.declared.io.Error.{Error};
 ghost use Rattle.pos_program.specs.Answers.{bytes_of};
@@ -21,6 +21,9 @@ pub trait FileSystem {
     /// What opening the file at a path may answer.
     ghost opens: { Self → Options → List ℕ → Result Self.File Error → Type 0 } = { λ _ _ _ _. ⊤ };
 
+    /// What asking whether the file at a path is this open one may answer.
+    ghost names: { Self → Self.File → List ℕ → Result Bool Error → Type 0 } = { λ _ _ _ _. ⊤ };
+
     /// What syncing the folder at a path may answer.
     ghost syncs: { Self → List ℕ → Result (Unit {0}) Error → Type 0 } = { λ _ _ _. ⊤ };
 
@@ -41,6 +44,14 @@ pub trait FileSystem {
         ensures opened { opens self.now how.now path.now result }
         ensures new { IfOk result (λ file. ⟦<Self::File as BlockFile>⟧.calls file ≡ []) };
 
+    /// Returns whether the file at a path is this open one. It isn't if another one took its place, or none is there.
+    ///
+    /// # Errors
+    ///
+    /// The system's error, which says why it can't tell.
+    fn is_at(&self, file: &Self::File, path: &str) -> io::Result<bool>
+        ensures { names self.now file.now path.now result };
+
     /// Makes the entries of the folder at a path stay after a crash.
     ///
     /// # Errors
@@ -60,6 +71,14 @@ impl<R: Files<File = File> + AllocGlobal> FileSystem for R {
     fn open(&self, how: &OpenOptions, path: &str) -> io::Result<SystemFile> {
         match how.open(self, path) {
             Ok(file) => Ok(SystemFile::new(file)),
+            Err(cause) => Err(cause),
+        }
+    }
+
+    fn is_at(&self, file: &SystemFile, path: &str) -> io::Result<bool> {
+        match fs::metadata(self, path) {
+            Ok(named) => file.is_told_of(&named),
+            Err(cause) if cause.kind() == io::ErrorKind::NotFound => Ok(false),
             Err(cause) => Err(cause),
         }
     }

@@ -6,6 +6,7 @@
 //! - [`format_file`], [`migrate_file`] and [`NamedFiles::read_disk`] format a totals file, move it to layout 2, and
 //!   read it. [`profile_of_bytes`] and [`open_run`] read a profile.
 //! - [`Fault`] is what the program ends with, and [`Fault::status`] its exit status.
+//! - [`HeldStreams`] keeps files from being opened as standard input, output or error.
 //!
 //! The layer above relies on this: a file is locked before anything in it is read or written, and its calls make the
 //! disk that the mirror shows. Each fault names its cause and prints as one line.
@@ -17,6 +18,7 @@ mod fault;
 mod file_fault;
 mod file_system;
 mod first_paragraph;
+mod held_streams;
 mod migration;
 mod named_files;
 mod new_totals;
@@ -34,6 +36,7 @@ pub use fault::{Fault, status_of};
 pub use file_fault::FileFault;
 pub use file_system::FileSystem;
 pub use first_paragraph::FirstParagraph;
+pub use held_streams::HeldStreams;
 pub use migration::{migrate_disk, migrate_file, migrate_totals};
 pub use named_files::{NamedFiles, SystemFiles};
 pub use new_totals::{format_disk, format_file, format_totals};

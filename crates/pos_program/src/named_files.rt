@@ -48,7 +48,8 @@ pub trait NamedFiles {
     ///
     /// # Errors
     ///
-    /// - `Open` if the file can't be opened for reading and writing, and `InUse` if another program has locked it.
+    /// - `Open` if the file can't be opened for reading and writing.
+    /// - `InUse` if another program has locked it, or put another file in its place before it was locked.
     /// - `Lock`, `Measure`, `NotSynced`, `NotRead` and `NoMemory`.
     fn open_disk(&self, path: &str) -> Result<TotalsDisk<Self::File>, FileFault>
         ensures given { gives_disk self.now path.now result }

@@ -3,7 +3,7 @@ ghost use Rattle.std.specs.Prelude.{◌≡◌, ◌≤◌, IfOk, false, length, L
 ghost use Rattle.pos_file.specs.Calls.{lock_call, share_call};
 ghost use Rattle.pos_image.specs.Layout.{disk_size};
 ghost use Rattle.pos_program.specs.Faults.{ReportsOpen};
-ghost use Rattle.pos_program.specs.TotalsDisks.{IsLongEnough, IsNewMirror, LengthensDisk, MakesLong, MakesTotals, MirrorsDisk, OpensDisk, OpensFile, OpensTotals, SyncsFolder, ReportsDisk, folder_of, to_write};
+ghost use Rattle.pos_program.specs.TotalsDisks.{ChecksName, IsLongEnough, IsNewMirror, LengthensDisk, LocksTotals, MakesLong, MakesTotals, MirrorsDisk, OpensDisk, OpensFile, OpensTotals, SyncsFolder, ReportsDisk, folder_of, to_write};
 ghost use Rattle.pos_program.specs.Locks.{ReportsUnlocked};
 ghost use Rattle.pos_mirror.specs.Mirror.{mirror_state};
 ghost use Rattle.pos_program.specs.MirroredFiles.{CutMayLeave, IsMirrored};
@@ -151,12 +151,43 @@ pub fn mirrored<D: Disk + Drop>(alloc: Global, disk: D) -> Result<MirrorDisk<D>,
     }
 }
 
+// Checks that the file at a path is still this one. Another program may give the path to another file, as `kijolvar
+// restore --replace` does, after this one was opened and before it was locked.
+fn check_name<S: FileSystem>(files: &S, file: &S::File, path: &str) -> Result<(), FileFault>
+    ensures { ChecksName S.FileSystem files.now file.now path.now result }
+{
+    match files.is_at(file, path) {
+        Ok(true) => Ok(()),
+        Ok(false) => Err(FileFault::InUse),
+        Err(cause) => Err(fault_of_open(cause)),
+    }
+}
+
+// Returns the disk in the file at a path, which is locked for this program alone. It is made if it isn't there and may
+// be made.
+fn lock_totals<S: FileSystem>(
+    files: &S,
+    path: &str,
+    may_make: bool,
+) -> Result<FileDisk<S::File>, FileFault>
+    ensures locks { LocksTotals S.FileSystem ⟦<S::File as BlockFile>⟧.calls files.now may_make path.now
+        result }
+    ensures sound { IfOk result (λ disk. disk.has_failed ≡ false) }
+{
+    let disk = disk_over(open_file(files, path, may_make)?)?;
+    check_name(files, disk.file(), path)?;
+    Ok(disk)
+}
+
 /// Opens the totals in the file at a path, which is there, and returns them. The file is locked for this program alone
 /// until the disk ends.
 ///
 /// # Errors
 ///
-/// `Open` if the file can't be opened for reading and writing, and those of `disk_over` and `mirrored`.
+/// - `Open` if the file can't be opened for reading and writing, or the system can't tell whether it is still at the
+///   path.
+/// - `InUse` also if another program put another file in its place before it was locked.
+/// - Those of `disk_over` and `mirrored`.
 pub fn open_totals<S: FileSystem + AllocGlobal>(
     files: &S,
     path: &str,
@@ -164,7 +195,7 @@ pub fn open_totals<S: FileSystem + AllocGlobal>(
     ensures opens { OpensTotals S.FileSystem ⟦<S::File as BlockFile>⟧.calls files.now path.now result }
     ensures new { IfOk result (λ totals. IsNewMirror totals) }
 {
-    let disk = disk_over(open_file(files, path, false)?)?;
+    let disk = lock_totals(files, path, false)?;
     mirrored(files.alloc(), disk)
 }
 
@@ -201,7 +232,7 @@ pub fn make_totals<S: FileSystem + AllocGlobal>(
     ensures new { IfOk result (λ totals. IsNewMirror totals) }
     ensures length { IfOk result (λ totals. disk_size ≤ length totals.memory.present.reading) }
 {
-    let disk = disk_over(open_file(files, path, true)?)?;
+    let disk = lock_totals(files, path, true)?;
     let disk = long_enough(files, path, disk)?;
     mirrored(files.alloc(), disk)
 }

@@ -89,7 +89,8 @@ pub(crate) fn broken_text(alloc: Global, fault: SurveyFault) -> Result<Vec<u8>, 
         SurveyFault::TooSmall => {
             "no totals: shorter than a totals file, which has 327680 bytes\nto do: see that it is the right file\n"
         }
-        _ => "no totals: not formatted\nto do: `kijolvar create FILE` makes totals without files\n",
+        _ =>
+            "no totals: not formatted\nto do: restore a copy if it had any; `kijolvar create FILE` makes new ones\n",
     };
     Vec::from_slice(alloc, words.as_bytes())
 }

@@ -1,7 +1,7 @@
 -- Lines that are carried out one after another, and may wait.
 use Rattle.pos_run.proofs.Common.{Appends, Appends-nil, Appends-trans, Counter, DiskGhosts, Finishes, Ghosts, Given, []}
 use Rattle.pos_run.proofs.Common.{IsRun, List, Machine, Request, Response, Result, Run, Session, Stops, Ok, Err, ap}
-use Rattle.pos_run.proofs.Common.{append-nil, append_assoc, arith, drop, given_after, inl, inr, length, machine}
+use Rattle.pos_run.proofs.Common.{append-nil, append_assoc, arith, drop, given_after, length, machine}
 use Rattle.pos_run.proofs.Common.{refl, runs_from, subst, sym, true, false, ℕ, ◌++◌, ◌<◌, ◌≤◌, ◌∙◌, ◌∷◌, ◌≡◌, ◌⊎◌}
 use Rattle.pos_run.proofs.Common.{codes, get_or}
 use Rattle.pos_run.proofs.Common.{suc, false≢true}
@@ -15,11 +15,11 @@ use Rattle.pos_run.proofs.WantingLemmas.{one_wanting}
 use Rattle.std.proofs.Common.{length-append, slice_index_or}
 use Rattle.std.specs.Prelude.{◌≢◌}
 use Rattle.std.specs.declared.vec.Vec.{Vec}
-use Rattle.pos_counter.proofs.RunLemmas.{left_first}
+use Rattle.pos_counter.proofs.ErrandLemmas.{runs_on}
 use Rattle.pos_counter.proofs.ServiceLemmas.{OnlyNow}
-use Rattle.pos_counter.specs.Counters.{IsLeftDuring, Stays}
+use Rattle.pos_counter.specs.Counters.{IsLeftDuring, RunsFrom, Stays}
 use Rattle.pos_counter.specs.Leaving.{Leaves, part_of}
-use Rattle.pos_disk.proofs.MomentLemmas.{followed_by, started, weaker}
+use Rattle.pos_disk.proofs.MomentLemmas.{weaker}
 use Rattle.pos_disk.specs.Keeps.{KeepsDisk}
 use Rattle.pos_disk.specs.State.{DiskState, LeavesOnly}
 use Rattle.pos_drive.specs.declared.courses.Course.{Course}
@@ -80,21 +80,6 @@ long_text front back long is =
     let count : length (front ++ back) ≡ 7 = ap length is in
     omega (arith, long, count, length-append front back)
 
--- two runs are one, and what is left during either is left during it
-during_both : (a b c : Machine) (steps more : List (Request × Response)) (first : Run a steps b) (second : Run b more c)
-    → (run : Run a (steps ++ more) c) × ((bytes : List ℕ)
-    → IsLeftDuring a steps b first bytes ⊎ IsLeftDuring b more c second bytes
-    → IsLeftDuring a (steps ++ more) c run bytes)
-during_both a b c [] more first second =
-    subst (λ (m : Machine). (run : Run m more c) × ((bytes : List ℕ)
-    → StandsForOneOf m.totals.left bytes ⊎ IsLeftDuring b more c second bytes → IsLeftDuring m more c run bytes)) first
-    (second, λ bytes. ⊎_elim (left_first b c more second bytes) (λ h. h))
-during_both a b c (s ∷ steps) more first second =
-    let (run, covers) = during_both first.0 b c steps more first.2 second in (
-      (first.0, first.1, run),
-      λ bytes. ⊎_elim (⊎_elim (λ h. inl h) (λ h. inr (covers bytes (inl h)))) (λ h. inr (covers bytes (inr h))),
-    )
-
 -- a run to this machine is one to an equal one, with the same moments
 arrives : {D : Type 0} (state : D → DiskState) (old : DiskState) {d e : D} (m : Machine) {n k : Machine}
     (steps : List (Request × Response)) → d ≡ e → n ≡ k → (run : Run m steps n)
@@ -120,14 +105,11 @@ module _ {D P : Type 0} (bound : DiskGhosts D) (peripherals : Ghosts P) where
   pub runs_lines : ((disk : D) → OnlyNow bound disk) → {a b : Counter D P} {s left : Session} {lines : List (List ℕ)}
       {text : List ℕ}
       → Transcript (IsRun bound peripherals) a s lines text left b → RunsLines bound peripherals a s lines text b left
-  runs_lines only {a} {b} done = λ standing leaves.
-      let r = runs_from bound peripherals a b done.steps standing only leaves done.run in
-      record {
-        after = r.after;
-        leaves = r.leaves;
-        done = record { steps = done.steps; run = r.run; prints = done.prints };
-        any_moment = r.any_moment;
-      }
+  runs_lines only {a} {b} done = λ standing leaves. record {
+    steps = done.steps;
+    ran = runs_from bound peripherals a b done.steps standing only leaves done.run;
+    prints = done.prints;
+  }
 
   -- then the counter stays as it is to the machine
   runs_stay : (a : Counter D P) {b c : Counter D P} {s left : Session} {lines : List (List ℕ)} {text : List ℕ}
@@ -135,16 +117,21 @@ module _ {D P : Type 0} (bound : DiskGhosts D) (peripherals : Ghosts P) where
       → RunsLines bound peripherals a s lines text c left
   runs_stay a {b} {c} runs stays = λ standing leaves.
       let r = runs standing leaves in
-      let same : machine peripherals b (part_of bound b.totals r.after) ≡ machine peripherals c
-      (part_of bound c.totals r.after) = sym (ap (λ v. machine peripherals c (part_of bound v r.after)) stays.totals
-      ∙ stays.machine (part_of bound b.totals r.after)) in
-      let (run, any_moment) = arrives bound.state (bound.state a.totals.disk) _ r.done.steps
-      (sym (ap (λ (v : TotalsView D). v.disk) stays.totals)) same r.done.run r.any_moment in
+      let after = r.ran.after in
+      let same : machine peripherals b (part_of bound b.totals after) ≡ machine peripherals c
+      (part_of bound c.totals after) = sym (ap (λ v. machine peripherals c (part_of bound v after)) stays.totals
+      ∙ stays.machine (part_of bound b.totals after)) in
+      let (run, any_moment) = arrives bound.state (bound.state a.totals.disk) _ r.steps
+      (sym (ap (λ (v : TotalsView D). v.disk) stays.totals)) same r.ran.run r.ran.any_moment in
       record {
-        after = r.after;
-        leaves = subst (λ v. Leaves bound v r.after) (sym stays.totals) r.leaves;
-        done = record { steps = r.done.steps; run = run; prints = r.done.prints };
-        any_moment = any_moment;
+        steps = r.steps;
+        ran = record {
+          after = after;
+          leaves = subst (λ v. Leaves bound v after) (sym stays.totals) r.ran.leaves;
+          run = run;
+          any_moment = any_moment;
+        };
+        prints = r.prints;
       }
 
   kept_stay : (a : Counter D P) {b c : Counter D P} → KeepsDisk bound a.totals.disk b.totals.disk
@@ -177,11 +164,9 @@ module _ {D P : Type 0} (bound : DiskGhosts D) (peripherals : Ghosts P) where
   tells_none only c s given = record {
     text = [];
     runs = λ standing leaves. record {
-      after = standing;
-      leaves = leaves;
-      done = record { steps = []; run = refl; prints = (refl, refl, refl) };
-      any_moment = started (bound.state c.totals.disk) (StandsForOneOf standing)
-          (λ bytes since. leaves.leaves bytes (only c.totals.disk bytes leaves.honest since));
+      steps = [];
+      ran = runs_from bound peripherals c c [] standing only leaves refl;
+      prints = (refl, refl, refl);
     };
     written = Appends-nil given;
     kept = keeps_same c.totals.disk;
@@ -193,13 +178,8 @@ module _ {D P : Type 0} (bound : DiskGhosts D) (peripherals : Ghosts P) where
   tells_held {before} h = record {
     text = [];
     runs = λ standing leaves.
-        let stays = h.stays standing leaves in
-        record {
-          after = stays.after;
-          leaves = stays.leaves;
-          done = record { steps = []; run = stays.machine; prints = (refl, refl, stays.still) };
-          any_moment = stays.any_moment;
-        };
+        let (stays, session) = h.stays standing leaves in
+        record { steps = []; ran = stays; prints = (refl, refl, session) };
     written = h.nothing ∙ Appends-nil before;
     kept = h.kept;
   }
@@ -210,28 +190,11 @@ module _ {D P : Type 0} (bound : DiskGhosts D) (peripherals : Ghosts P) where
       → RunsLines bound peripherals a s (lines ++ more) (text ++ rest) c left
   lines_join a b c {s} {mid} {left} {lines} {more} {text} {rest} first second = λ standing leaves.
       let one = first standing leaves in
-      let two = second one.after one.leaves in
-      let A = machine peripherals a (part_of bound a.totals standing) in
-      let B = machine peripherals b (part_of bound b.totals one.after) in
-      let C = machine peripherals c (part_of bound c.totals two.after) in
-      let (run, covers) = during_both A B C one.done.steps two.done.steps one.done.run two.done.run in
-      let During : List ℕ → Type 0 = IsLeftDuring A (one.done.steps ++ two.done.steps) C run in
-      let before : LeavesOnly (bound.state a.totals.disk) (bound.state b.totals.disk) During =
-      weaker _ _ (IsLeftDuring A one.done.steps B one.done.run) During (λ bytes h. covers bytes (inl h))
-      one.any_moment in
-      let then : LeavesOnly (bound.state b.totals.disk) (bound.state c.totals.disk) During =
-      weaker _ _ (IsLeftDuring B two.done.steps C two.done.run) During (λ bytes h. covers bytes (inr h))
-      two.any_moment in
+      let two = second one.ran.after one.ran.leaves in
       record {
-        after = two.after;
-        leaves = two.leaves;
-        done = record {
-          steps = one.done.steps ++ two.done.steps;
-          run = run;
-          prints = prints_join s lines one.done.steps text mid more two.done.steps rest left one.done.prints
-              two.done.prints;
-        };
-        any_moment = followed_by _ _ _ During before then;
+        steps = one.steps ++ two.steps;
+        ran = runs_on bound peripherals a b standing one.steps two.steps one.ran two.ran;
+        prints = prints_join s lines one.steps text mid more two.steps rest left one.prints two.prints;
       }
 
   pub tells_join : {a b c : Counter D P} {s mid left : Session} {lines more : List (List ℕ)}
@@ -361,13 +324,13 @@ module _ {D P : Type 0} (bound : DiskGhosts D) (peripherals : Ghosts P) where
             stays = λ standing leaves.
                 let r = runs_from bound peripherals a b ran.steps standing only leaves ran.run in
                 let (same, names, idle) = one_wanting line prints r.run in
-                record {
+                let ran : RunsFrom bound peripherals standing a [] b = record {
                   after = r.after;
                   leaves = r.leaves;
-                  machine = same;
-                  still = names;
+                  run = same;
                   any_moment = weaker _ _ _ (StandsForOneOf standing) idle r.any_moment;
-                };
+                } in
+                (ran, names);
             nothing = refl;
             kept = run_keeps a b ran.steps ran.run;
           }

@@ -2,24 +2,23 @@
 use Rattle.std.specs.Prelude.{◌≡◌, ◌≢◌, ◌++◌, ◌∷◌, [], ℕ, Bool, true, false, List, Result, Ok, Err, codes}
 use Rattle.std.specs.Prelude.{if◌then◌else◌, nat_lt, take}
 use Rattle.std.specs.declared.vec.Vec.{Vec}
-use Rattle.pos_counter.specs.Counters.{IsLeftDuring, machine}
+use Rattle.pos_counter.specs.Counters.{RunsFrom}
 use Rattle.pos_counter.specs.Hosts.{progress_in}
-use Rattle.pos_counter.specs.Leaving.{Leaves, part_of}
-use Rattle.pos_counter.specs.Steps.{Run}
+use Rattle.pos_counter.specs.Leaving.{Leaves}
+use Rattle.pos_counter.specs.Steps.{Request, Response}
 use Rattle.pos_counter.specs.declared.counter.Counter.{Counter}
 use Rattle.pos_disk.specs.Keeps.{KeepsDisk}
-use Rattle.pos_disk.specs.State.{LeavesOnly}
 use Rattle.pos_disk.specs.declared.device.Disk.{Ghosts as DiskGhosts}
 use Rattle.pos_drive.specs.declared.courses.Course.{Course}
 use Rattle.pos_drive.specs.declared.courses.Progress.{Progress}
 use Rattle.pos_drive.specs.declared.courses.Progress.TheVariants as progress
 use Rattle.pos_script.specs.Lines.{lines_of}
 use Rattle.pos_service.specs.declared.peripheral.Peripheral.{Ghosts}
-use Rattle.pos_store.specs.Standing.{Standing, StandsForOneOf}
+use Rattle.pos_store.specs.Standing.{Standing}
 use Rattle.pos_streams.specs.Streams.{Appends, Given, given_with}
 use Rattle.pos_streams.specs.Transfers.{given_to}
 use Rattle.pos_streams.specs.declared.sink.WriteFault.{WriteFault}
-use Rattle.pos_run.specs.Transcript.{Session, Transcript}
+use Rattle.pos_run.specs.Transcript.{LinesPrint, Session}
 use Rattle.pos_run.specs.declared.line_texts.LineText.{LineText}
 use Rattle.pos_run.specs.declared.waiting_lines.LineProgress.{LineProgress}
 use Rattle.pos_run.specs.declared.waiting_lines.LineProgress.TheVariants as held
@@ -54,34 +53,19 @@ HoldsBy done text held.NoMemory = (done ≡ progress.Reported) × (text ≡ code
 abbrev pub IsReady : Progress → List ℕ → Type 0
 IsReady done text = done ≡ progress.Ready
 
--- The machine that a counter stands for, and what the lines have, are as they were, by what the disk may leave before.
--- A crash at any moment leaves what may be left before.
-pub record StaysFrom {D P : Type 0} (bound : DiskGhosts D) (peripherals : Ghosts P) (standing : List Standing)
-    (old : Counter D P) (session : Session) (new : Counter D P) (left : Session) : Type 0 where
-  pub after : List Standing
-  pub leaves : Leaves bound new.totals after
-  pub machine : machine peripherals new (part_of bound new.totals after)
-      ≡ machine peripherals old (part_of bound old.totals standing)
-  pub still : left ≡ session
-  pub any_moment : LeavesOnly (bound.state old.totals.disk) (bound.state new.totals.disk) (StandsForOneOf standing)
-
--- likewise, for all that the disk may leave
+-- For all that the disk may leave, the machine that a counter stands for, and what the lines have, are as they were: a
+-- run of no step. So a crash at any moment leaves what may be left before.
 abbrev pub StaysTo : {D P : Type 0} → DiskGhosts D → Ghosts P → Counter D P → Session → Counter D P → Session → Type 0
 StaysTo bound peripherals old session new left = (standing : List Standing) → Leaves bound old.totals standing
-    → StaysFrom bound peripherals standing old session new left
+    → RunsFrom bound peripherals standing old [] new × (left ≡ session)
 
--- The machine has run by lines, and this is their text, by what the disk may leave before. A crash at any moment leaves
--- what may be left before or after one of its steps.
+-- The machine has run by lines, and this is their text, by what the disk may leave before.
 pub record RunsLinesFrom {D P : Type 0} (bound : DiskGhosts D) (peripherals : Ghosts P) (standing : List Standing)
     (old : Counter D P) (session : Session) (lines : List (List ℕ)) (text : List ℕ) (new : Counter D P)
     (left : Session) : Type 0 where
-  pub after : List Standing
-  pub leaves : Leaves bound new.totals after
-  pub done : Transcript Run (machine peripherals old (part_of bound old.totals standing)) session lines text left
-      (machine peripherals new (part_of bound new.totals after))
-  pub any_moment : LeavesOnly (bound.state old.totals.disk) (bound.state new.totals.disk)
-      (IsLeftDuring (machine peripherals old (part_of bound old.totals standing)) done.steps
-      (machine peripherals new (part_of bound new.totals after)) done.run)
+  pub steps : List (Request × Response)
+  pub ran : RunsFrom bound peripherals standing old steps new
+  pub prints : LinesPrint session lines steps text left
 
 -- likewise, for all that the disk may leave
 abbrev pub RunsLines : {D P : Type 0} → DiskGhosts D → Ghosts P → Counter D P → Session → List (List ℕ)

@@ -1,6 +1,6 @@
 -- How a file appears whole or not at all (docs/reference/tool.md, "backup").
 use Rattle.std.specs.Prelude.{◌≡◌, ◌⊎◌, ◌++◌, ◌∷◌, [], ℕ, List, length, true, false, Option, Some, None, Result, Ok}
-use Rattle.std.specs.Prelude.{Err, codes}
+use Rattle.std.specs.Prelude.{Bool, Err, codes}
 use Rattle.std.specs.Fs.{new_options, with_create_new, with_write}
 use Rattle.std.specs.declared.fs.options.OpenOptions.{OpenOptions}
 use Rattle.std.specs.declared.io.Error.{Error}
@@ -86,14 +86,25 @@ RenamesPart system folder them part path result =
     (renamed : Result (Unit {0}) Error) × folder.renames them part path renamed
     × Follows fault.Link (Settles system them path result) renamed result
 
--- What making a file with these bytes at a path comes to, in place of one that may be there: want of memory; or they
--- are written to the file beside it, and after that it gets its name.
+-- what the answer comes to whether a name is free or a file's
+abbrev pub MayTake : Result Bool Error → Result (Unit {0}) WholeFault → Type 0
+MayTake (Ok true) result = result ≡ Ok tt
+MayTake (Ok false) result = result ≡ Err fault.NoFile
+MayTake (Err cause) result = result ≡ Err (fault.Link cause)
+
+-- what checking comes to that it is
+abbrev pub ChecksFile : {S : Type 0} → FolderGhosts S → S → List ℕ → Result (Unit {0}) WholeFault → Type 0
+ChecksFile folder them path result =
+    (answer : Result Bool Error) × folder.yields them path answer × MayTake answer result
+
+-- What making a file with these bytes at a path comes to, in place of one that may be there: want of memory; or its
+-- name may be taken, they are written to the file beside it, and after that it gets its name.
 abbrev pub PutsOver : {S F : Type 0} → SystemGhosts S F → FolderGhosts S → (F → List Call) → S → List ℕ → List ℕ
     → Result (Unit {0}) WholeFault → Type 0
 PutsOver system folder calls them path bytes result =
     (result ≡ Err fault.NoMemory)
-    ⊎ Continues (WritesPart system calls them (path ++ codes ".part") bytes)
-    (RenamesPart system folder them (path ++ codes ".part") path result) result
+    ⊎ Continues (ChecksFile folder them path) (Continues (WritesPart system calls them (path ++ codes ".part") bytes)
+    (RenamesPart system folder them (path ++ codes ".part") path result) result) result
 
 -- what keeping a file under a second name, and putting another one in its place, comes to
 abbrev pub SetsAside : {S F : Type 0} → SystemGhosts S F → FolderGhosts S → S → List ℕ → List ℕ → List ℕ
@@ -102,11 +113,12 @@ SetsAside system folder them part path old result =
     (linked : Result (Unit {0}) Error) × folder.links them path old linked
     × Follows fault.Aside (RenamesPart system folder them part path result) linked result
 
--- What putting a file with these bytes in place of the one at a path comes to: want of memory; or they are written to
--- the file beside it, then the old file gets a second name, and then the new one takes its place.
+-- What putting a file with these bytes in place of the one at a path comes to: want of memory; or its name may be
+-- taken, they are written to the file beside it, then the old file gets a second name, and then the new one takes its
+-- place.
 abbrev pub Replaces : {S F : Type 0} → SystemGhosts S F → FolderGhosts S → (F → List Call) → S → List ℕ → List ℕ
     → Result (Unit {0}) WholeFault → Type 0
 Replaces system folder calls them path bytes result =
     (result ≡ Err fault.NoMemory)
-    ⊎ Continues (WritesPart system calls them (path ++ codes ".part") bytes)
-    (SetsAside system folder them (path ++ codes ".part") path (path ++ codes ".old") result) result
+    ⊎ Continues (ChecksFile folder them path) (Continues (WritesPart system calls them (path ++ codes ".part") bytes)
+    (SetsAside system folder them (path ++ codes ".part") path (path ++ codes ".old") result) result) result

@@ -254,9 +254,10 @@ fn hint_of_file(cause: &FileFault) -> &'static str {
         FileFault::Open(_) | FileFault::Unreadable(_) | FileFault::Folder(_) => {
             "check the path, and who may read and write it"
         }
-        FileFault::Unformatted | FileFault::Short => {
-            "`kijolvar create FILE` makes totals without files"
+        FileFault::Unformatted => {
+            "restore a copy if it had totals; `kijolvar create FILE` makes new ones"
         }
+        FileFault::Short => "if it was cut off, restore a copy of it, or salvage what is left",
         FileFault::Damaged | FileFault::Broken { .. } => {
             "`kijolvar check FILE` names the rule that is broken"
         }
@@ -271,9 +272,10 @@ fn hint_of_file(cause: &FileFault) -> &'static str {
 // What to do about a fault of the bytes of a totals file.
 fn hint_of_totals(cause: &SurveyFault) -> &'static str {
     match cause {
-        SurveyFault::TooSmall | SurveyFault::Unformatted => {
-            "is it the right file? `kijolvar create FILE` makes totals without files"
+        SurveyFault::TooSmall => {
+            "is it the right file? If it was cut off, restore a copy of it, or salvage what is left"
         }
+        SurveyFault::Unformatted => "is it the right file? Restore a copy if it had totals",
         SurveyFault::Damaged(_, _) =>
             "`kijolvar salvage FILE TO` makes a sound file of what can be had",
         SurveyFault::NoMemory => "free memory, and try again",
@@ -286,11 +288,15 @@ fn hint_of_whole(cause: &WholeFault) -> &'static str {
         WholeFault::NoMemory => "free memory, and try again",
         WholeFault::Part(_) =>
             "check the folder; remove the .part file if no other command is making it",
+        WholeFault::NoFile => "give the path of a file, and not of a link to it",
         WholeFault::Unwritten => "check the device, and the space that is free there",
-        WholeFault::Link(_) => "if a file is there: give another path, or restore with --replace",
+        WholeFault::Link(_) => {
+            "if a file is there, give another path, or restore with --replace; the disk must have hard links"
+        }
         WholeFault::Aside(_) => "if a .old file is there: move it away first",
         WholeFault::Left(_) => "remove the .part file",
-        WholeFault::Unsynced(_) => "check the device, and copy it again",
+        WholeFault::Unsynced(_) =>
+            "check the device, and sync it; until then a crash may take the file away",
     }
 }
 
@@ -302,9 +308,9 @@ fn hint_of_run(fault: &RunFault<'_>) -> &'static str {
             "docs/reference/profile.md has each key; without --profile the built-in one serves",
         RunFault::Totals { cause, .. } => hint_of_file(cause),
         RunFault::Stopped(ScriptsFault::NoMemory) =>
-            "free memory; the lines that were told are done",
+            "free memory; lines may have been run: check the totals before you run them again",
         RunFault::Stopped(ScriptsFault::Write) =>
-            "check the space that is free where the output goes",
+            "check where the output goes; lines may have been run: check the totals before you run them again",
         RunFault::Stopped(ScriptsFault::Read) =>
             "put the lines into a script; the lines before are done",
     }
@@ -336,7 +342,7 @@ impl Fault<'_> {
             Fault::Trial(fault) => hint_of_trial(fault),
             Fault::Folder { .. } => "check who may read it; its names have to be UTF-8",
             Fault::NoScripts { .. } => "the answers that are wanted of SCRIPT are in SCRIPT.stdout",
-            Fault::Write => "check the space that is free where the output goes",
+            Fault::Write => "check where the output goes, and the space that is free there",
             Fault::NoMemory => "free memory, and try again",
         }
     }

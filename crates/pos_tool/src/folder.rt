@@ -1,5 +1,5 @@
 //! What the program asks of folders.
-ghost use Rattle.std.specs.Prelude.{List, Option, Result, ℕ, ⊤};
+ghost use Rattle.std.specs.Prelude.{Bool, List, Option, Result, ℕ, ⊤};
 ghost use Rattle.std.specs.declared.io.Error.{Error};
 ghost use Rattle.pos_tool.specs.Texts.{names_in};
 
@@ -17,6 +17,9 @@ pub trait Folder {
 
     /// What taking a name away may answer.
     ghost removes: { Self → List ℕ → Result (Unit {0}) Error → Type 0 } = { λ _ _ _. ⊤ };
+
+    /// What asking whether a name is free or a file's may answer.
+    ghost yields: { Self → List ℕ → Result Bool Error → Type 0 } = { λ _ _ _. ⊤ };
 
     /// What listing a folder may answer: the names in it, or none if the path is no folder's.
     ghost lists: { Self → List ℕ → Result (Option (List (List ℕ))) Error → Type 0 } = { λ _ _ _. ⊤ };
@@ -45,6 +48,14 @@ pub trait Folder {
     fn remove(&self, path: &str) -> io::Result<()>
         ensures { removes self.now path.now result };
 
+    /// Returns whether a name is free, or that of a file: not of a link, a folder, a pipe or a device.
+    ///
+    /// # Errors
+    ///
+    /// What the system says, if it can't tell.
+    fn is_free_or_file(&self, path: &str) -> io::Result<bool>
+        ensures { yields self.now path.now result };
+
     /// Returns the names in the folder at a path, in any order; none if the path is no folder's.
     ///
     /// # Errors
@@ -65,6 +76,14 @@ impl<R: Files + AllocGlobal + Clone + Drop> Folder for R {
 
     fn remove(&self, path: &str) -> io::Result<()> {
         fs::remove_file(self, path)
+    }
+
+    fn is_free_or_file(&self, path: &str) -> io::Result<bool> {
+        match fs::symlink_metadata(self, path) {
+            Ok(found) => Ok(found.is_file()),
+            Err(cause) if cause.kind() == io::ErrorKind::NotFound => Ok(true),
+            Err(cause) => Err(cause),
+        }
     }
 
     fn names(&self, path: &str) -> io::Result<Option<Vec<String>>> {

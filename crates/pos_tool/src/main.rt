@@ -22,7 +22,7 @@ mod whole;
 use help::{HELP, LINES_HELP, VERSION, VERSION_LINE};
 use meter::Meter;
 use pages::{BASH, FISH, MAN, ZSH};
-use pos_program::{SystemFiles, read_words};
+use pos_program::{HeldStreams, SystemFiles, read_words};
 use pos_report::CODES;
 use pos_streams::{ReaderSource, WriterSink};
 use program::{Pages, Terminals, perform};
@@ -30,6 +30,7 @@ use std::io::IsTerminal;
 use std::process::ExitCode;
 
 fn main(rt: HostRuntime) -> ExitCode {
+    let _streams = HeldStreams::hold(&rt);
     let terminals = Terminals {
         input: rt.stdin().is_terminal(),
         output: rt.stdout().is_terminal(),

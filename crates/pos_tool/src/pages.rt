@@ -175,7 +175,7 @@ Prints the commands.
 Done; of check: sound.
 .TP
 .B 1
-No totals, or no such file, code, shell or script; of diff and test: they differ.
+No totals, or in them no such file; no such code or shell; of diff and test: they differ.
 .TP
 .B 2
 Damaged totals.

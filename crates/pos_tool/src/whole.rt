@@ -1,6 +1,6 @@
 //! Files that appear whole or not at all.
 ghost use Rattle.std.specs.Prelude.{◌≡◌, ◌++◌, IfOk, string_bytes};
-ghost use Rattle.pos_tool.specs.Whole.{LinksPart, Puts, PutsOver, RenamesPart, Replaces, SetsAside, Settles};
+ghost use Rattle.pos_tool.specs.Whole.{ChecksFile, LinksPart, Puts, PutsOver, RenamesPart, Replaces, SetsAside, Settles};
 ghost use Rattle.pos_tool.specs.Whole.{WritesPart, WritesWhole, to_make};
 
 use crate::folder::Folder;
@@ -20,6 +20,9 @@ pub enum WholeFault {
     /// The file beside it, in which it is made, can't be made.
     #[error("the file beside it, with .part at its end, can't be made: {0}")]
     Part(io::Error),
+    /// Its name is that of a link, a folder, a pipe or a device.
+    #[error("is no file, but a link, a folder, a pipe or a device")]
+    NoFile,
     /// It couldn't be written whole, or not be synced.
     #[error("can't be written and synced whole")]
     Unwritten,
@@ -143,6 +146,17 @@ pub(crate) fn put_new<S: FileSystem + Folder>(
     link_part(system, &part, path)
 }
 
+// Checks that a file may take a name: the name is free, or a file's.
+fn check_file<S: Folder>(system: &S, path: &str) -> Result<(), WholeFault>
+    ensures { ChecksFile S.Folder system.now path.now result }
+{
+    match system.is_free_or_file(path) {
+        Ok(true) => Ok(()),
+        Ok(false) => Err(WholeFault::NoFile),
+        Err(cause) => Err(WholeFault::Link(cause)),
+    }
+}
+
 // Puts a whole file in the place of what has its name.
 fn rename_part<S: FileSystem + Folder>(system: &S, part: &str, path: &str) -> Result<(), WholeFault>
     ensures { RenamesPart S.FileSystem S.Folder system.now part.now path.now result }
@@ -169,11 +183,12 @@ pub(crate) fn put_over<S: FileSystem + Folder>(
     ensures { PutsOver S.FileSystem S.Folder ⟦<S::File as BlockFile>⟧.calls system.now path.now bytes.now result }
 {
     let part = beside(alloc, path, ".part")?;
+    check_file(system, path)?;
     write_part(system, &part, bytes)?;
     rename_part(system, &part, path)
 }
 
-// Keeps a file under a second name, and then puts another one in its place.
+// Keeps a file under a second name, and then puts another one in its place. If that fails, it loses the second name.
 fn set_aside<S: FileSystem + Folder>(
     system: &S,
     part: &str,
@@ -186,7 +201,13 @@ fn set_aside<S: FileSystem + Folder>(
         let _ = system.remove(part);
         return Err(WholeFault::Aside(cause));
     }
-    rename_part(system, part, path)
+    match rename_part(system, part, path) {
+        Err(WholeFault::Link(cause)) => {
+            let _ = system.remove(old);
+            Err(WholeFault::Link(cause))
+        }
+        answer => answer,
+    }
 }
 
 /// Puts a file with these bytes in place of the one at a path, which is kept beside it with `.old` at its end.
@@ -205,6 +226,7 @@ pub(crate) fn replace<S: FileSystem + Folder>(
 {
     let part = beside(alloc, path, ".part")?;
     let old = beside(alloc, path, ".old")?;
+    check_file(system, path)?;
     write_part(system, &part, bytes)?;
     set_aside(system, &part, path, &old)
 }

@@ -5,6 +5,7 @@ use crate::line::{Answer, Line};
 use crate::property::{Property, PropertyType, Value};
 use crate::standard::{Category, ErrorLocus, ErrorReply, ResultCode};
 use crate::till::Till;
+use crate::transaction::end_transaction;
 use std::fmt;
 use std::marker::PhantomData;
 
@@ -83,9 +84,17 @@ impl<'till> Control<'till> {
         }
     }
 
-    /// Carries out a line on the control: what is behind `ok`.
+    /// Notes whether a transaction is to be rolled back before the next call, and returns whether one was.
+    pub(crate) fn set_rollback_due(&self, is_due: bool) -> bool {
+        self.till.set_rollback_due(self.place, is_due)
+    }
+
+    /// Carries out a line on the control: what is behind `ok`. A rollback that is due is first.
     pub(crate) fn ask(&self, call: &'static str, line: &Line) -> Result<Answer, Error> {
         self.check(call)?;
+        if self.set_rollback_due(false) {
+            end_transaction(self).map_err(|cause| Error::new(call, cause))?;
+        }
         self.till.ask(call, Some(self.category), line)
     }
 

@@ -689,8 +689,7 @@ impl<'till> LineDisplay<'till> {
     /// scrollText (Line Display): scrolls what the display shows, and leaves blanks behind it; the cursor stays.
     ///
     /// - `direction`: where the text moves.
-    /// - `units`: how far it moves. Range: 0 to Rows up or down, 0 to Columns left or right rows up or down, columns
-    ///   left or right.
+    /// - `units`: how far it moves. Range: 0 to Rows up or down, 0 to Columns left or right.
     ///
     /// # Errors
     ///
@@ -877,8 +876,8 @@ impl<'till> PosPrinter<'till> {
     /// - [`E_CLAIMED`](ResultCode::Claimed): another control has claimed the device.
     /// - [`E_NOTCLAIMED`](ResultCode::NotClaimed): no control has claimed the device.
     /// - [`E_DISABLED`](ResultCode::Disabled): the control is disabled.
-    /// - [`E_ILLEGAL`](ResultCode::Illegal): the station isn't the receipt, or the data has more than 4,096 bytes, or
-    ///   one or a number that a printer doesn't take.
+    /// - [`E_ILLEGAL`](ResultCode::Illegal): the station isn't the receipt; or the data has more than 4,096 bytes, a
+    ///   byte that isn't ASCII text, LF, CR or ESC, or a number out of range.
     /// - [`E_BUSY`](ResultCode::Busy): asyncMode is false, and earlier requests still wait.
     /// - [`E_FAILURE`](ResultCode::Failure): the printer didn't answer, or no OutputID is left.
     /// - [`E_OFFLINE`](ResultCode::Offline): the printer is off.
@@ -904,8 +903,8 @@ impl<'till> PosPrinter<'till> {
     /// - [`E_CLAIMED`](ResultCode::Claimed): another control has claimed the device.
     /// - [`E_NOTCLAIMED`](ResultCode::NotClaimed): no control has claimed the device.
     /// - [`E_DISABLED`](ResultCode::Disabled): the control is disabled.
-    /// - [`E_ILLEGAL`](ResultCode::Illegal): the station isn't the receipt, or the data has more than 4,096 bytes, or
-    ///   one or a number that a printer doesn't take.
+    /// - [`E_ILLEGAL`](ResultCode::Illegal): the station isn't the receipt; or the data has more than 4,096 bytes, a
+    ///   byte that isn't ASCII text, LF, CR or ESC, or a number out of range.
     /// - [`E_FAILURE`](ResultCode::Failure): the printer didn't answer.
     /// - [`E_OFFLINE`](ResultCode::Offline): the printer is off.
     /// - E_EXTENDED, [`EPTR_COVER_OPEN`](ExtendedCode::PrinterCoverOpen): the cover is open.
@@ -1122,11 +1121,12 @@ impl<'till> HardTotals<'till> {
     /// - [`E_CLOSED`](ResultCode::Closed): the control is closed.
     /// - [`E_CLAIMED`](ResultCode::Claimed): another control has claimed the device.
     /// - [`E_DISABLED`](ResultCode::Disabled): the control is disabled.
-    /// - [`E_FAILURE`](ResultCode::Failure): the totals are off, or no handle is left.
+    /// - [`E_FAILURE`](ResultCode::Failure): the totals are off.
     /// - [`E_ILLEGAL`](ResultCode::Illegal): the control is in a transaction, the name is bad, or the size is below 0.
     /// - [`E_EXISTS`](ResultCode::Exists): a file has the name.
     /// - E_EXTENDED, [`ETOT_NOROOM`](ExtendedCode::TotalsNoRoom): the size is above FreeData, or there are as many
     ///   files as there may be.
+    /// - [`E_FAILURE`](ResultCode::Failure): no handle is left, or the sequence of the totals has run out.
     /// - [`Cause::DiskFailed`]: the disk failed, and the change may be in the file or not.
     /// - [`Cause::NoMemory`]: there was no memory.
     pub fn create(&self, name: impl AsRef<[u8]>, size: u64, error_detection: bool) -> Result<u64, Error> {
@@ -1147,6 +1147,7 @@ impl<'till> HardTotals<'till> {
     /// - [`E_ILLEGAL`](ResultCode::Illegal): the control is in a transaction.
     /// - [`E_NOEXIST`](ResultCode::NoExist): no file has the name.
     /// - [`E_CLAIMED`](ResultCode::Claimed): another control has claimed the file.
+    /// - [`E_FAILURE`](ResultCode::Failure): the sequence of the totals has run out.
     /// - [`Cause::DiskFailed`]: the disk failed, and the change may be in the file or not.
     /// - [`Cause::NoMemory`]: there was no memory.
     pub fn delete(&self, name: impl AsRef<[u8]>) -> Result<(), Error> {
@@ -1194,8 +1195,8 @@ impl<'till> HardTotals<'till> {
     /// them.
     ///
     /// - `handle`: the file's handle.
-    /// - `offset`: where the bytes begin, counted from 0. Range: the bytes have to be within the file bytes.
-    /// - `count`: how many bytes are read. Range: the bytes have to be within the file bytes.
+    /// - `offset`: where the bytes begin, counted from 0. Range: the bytes have to be within the file.
+    /// - `count`: how many bytes are read. Range: the bytes have to be within the file.
     /// - returns `data`: the bytes.
     ///
     /// # Errors
@@ -1215,8 +1216,8 @@ impl<'till> HardTotals<'till> {
     /// write (Hard Totals): writes bytes to a file; in a transaction they are buffered until it is committed.
     ///
     /// - `handle`: the file's handle.
-    /// - `offset`: where the bytes begin, counted from 0. Range: the bytes have to be within the file bytes.
-    /// - `data`: the bytes that are written. Range: the bytes have to be within the file bytes.
+    /// - `offset`: where the bytes begin, counted from 0. Range: the bytes have to be within the file.
+    /// - `data`: the bytes that are written. Range: the bytes have to be within the file.
     ///
     /// # Errors
     ///
@@ -1227,6 +1228,7 @@ impl<'till> HardTotals<'till> {
     /// - [`E_ILLEGAL`](ResultCode::Illegal): no file has the handle, or the bytes aren't all within the file.
     /// - [`E_CLAIMED`](ResultCode::Claimed): another control has claimed the file.
     /// - E_EXTENDED, [`ETOT_NOROOM`](ExtendedCode::TotalsNoRoom): the transaction has no room for the write.
+    /// - [`E_FAILURE`](ResultCode::Failure): there is no transaction, and the sequence of the totals has run out.
     /// - [`Cause::DiskFailed`]: the disk failed, and the change may be in the file or not.
     /// - [`Cause::NoMemory`]: there was no memory.
     pub fn write(&self, handle: u64, offset: u64, data: impl AsRef<[u8]>) -> Result<(), Error> {
@@ -1249,6 +1251,7 @@ impl<'till> HardTotals<'till> {
     /// - [`E_ILLEGAL`](ResultCode::Illegal): no file has the handle, or the value isn't that of a byte.
     /// - [`E_CLAIMED`](ResultCode::Claimed): another control has claimed the file.
     /// - E_EXTENDED, [`ETOT_NOROOM`](ExtendedCode::TotalsNoRoom): the transaction has no room for the change.
+    /// - [`E_FAILURE`](ResultCode::Failure): there is no transaction, and the sequence of the totals has run out.
     /// - [`Cause::DiskFailed`]: the disk failed, and the change may be in the file or not.
     /// - [`Cause::NoMemory`]: there was no memory.
     pub fn set_all(&self, handle: u64, value: u64) -> Result<(), Error> {
@@ -1271,6 +1274,7 @@ impl<'till> HardTotals<'till> {
     ///   bad.
     /// - [`E_EXISTS`](ResultCode::Exists): a file has the name, be it this one.
     /// - [`E_CLAIMED`](ResultCode::Claimed): another control has claimed the file.
+    /// - [`E_FAILURE`](ResultCode::Failure): the sequence of the totals has run out.
     /// - [`Cause::DiskFailed`]: the disk failed, and the change may be in the file or not.
     /// - [`Cause::NoMemory`]: there was no memory.
     pub fn rename(&self, handle: u64, name: impl AsRef<[u8]>) -> Result<(), Error> {
@@ -1337,6 +1341,7 @@ impl<'till> HardTotals<'till> {
     /// - [`E_ILLEGAL`](ResultCode::Illegal): the control is in no transaction.
     /// - [`E_NOEXIST`](ResultCode::NoExist): a file of the transaction was deleted.
     /// - [`E_CLAIMED`](ResultCode::Claimed): another control has claimed a file of the transaction.
+    /// - [`E_FAILURE`](ResultCode::Failure): the sequence of the totals has run out; the transaction stays.
     /// - [`Cause::DiskFailed`]: the disk failed, and the change may be in the file or not.
     /// - [`Cause::NoMemory`]: there was no memory.
     pub fn commit_trans(&self) -> Result<(), Error> {

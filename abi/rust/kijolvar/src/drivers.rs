@@ -179,7 +179,8 @@ pub trait Driver: Send {
     }
 
     /// Returns what has happened at the device since the last call, as the words of an `input` line after the device's
-    /// name: `cover open`, `paper 0`. The till asks after an order that wasn't done, which it then answers accordingly.
+    /// name: `cover open`, `paper 0`. Each line of a string is an input, unless it is blank. The till asks after an
+    /// order that wasn't done, which it then answers accordingly.
     fn happened(&mut self, till: &mut DriverTill<'_>) -> Vec<String> {
         let _ = till;
         Vec::new()

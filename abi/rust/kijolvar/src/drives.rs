@@ -53,7 +53,9 @@ impl Drive {
         }
         // From a failed scan on a control ignores codes, so those that have come are told before what happened.
         let happened = if has_scans { Vec::new() } else { self.driver.happened(&mut DriverTill { inner }) };
-        let mut lines: Vec<String> = happened.iter().map(|words| line(words)).collect();
+        // Each line is an input, which the library answers. It answers no blank one.
+        let words = happened.iter().flat_map(|words| words.lines()).filter(|words| !words.trim().is_empty());
+        let mut lines: Vec<String> = words.map(line).collect();
         let on = line("power on");
         if self.is_on.replace(true) != Some(true) && !lines.contains(&on) {
             lines.insert(0, on);
@@ -219,9 +221,9 @@ impl Inner {
         }
     }
 
-    /// Does the errands, and makes a longer room, until the answer is in the till.
+    /// Does the errands, and makes a longer room, until the answer is in the till, or the front of one that is cut.
     fn settled(&mut self, mut code: u32, needed: &mut usize) -> Result<u32, Cause> {
-        while matches!(code, library::ERRANDS | library::SHORT) {
+        while matches!(code, library::ERRANDS | library::SHORT) || code == library::CUT && *needed > self.text.len() {
             if code == library::ERRANDS {
                 self.settle()?;
             } else {
@@ -240,37 +242,30 @@ impl Inner {
         let mut is_any_done = report.is_some();
         loop {
             code = self.settled(code, &mut needed)?;
-            let mut is_taken = true;
-            if code == library::NO_MEMORY {
-                // Lines are held. If they wait, the report wasn't taken. If this is said again, it was, and they go on.
+            let (has_memory, mut is_taken) = (code != library::NO_MEMORY, true);
+            if !has_memory {
+                // If no line is held, the answer is to an earlier call: none of this one was taken. If lines wait, the
+                // report wasn't taken. If this is said again, it was, and they go on.
                 code = self.answer(&mut needed);
                 code = self.settled(code, &mut needed)?;
                 tries += 1;
                 is_taken = code == library::NO_MEMORY;
-                if code == library::OK || tries == TRIES {
-                    self.drives.is_holding = code != library::OK;
-                    self.keep(report.filter(|_| !is_taken));
-                    return Err(if is_any_done || !parts.is_empty() { Cause::NoAnswer } else { Cause::NoMemory });
-                }
             }
-            match code {
-                library::OK | library::WAITS | library::NO_MEMORY => {}
-                library::CUT => return Err(Cause::NoAnswer),
-                _ => return Err(Cause::DiskFailed(None)),
+            let is_held = matches!(code, library::WAITS | library::NO_MEMORY);
+            if !is_held && !matches!(code, library::OK | library::CUT) {
+                return Err(Cause::DiskFailed(None));
             }
             if is_taken {
                 let told = if is_told { report.take() } else { None };
-                let mut answers = self.text[..needed].split_inclusive(|byte| *byte == b'\n');
-                // The answers of the inputs are first.
-                for (input, answer) in told.into_iter().flat_map(|told| told.inputs).zip(&mut answers) {
-                    if answer == b"memory\n" {
-                        self.drives.inputs.push_back(input);
-                    }
-                }
-                parts.extend(answers.flatten());
+                parts.extend(self.answers_behind(told, needed));
             }
-            if code == library::OK {
-                return Ok(parts);
+            if !has_memory && (!is_held || tries == TRIES) {
+                self.drives.is_holding = is_held;
+                self.keep(report.filter(|_| !is_taken));
+                return Err(if is_any_done || !parts.is_empty() { Cause::NoAnswer } else { Cause::NoMemory });
+            }
+            if !is_held {
+                return if code == library::OK { Ok(parts) } else { Err(Cause::NoAnswer) };
             }
             if code == library::NO_MEMORY {
                 report = Some(Report::not_done());
@@ -288,6 +283,17 @@ impl Inner {
             is_told = true;
             report = Some(made);
         }
+    }
+
+    /// The answers to lines, which are behind those to a report's inputs. From the first input on that found no memory,
+    /// or has no answer, they are kept, so that they are told again in their order.
+    fn answers_behind(&mut self, report: Option<Report>, needed: usize) -> Vec<u8> {
+        let mut inputs = report.map_or_else(Vec::new, |report| report.inputs);
+        let mut answers = self.text[..needed].split_inclusive(|byte| *byte == b'\n');
+        let of_inputs: Vec<_> = answers.by_ref().take(inputs.len()).collect();
+        let count = of_inputs.iter().take_while(|answer| answer.ends_with(b"\n") && **answer != b"memory\n").count();
+        self.drives.inputs.extend(inputs.drain(count..));
+        answers.flatten().copied().collect()
     }
 
     /// Keeps a report that wasn't taken. What was printed is reported the next time. Of an order that failed, what
@@ -342,13 +348,13 @@ impl Inner {
                 drive.orders += 1;
                 return Report { is_done: true, inputs: Vec::new() };
             }
+            let happened = drive.inputs(inner);
             // What the till had no memory for happened before.
             let front = format!("input {name} ");
-            let left = std::mem::take(&mut inner.drives.inputs);
             let (mut inputs, others): (Vec<String>, Vec<String>) =
-                left.into_iter().partition(|line| line.starts_with(&front));
+                inner.drives.inputs.drain(..).partition(|line| line.starts_with(&front));
             inner.drives.inputs = others.into();
-            inputs.extend(drive.inputs(inner));
+            inputs.extend(happened);
             Report { is_done: false, inputs }
         });
         self.drives.is_holding = false;
@@ -520,6 +526,9 @@ impl Inner {
         let drive = &mut self.drives.list[place];
         (drive.is_on, drive.orders, drive.refused_at) = (None, 0, None);
         drive.driver.attached();
+        // What the peripheral before has said isn't this one's.
+        let front = format!("input {name} ");
+        self.drives.inputs.retain(|line| !line.starts_with(&front));
         self.hand_in_behind();
     }
 

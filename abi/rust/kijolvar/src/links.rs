@@ -13,6 +13,8 @@ const REFRESH: &[u8] = b"\x1da\xff";
 /// How many bytes ask for an acknowledgement: GS ( H, or GS r.
 const JOB_SIZE: usize = 11;
 const QUESTION_SIZE: usize = 3;
+/// How many bytes an automatic status has.
+const STATUS_SIZE: usize = 4;
 /// How much goes out at once, how many pieces of an order may be due, and how many bytes of no use are kept.
 const ENOUGH: usize = 2048;
 const DUE_OF_JOB: usize = 32;
@@ -183,6 +185,8 @@ pub(crate) struct Link {
     heard: Vec<Told>,
     hearing: Signs,
     rounds: u32,
+    /// Of a printer that is asked: how many bytes of an automatic status that has begun still come.
+    status_left: usize,
 }
 
 /// Whether a time is over, which begins at an instant; it is if that never was.
@@ -240,6 +244,7 @@ impl Link {
             heard: Vec::new(),
             hearing: Signs::default(),
             rounds: 0,
+            status_left: 0,
         }
     }
 
@@ -265,8 +270,12 @@ impl Link {
         !self.told.is_empty() && signs.is_offline && has_cause
     }
 
+    /// Puts what begins a connection, unless it waits already.
     fn put_start(&mut self) {
-        self.control.extend_from_slice(if self.is_asked { ASKED_START } else { START });
+        let start = if self.is_asked { ASKED_START } else { START };
+        if !self.control.ends_with(start) {
+            self.control.extend_from_slice(start);
+        }
     }
 
     fn put_refresh(&mut self) {
@@ -532,10 +541,45 @@ impl Link {
         self.devices.iter().find_map(|(device, settings)| till.reply(device, settings, asked, bytes).ok())
     }
 
-    /// Reads a byte as the answer to the question that is out, or as an acknowledgement.
+    /// A printer that is asked has sent an automatic status, although it was told to send none: it was reset. What is
+    /// due may not be printed, it is told again, and questions from before may have no answer.
+    fn take_status(&mut self) {
+        if !self.due.is_empty() {
+            self.lose_held();
+        }
+        (self.asked_at, self.heard_at) = (None, Some(Instant::now()));
+        self.come_back();
+        (self.is_late, self.questioned_at) = (self.unanswered > 0, Some(Instant::now()));
+    }
+
+    /// Whether a byte is one of an automatic status. That counts once it is whole.
+    fn is_of_status(&mut self, byte: u8) -> bool {
+        let (is_first, is_next) = (byte & 0x93 == 0x10, self.status_left > 0 && byte & 0x90 == 0);
+        self.status_left = match (is_first, is_next) {
+            (true, _) => STATUS_SIZE - 1,
+            (_, true) => self.status_left - 1,
+            _ => 0,
+        };
+        if is_next && self.status_left == 0 {
+            self.take_status();
+        }
+        is_first || is_next
+    }
+
+    /// Whether a piece is due, and the first one has gone out whole, with its question. Nothing acknowledges it before.
+    fn is_first_sent(&self) -> bool {
+        let sent = self.put_out - (self.out.len() - self.out_sent) as u64;
+        let size = |parcel: &Parcel| (parcel.to - parcel.from + self.end.len()) as u64;
+        self.due.front().is_some_and(|first| first.place + size(first) <= sent)
+    }
+
+    /// Reads a byte as one of an automatic status, as the answer to the question that is out, or as an acknowledgement.
     fn take_byte(&mut self, till: &mut DriverTill<'_>, byte: u8) {
+        if self.is_of_status(byte) {
+            return;
+        }
         let question = (self.unanswered > 0).then_some(QUESTIONS[self.question]);
-        let due = (!self.due.is_empty()).then_some(Asked::PaperInOrder);
+        let due = self.is_first_sent().then_some(Asked::PaperInOrder);
         for asked in [question, due].into_iter().flatten() {
             let Some(reply) = self.reply(till, asked, &[byte]) else { return };
             if let Some(line) = reply.lines.last() {
@@ -732,6 +776,7 @@ impl Link {
         self.told.clear();
         (self.signs, self.hearing) = (Signs::default(), Signs::default());
         (self.unanswered, self.is_late, self.questioned_at) = (0, false, None);
+        self.status_left = 0;
         if self.is_asked {
             // Acknowledgements without a number can't be told from those of another connection.
             self.lose_due();

@@ -107,20 +107,22 @@ fn category_of(word: &str) -> Option<Category> {
     [CashDrawer, Scanner, LineDisplay, PosPrinter, HardTotals].into_iter().find(|category| category.word() == word)
 }
 
-/// A device by its line, `NAME CATEGORY KEY NUMBER ..`.
+/// A device by its line, `NAME CATEGORY KEY NUMBER ..`, which has the numbers of the category.
 fn read_device(line: &str) -> Option<ProfileDevice> {
-    let words: Vec<&str> = line.split(' ').collect();
-    let number = |key: &str| {
-        words.iter().position(|word| *word == key).and_then(|place| words.get(place + 1)?.parse().ok()).unwrap_or(0)
-    };
-    Some(ProfileDevice {
-        name: words.first()?.to_string(),
-        category: category_of(words.get(1)?)?,
-        rows: number("rows"),
-        columns: number("columns"),
-        chars: number("chars"),
-        near: number("near"),
-    })
+    let mut words = line.split(' ');
+    let (name, category) = (words.next()?.to_string(), category_of(words.next()?)?);
+    let mut device = ProfileDevice { name, category, rows: 0, columns: 0, chars: 0, near: 0 };
+    match (category, &words.collect::<Vec<_>>()[..]) {
+        (Category::LineDisplay, ["rows", rows, "columns", columns]) => {
+            (device.rows, device.columns) = (rows.parse().ok()?, columns.parse().ok()?);
+        }
+        (Category::PosPrinter, ["chars", chars, "near", near]) => {
+            (device.chars, device.near) = (chars.parse().ok()?, near.parse().ok()?);
+        }
+        (Category::CashDrawer | Category::Scanner | Category::HardTotals, []) => {}
+        _ => return None,
+    }
+    Some(device)
 }
 
 /// Returns the devices of a profile, in its order.
@@ -219,4 +221,22 @@ pub fn migrate(path: impl AsRef<Path>) -> Result<(), Error> {
     let bytes = Inner::bytes_of(&file).map_err(failed)?;
     let mut till = Inner::over_file("", file, bytes, kijolvar_migrate_file).map_err(failed)?;
     till.settle().map_err(|cause| failed(cause.of_file()))
+}
+
+#[cfg(test)]
+mod tests {
+    use super::read_device;
+
+    #[test]
+    fn a_device_has_the_numbers_of_its_category() {
+        let near = |line: &str| read_device(line).map(|device| device.near);
+        assert_eq!((near("r1 POSPrinter chars 8 near 2"), near("d1 CashDrawer")), (Some(2), Some(0)));
+        for rest in ["", " chars 8", " chars 8 near x", " chars 8 rows 2", " chars 8 near 2 rows 2", " near 2 chars 8"]
+        {
+            assert_eq!(near(&format!("r1 POSPrinter{rest}")), None, "{rest}");
+        }
+        for line in ["", "r1", "r1 Till", "d1 CashDrawer near 2"] {
+            assert_eq!(near(line), None, "{line}");
+        }
+    }
 }

@@ -39,6 +39,8 @@ struct Entry {
     device: Option<String>,
     /// Whether it may be handed out again.
     is_free: bool,
+    /// Whether a transaction of it is to be rolled back, for which there was no memory.
+    is_rollback_due: bool,
     /// How often it was given back.
     turn: u64,
 }
@@ -250,8 +252,9 @@ impl Inner {
                 Err(cause) => return Err(cause),
             }
             let number = self.number_of(&made)?;
-            let (device, is_free) = (None, false);
-            self.controls.push(Entry { name: made, is_chosen, category, number, device, is_free, turn: 0 });
+            let (device, is_free, is_rollback_due, turn) = (None, false, false, 0);
+            let entry = Entry { name: made, is_chosen, category, number, device, is_free, is_rollback_due, turn };
+            self.controls.push(entry);
             return Ok(self.controls.len() - 1);
         }
     }
@@ -532,10 +535,17 @@ impl Till {
         self.inner.borrow().controls[place].turn == turn
     }
 
+    /// Notes whether a control's transaction is to be rolled back, and returns whether one was.
+    pub(crate) fn set_rollback_due(&self, place: usize, is_due: bool) -> bool {
+        std::mem::replace(&mut self.inner.borrow_mut().controls[place].is_rollback_due, is_due)
+    }
+
     /// Closes a control, and hands it out again from then on.
     pub(crate) fn give_back(&self, place: usize) {
         let mut inner = self.inner.borrow_mut();
         inner.controls[place].turn += 1;
+        // Closing it ends its transaction.
+        inner.controls[place].is_rollback_due = false;
         inner.unclosed.push(place);
         inner.close_given_back();
     }
@@ -815,7 +825,8 @@ impl Till {
     /// Output that was refused is tried again 100 ms later at the earliest, each time with an ErrorEvent.
     ///
     /// If a call fails, make it again: it keeps the inputs and the scans that it didn't get to, and those for which
-    /// there was no memory. An input without an answer ([`Cause::NoAnswer`]) may be told twice.
+    /// there was no memory. An input without an answer ([`Cause::NoAnswer`]) may be told twice. So may one behind an
+    /// input that found no memory.
     ///
     /// # Errors
     ///

@@ -1,5 +1,5 @@
 //! What a till does: files of totals, errors, replies, keys, controls that are handed out again, threads, and drivers.
-use kijolvar::standard::{Category, ScrollDirection, State, PTR_CP_FULLCUT};
+use kijolvar::standard::{Category, DrawerStatus, ScrollDirection, State, PTR_CP_FULLCUT};
 use kijolvar::standard::{DisplayAttribute, ErrorLocus, ErrorReply, ExtendedCode, PrinterStation, ResultCode};
 use kijolvar::standard::{PowerNotify, PowerStatus};
 use kijolvar::{check, files, migrate, StatusUpdate, Till, Totals, Value, Work, BUILT_PROFILE};
@@ -667,6 +667,78 @@ fn a_transaction_ends_in_any_case() {
     let begun = totals.transaction(|_| -> Result<(), Error> { panic!("it isn't called") }).unwrap_err();
     assert_eq!((begun.call(), begun.code()), ("beginTrans", Some(ResultCode::Illegal)));
     totals.rollback().unwrap();
+    a_transaction_ends_whatever_becomes_of_its_control();
+    a_transaction_ends_once_there_is_memory();
+}
+
+fn a_transaction_ends_whatever_becomes_of_its_control() {
+    /// What work does with its control, and with another one.
+    type Deed = fn(&HardTotals<'_>, &HardTotals<'_>) -> Result<(), Error>;
+    // What a commit is then, and whether the control is enabled still.
+    let deeds: [(Deed, ResultCode, bool); 5] = [
+        (|totals, _| totals.set_device_enabled(false), ResultCode::Disabled, false),
+        (|_, other| other.claim(None), ResultCode::Claimed, true),
+        (|totals, other| other.claim(None).and_then(|()| totals.set_device_enabled(false)), ResultCode::Claimed, false),
+        (|totals, _| totals.close(), ResultCode::Closed, false),
+        (|totals, _| totals.close().and_then(|()| totals.open("t1")), ResultCode::Disabled, false),
+    ];
+    let till = till();
+    let totals = till.hard_totals("t1").unwrap().enabled().unwrap();
+    let other = till.hard_totals("t1").unwrap();
+    let day = totals.create("DAY", 1, false).unwrap();
+    for (deed, code, is_enabled) in deeds {
+        for ending in ["commit", "error", "panic"] {
+            let work = |totals: &HardTotals<'_>| {
+                totals.write(day, 0, [1])?;
+                deed(totals, &other)?;
+                match ending {
+                    "commit" => Ok(()),
+                    "error" => Err(Stop::OfItsOwn),
+                    _ => panic!("on purpose"),
+                }
+            };
+            match catch_unwind(AssertUnwindSafe(|| totals.transaction(work))) {
+                Ok(Err(Stop::Refused(error))) => {
+                    assert_eq!((ending, error.call(), error.code()), ("commit", "commitTrans", Some(code)));
+                }
+                Ok(Err(Stop::OfItsOwn)) => assert_eq!(ending, "error"),
+                ended => assert!(ending == "panic" && ended.is_err()),
+            }
+            assert_eq!(totals.device_enabled().unwrap_or(false), is_enabled);
+            let _ = (other.release(), totals.open("t1"));
+            totals.set_device_enabled(true).unwrap();
+            assert!(!totals.transaction_in_progress().unwrap(), "{code} {ending}");
+            assert_eq!(totals.read(day, 0, 1).unwrap(), [0]);
+        }
+    }
+    totals.write(day, 0, [2]).unwrap();
+    assert_eq!(totals.read(day, 0, 1).unwrap(), [2]);
+}
+
+fn a_transaction_ends_once_there_is_memory() {
+    let till = till();
+    // Without memory, lines of a till with a driver aren't carried out.
+    till.drive("r1", Paper).unwrap();
+    let totals = till.hard_totals("t1").unwrap().enabled().unwrap();
+    let day = totals.create("DAY", 1, false).unwrap();
+    let writes = |number: u8| {
+        let unended = totals.transaction(|totals| {
+            totals.write(day, 0, [number])?;
+            system::limit_memory(0, u32::MAX);
+            totals.write(day, 0, [number])
+        });
+        let refused = totals.write(day, 0, [number]);
+        system::give_memory();
+        for error in [unended.unwrap_err(), refused.unwrap_err()] {
+            assert!(error.call() == "write" && matches!(error.cause(), Cause::NoMemory), "{error}");
+        }
+    };
+    writes(1);
+    totals.write(day, 0, [2]).unwrap();
+    assert_eq!((totals.read(day, 0, 1).unwrap(), totals.transaction_in_progress().unwrap()), (vec![2], false));
+    writes(3);
+    totals.transaction(|totals| totals.write(day, 0, [4])).unwrap();
+    assert_eq!(totals.read(day, 0, 1).unwrap(), [4]);
 }
 
 fn an_actor_may_get_no_thread() {
@@ -688,6 +760,18 @@ fn an_actor_does_not_wait_for_itself() {
     drop(actor);
     thread.join().unwrap();
     an_actor_may_get_no_thread();
+}
+
+#[test]
+fn a_device_may_have_the_name_of_a_key() {
+    let device = |name: &str, rest: &str| format!("[[device]]\nname = \"{name}\"\ncategory = {rest}\n");
+    for (display, printer) in [("rows", "chars"), ("columns", "near"), ("LineDisplay", "POSPrinter")] {
+        let profile = device(display, "\"LineDisplay\"\nrows = 2\ncolumns = 20")
+            + &device(printer, "\"POSPrinter\"\nchars = 42\nlines = 500\nnear = 9");
+        let found = kijolvar::devices(&profile).unwrap();
+        assert_eq!((found[0].name.as_str(), found[0].rows, found[0].columns), (display, 2, 20));
+        assert_eq!((found[1].name.as_str(), found[1].chars, found[1].near), (printer, 42, 9));
+    }
 }
 
 #[test]
@@ -893,6 +977,110 @@ fn a_driver_may_be_chosen_by_the_program() {
     assert_eq!(count.load(Ordering::Relaxed), 2);
 }
 
+/// A device that does no order, and of which words are said once it was given one.
+struct Failing {
+    category: Category,
+    words: Vec<String>,
+    has_order: bool,
+    /// How many bytes the library gets at a time from an order on, and how often more are refused.
+    limit: (usize, u32),
+}
+
+impl Failing {
+    fn new(category: Category, words: &[&str], limit: (usize, u32)) -> Failing {
+        Failing { category, words: words.iter().map(|words| words.to_string()).collect(), has_order: false, limit }
+    }
+}
+
+impl Driver for Failing {
+    fn category(&self) -> Category {
+        self.category
+    }
+
+    fn carry_out(&mut self, _: &mut DriverTill<'_>, _: &Order) -> bool {
+        system::limit_memory(self.limit.0, self.limit.1);
+        self.has_order = true;
+        false
+    }
+
+    fn happened(&mut self, _: &mut DriverTill<'_>) -> Vec<String> {
+        if self.has_order {
+            std::mem::take(&mut self.words)
+        } else {
+            Vec::new()
+        }
+    }
+}
+
+#[test]
+fn what_is_not_taken_is_told_again_in_its_order() {
+    let words = ["open", "closed"].repeat(300);
+    // The longest answer before it, and whether there is memory for events.
+    for (answer, has_events) in [("", true), ("show p1\n", true), ("show p1\n", false)] {
+        let till = till();
+        let drawer = till.cash_drawer("d1").unwrap().enabled().unwrap();
+        for is_open in [true, false].repeat(if has_events { 300 } else { 0 }) {
+            till.input_drawer("d1", is_open).unwrap();
+        }
+        assert!(drawer.events().all(|event| event.is_ok()));
+        till.carry_out(answer.repeat(20)).unwrap();
+        till.drive("d1", Failing::new(Category::CashDrawer, &words, (0, u32::MAX))).unwrap();
+        let lost = drawer.open_drawer().unwrap_err();
+        system::give_memory();
+        assert!(matches!(lost.cause(), Cause::NoAnswer), "{lost}");
+        assert!(till.run_devices(Duration::ZERO).unwrap());
+        let events: Vec<_> = drawer.events().collect::<Result<_, _>>().unwrap();
+        let status = |is_open| if is_open { DrawerStatus::Open } else { DrawerStatus::Closed };
+        let wanted = [true, false].repeat(300).into_iter().map(status).map(StatusUpdate::Drawer);
+        assert_eq!(events, wanted.map(Event::StatusUpdate).collect::<Vec<_>>());
+        assert!(!till.run_devices(Duration::ZERO).unwrap());
+    }
+    what_comes_behind_want_of_memory_is_told_again_too();
+    a_call_that_is_not_begun_has_no_part_in_an_answer();
+}
+
+fn what_comes_behind_want_of_memory_is_told_again_too() {
+    // With some of these events there is no room for one more.
+    for count in 0..9 {
+        let till = till();
+        let drawer = till.cash_drawer("d1").unwrap().enabled().unwrap();
+        (0..count).for_each(|place| till.input_drawer("d1", place % 2 == 0).unwrap());
+        till.drive("d1", Failing::new(Category::CashDrawer, &["open", "closed", "open"], (0, 1))).unwrap();
+        assert!(drawer.open_drawer().is_err());
+        system::give_memory();
+        till.run_devices(Duration::ZERO).unwrap();
+        assert!(till.show_drawer("d1").unwrap(), "{count}");
+    }
+}
+
+/// The answer before it was cut.
+fn a_call_that_is_not_begun_has_no_part_in_an_answer() {
+    let till = till();
+    till.input_paper("r1", 1000).unwrap();
+    let printer = till.pos_printer("r1").unwrap().enabled().unwrap();
+    printer.print_normal(PrinterStation::Receipt, "a\n".repeat(50)).unwrap();
+    till.drive("d1", Wrong).unwrap();
+    system::limit_memory(5000, u32::MAX);
+    let cut = till.carry_out("show r1\n".repeat(100)).unwrap_err();
+    let refused = system::without_memory(|| till.show("d1").unwrap_err());
+    assert!(matches!((cut.cause(), refused.cause()), (Cause::NoAnswer, Cause::NoMemory)), "{cut} {refused}");
+}
+
+#[test]
+fn what_a_driver_says_may_have_line_ends() {
+    for has_order in [false, true] {
+        let till = till();
+        let printer = till.pos_printer("r1").unwrap().enabled().unwrap();
+        let words = ["cover open\n", "", "\n", " ", "cover closed\ncover open\r\n\npaper 3"];
+        let driver = Failing::new(Category::PosPrinter, &words, (0, 0));
+        till.drive("r1", Failing { has_order: !has_order, ..driver }).unwrap();
+        let failed = printer.print_normal(PrinterStation::Receipt, "a\n").unwrap_err();
+        assert_eq!(failed.extended(), Some(ExtendedCode::PrinterCoverOpen), "{failed}");
+        assert_eq!(till.show_printer("r1").unwrap().lines, 3);
+        assert!(!till.run_devices(Duration::ZERO).unwrap());
+    }
+}
+
 #[test]
 fn a_device_that_was_off_is_on_with_its_driver() {
     let till = till();
@@ -946,6 +1134,33 @@ fn a_driver_that_panics_stays() {
     for _ in 0..2 {
         assert!(catch_unwind(AssertUnwindSafe(|| till.run_devices(Duration::ZERO))).is_err());
     }
+    assert!(till.run_devices(Duration::ZERO).unwrap());
+    assert!(till.show_drawer("d1").unwrap());
+    what_was_said_outlasts_a_panic();
+}
+
+/// A drawer whose driver says what is left of these at each look, and panics at the last.
+struct Spoken(Vec<&'static str>);
+
+impl Driver for Spoken {
+    fn category(&self) -> Category {
+        Category::CashDrawer
+    }
+
+    fn happened(&mut self, _: &mut DriverTill<'_>) -> Vec<String> {
+        let words = self.0.pop().unwrap_or_default();
+        assert!(words.is_empty() || !self.0.is_empty(), "on purpose");
+        vec![words.to_string()]
+    }
+}
+
+fn what_was_said_outlasts_a_panic() {
+    let till = till();
+    let drawer = till.cash_drawer("d1").unwrap().enabled().unwrap();
+    till.drive("d1", Spoken(vec!["panic", "open", ""])).unwrap();
+    let kept = system::without_memory(|| till.run_devices(Duration::ZERO).unwrap_err());
+    assert!(matches!(kept.cause(), Cause::NoMemory));
+    assert!(catch_unwind(AssertUnwindSafe(|| drawer.open_drawer())).is_err());
     assert!(till.run_devices(Duration::ZERO).unwrap());
     assert!(till.show_drawer("d1").unwrap());
 }
@@ -1367,7 +1582,7 @@ mod system {
         static HELD: Cell<c_int> = const { Cell::new(0) };
         static SYNCS: Cell<u32> = const { Cell::new(0) };
         static SYNC_FAULT: Cell<c_int> = const { Cell::new(0) };
-        static HAS_MEMORY: Cell<bool> = const { Cell::new(true) };
+        static LIMIT: Cell<(usize, u32)> = const { Cell::new((0, 0)) };
         static HAS_THREADS: Cell<bool> = const { Cell::new(true) };
     }
 
@@ -1543,8 +1758,11 @@ mod system {
         at: *mut c_void,
     }
 
-    fn tried(find: impl FnOnce() -> *mut c_void) -> Tried {
-        let found = if HAS_MEMORY.get() { find() } else { std::ptr::null_mut() };
+    fn tried(size: usize, find: impl FnOnce(usize) -> *mut c_void) -> Tried {
+        let (most, count) = LIMIT.get();
+        let is_refused = size > most && count > 0;
+        LIMIT.set((most, count - u32::from(is_refused)));
+        let found = if is_refused { std::ptr::null_mut() } else { find(size) };
         let is_there = !found.is_null();
         Tried { is_there, at: if is_there { found } else { std::ptr::dangling_mut::<u64>().cast() } }
     }
@@ -1557,7 +1775,7 @@ mod system {
     #[no_mangle]
     pub unsafe extern "C" fn rattle_alloc(size: usize, align: usize) -> Tried {
         // SAFETY: the size isn't 0.
-        tried(|| unsafe { malloc(if size != 0 { size } else { align }) })
+        tried(if size != 0 { size } else { align }, |size| unsafe { malloc(size) })
     }
 
     /// Allocates again for the library.
@@ -1568,7 +1786,7 @@ mod system {
     #[no_mangle]
     pub unsafe extern "C" fn rattle_realloc(at: *mut c_void, _kept: usize, size: usize, align: usize) -> Tried {
         // SAFETY: the library has the place from here.
-        tried(|| unsafe { realloc(at, if size != 0 { size } else { align }) })
+        tried(if size != 0 { size } else { align }, |size| unsafe { realloc(at, size) })
     }
 
     /// Frees for the library.
@@ -1582,11 +1800,21 @@ mod system {
         unsafe { free(at) }
     }
 
+    /// Gives the library at most so many bytes at a time from now on, until it was refused more so often.
+    pub fn limit_memory(most: usize, count: u32) {
+        LIMIT.set((most, count));
+    }
+
+    /// Gives the library all memory from now on.
+    pub fn give_memory() {
+        limit_memory(0, 0);
+    }
+
     /// Does something while the library gets no memory.
     pub fn without_memory<R>(does: impl FnOnce() -> R) -> R {
-        HAS_MEMORY.set(false);
+        limit_memory(0, u32::MAX);
         let found = does();
-        HAS_MEMORY.set(true);
+        give_memory();
         found
     }
 
