@@ -27,15 +27,15 @@ impl SystemFile {
         }
     }
 
-    /// Returns whether the system told this of this file, and not of another one. It is no call that is noted, since it
-    /// looks at no byte.
+    /// Returns whether this is the file that `found` describes: both have one number on one device. It isn't noted,
+    /// since it looks at no byte.
     ///
     /// # Errors
     ///
-    /// The system's cause if it tells nothing of the file.
-    pub fn is_told_of(&self, named: &Metadata) -> io::Result<bool> {
+    /// The system's cause if it tells nothing of this file.
+    pub fn is_described_by(&self, found: &Metadata) -> io::Result<bool> {
         let opened = self.file.metadata()?;
-        Ok(opened.dev() == named.dev() && opened.ino() == named.ino())
+        Ok(opened.dev() == found.dev() && opened.ino() == found.ino())
     }
 }
 

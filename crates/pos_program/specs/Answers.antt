@@ -1,5 +1,5 @@
 -- What is made of answers.
-use Rattle.std.specs.Prelude.{◌≡◌, ℕ, List, Result, Ok, Err, Vec}
+use Rattle.std.specs.Prelude.{◌≡◌, ℕ, List, Result, Ok, Err, Vec, Bool, true, false}
 
 -- what reading bytes answered, with the bytes as a list
 abbrev pub bytes_of : {A E : Type 0} → Result (Vec ℕ A) E → Result (List ℕ) E
@@ -16,3 +16,10 @@ Passes Tells (Err cause) (Err why) = Tells cause why
 abbrev pub AnswersFor : {A B E : Type 0} → (A → Result B E → Type 0) → Result A E → Result B E → Type 0
 AnswersFor Answers (Ok opened) result = Answers opened result
 AnswersFor Answers (Err why) result = result ≡ Err why
+
+-- what is answered to a question that has to be yes: nothing then, if it isn't this, and for a fault what tells of it
+abbrev pub HasToBe : {C E : Type 0} → E → (C → E → Type 0) → Result Bool C → Result (Unit {0}) E → Type 0
+HasToBe denied Tells (Ok true) result = result ≡ Ok tt
+HasToBe denied Tells (Ok false) result = result ≡ Err denied
+HasToBe denied Tells (Err cause) (Ok u) = ⊥
+HasToBe denied Tells (Err cause) (Err why) = Tells cause why

@@ -1,6 +1,6 @@
 -- How the disk of the totals in a file is opened (docs/reference/console.md, "The program").
 use Rattle.std.specs.Prelude.{◌≡◌, ◌∷◌, [], ℕ, List, Bool, true, false, max, min, nat_lt, Option, Some, Result, Ok}
-use Rattle.std.specs.Prelude.{Err, length}
+use Rattle.std.specs.Prelude.{length}
 use Rattle.std.specs.Bool.{MatchBool}
 use Rattle.std.specs.Fs.{new_options, with_create, with_read, with_write}
 use Rattle.std.specs.Path.{cur_dir, path_parent}
@@ -18,7 +18,7 @@ use Rattle.pos_mirror.specs.Calls.{Opens as MirrorOpens}
 use Rattle.pos_mirror.specs.Mirror.{Mirror, mirror_of}
 use Rattle.pos_mirror.specs.declared.mirror.MirrorFault.{MirrorFault}
 use Rattle.pos_mirror.specs.declared.mirror.MirrorFault.TheVariants as mirror
-use Rattle.pos_program.specs.Answers.{AnswersFor, Passes}
+use Rattle.pos_program.specs.Answers.{AnswersFor, HasToBe, Passes}
 use Rattle.pos_program.specs.Faults.{ReportsOpen, ReportsUnreadable}
 use Rattle.pos_program.specs.Locks.{ReportsUnlocked}
 use Rattle.pos_program.specs.declared.file_fault.FileFault.{FileFault}
@@ -103,17 +103,10 @@ MakesLong system calls them path old result =
     × AnswersFor (λ u. LengthensDisk calls old) synced result)
     (result ≡ Ok old)
 
--- what the answer comes to whether the file at a path is this open one: if it isn't, another program uses the path
-abbrev pub IsNamed : Result Bool Error → Result (Unit {0}) FileFault → Type 0
-IsNamed (Ok true) result = result ≡ Ok tt
-IsNamed (Ok false) result = result ≡ Err file.InUse
-IsNamed (Err cause) (Err why) = ReportsOpen cause why
-IsNamed (Err cause) (Ok u) = ⊥
-
--- what checking comes to that it is
+-- what checking comes to that the file at a path is this open one: if it isn't, another program uses the path
 abbrev pub ChecksName : {S F : Type 0} → SystemGhosts S F → S → F → List ℕ → Result (Unit {0}) FileFault → Type 0
 ChecksName system them opened path result =
-    (answer : Result Bool Error) × system.names them opened path answer × IsNamed answer result
+    (answer : Result Bool Error) × system.names them opened path answer × HasToBe file.InUse ReportsOpen answer result
 
 -- a file is opened to be read and written, locked for this program alone, and still the one at its path
 abbrev pub LocksTotals : {S F : Type 0} → SystemGhosts S F → (F → List Call) → S → Bool → List ℕ

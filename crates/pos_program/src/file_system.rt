@@ -77,7 +77,7 @@ impl<R: Files<File = File> + AllocGlobal> FileSystem for R {
 
     fn is_at(&self, file: &SystemFile, path: &str) -> io::Result<bool> {
         match fs::metadata(self, path) {
-            Ok(named) => file.is_told_of(&named),
+            Ok(found) => file.is_described_by(&found),
             Err(cause) if cause.kind() == io::ErrorKind::NotFound => Ok(false),
             Err(cause) => Err(cause),
         }

@@ -6,7 +6,7 @@ use Rattle.std.specs.declared.fs.options.OpenOptions.{OpenOptions}
 use Rattle.std.specs.declared.io.Error.{Error}
 use Rattle.pos_file.specs.Calls.{Call, is_whole, sync_call, write_call}
 use Rattle.pos_file.specs.Disks.{Asks}
-use Rattle.pos_program.specs.Answers.{Passes}
+use Rattle.pos_program.specs.Answers.{HasToBe, Passes}
 use Rattle.pos_program.specs.TotalsDisks.{SyncsFolder}
 use Rattle.pos_program.specs.declared.file_fault.FileFault.{FileFault}
 use Rattle.pos_program.specs.declared.file_system.FileSystem.{Ghosts as SystemGhosts}
@@ -86,16 +86,11 @@ RenamesPart system folder them part path result =
     (renamed : Result (Unit {0}) Error) × folder.renames them part path renamed
     × Follows fault.Link (Settles system them path result) renamed result
 
--- what the answer comes to whether a name is free or a file's
-abbrev pub MayTake : Result Bool Error → Result (Unit {0}) WholeFault → Type 0
-MayTake (Ok true) result = result ≡ Ok tt
-MayTake (Ok false) result = result ≡ Err fault.NoFile
-MayTake (Err cause) result = result ≡ Err (fault.Link cause)
-
--- what checking comes to that it is
+-- what checking comes to that a name is free or a file's
 abbrev pub ChecksFile : {S : Type 0} → FolderGhosts S → S → List ℕ → Result (Unit {0}) WholeFault → Type 0
 ChecksFile folder them path result =
-    (answer : Result Bool Error) × folder.yields them path answer × MayTake answer result
+    (answer : Result Bool Error) × folder.admits them path answer
+    × HasToBe fault.NoFile (λ cause why. why ≡ fault.Link cause) answer result
 
 -- What making a file with these bytes at a path comes to, in place of one that may be there: want of memory; or its
 -- name may be taken, they are written to the file beside it, and after that it gets its name.

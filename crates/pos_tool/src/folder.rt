@@ -19,7 +19,7 @@ pub trait Folder {
     ghost removes: { Self → List ℕ → Result (Unit {0}) Error → Type 0 } = { λ _ _ _. ⊤ };
 
     /// What asking whether a name is free or a file's may answer.
-    ghost yields: { Self → List ℕ → Result Bool Error → Type 0 } = { λ _ _ _. ⊤ };
+    ghost admits: { Self → List ℕ → Result Bool Error → Type 0 } = { λ _ _ _. ⊤ };
 
     /// What listing a folder may answer: the names in it, or none if the path is no folder's.
     ghost lists: { Self → List ℕ → Result (Option (List (List ℕ))) Error → Type 0 } = { λ _ _ _. ⊤ };
@@ -54,7 +54,7 @@ pub trait Folder {
     ///
     /// What the system says, if it can't tell.
     fn is_free_or_file(&self, path: &str) -> io::Result<bool>
-        ensures { yields self.now path.now result };
+        ensures { admits self.now path.now result };
 
     /// Returns the names in the folder at a path, in any order; none if the path is no folder's.
     ///
