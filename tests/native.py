@@ -442,7 +442,9 @@ def try_silent_behind_cover():
 
 def try_silence_that_nobody_heard():
     """A printer whose line holds bytes back has said nothing for 2 seconds, and was asked late, since nobody has looked
-    often. It has time to answer before what is due counts as lost: no line is printed twice."""
+    often. It has time to answer before what is due counts as lost: no line is printed twice. It is asked once it was
+    silent for a second, and nobody may look for a second. So each look is a quarter of a second away from both, which
+    is more than a machine may stand still during a test."""
     with contextlib.ExitStack() as stack:
         shop = Shop(stack, "holds", timeout=AMPLE)
         device = shop.device
@@ -452,7 +454,7 @@ def try_silence_that_nobody_heard():
             device.cover(False)
             device.hang()
         told("it is closed", True, shop.settle())
-        for pause in (0.9, 0.9, 0.3):
+        for pause in (0.75, 0.75, 0.6):
             time.sleep(pause)
             shop.host.ask("run 0")
         device.hang(False)
