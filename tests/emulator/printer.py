@@ -50,7 +50,7 @@ class Printer(Device):
         #: Whether it knows neither automatic status nor the end of a job.
         self.is_simple = is_simple
         self.columns, self.near, self.lines_left = columns, near, lines
-        self.is_cover_open = self.is_drawer_open = self.is_drawer_stuck = self.is_broken = False
+        self.is_cover_open = self.is_drawer_open = self.is_drawer_stuck = self.is_broken = self.is_feeding = False
         self.paper, self.pulses, self.doubts, self.runs = [], [], set(), []
         # Up to which place the host knows what is printed, and up to which the last acknowledgement was that was lost.
         self._known = self._lost = 0
@@ -94,6 +94,14 @@ class Printer(Device):
             self._changed()
         self._wake()
 
+    def feeds(self, is_feeding):
+        """Holds its paper feed button down, or lets it go. It is offline meanwhile, which none of its signs explains
+        that the till knows."""
+        with self.lock:
+            self.is_feeding = is_feeding
+            self._changed()
+        self._wake()
+
     def receipt(self):
         """What is on the paper so far."""
         with self.lock:
@@ -123,7 +131,7 @@ class Printer(Device):
         self._known = len(self.paper)
 
     def is_offline(self):
-        return self.is_cover_open or self.is_short or self.is_broken
+        return self.is_cover_open or self.is_short or self.is_broken or self.is_feeding
 
     def may_work(self):
         return not self.is_offline()
@@ -136,7 +144,8 @@ class Printer(Device):
 
     def status(self):
         """The four bytes of an automatic status."""
-        first = 0x10 | self.is_drawer_open << 2 | self.is_offline() << 3 | self.is_cover_open << 5
+        first = (0x10 | self.is_drawer_open << 2 | self.is_offline() << 3 | self.is_cover_open << 5
+                 | self.is_feeding << 6)
         near = 0x03 if self.lines_left <= self.near else 0
         end = 0x0C if self.lines_left == 0 else 0
         return bytes([first, self.is_broken << 3, near | end, 0])
@@ -166,9 +175,9 @@ class Printer(Device):
 
     def _status_now(self, kind):
         if kind == 1:
-            return 0x12 | self.is_drawer_open << 2 | self.is_offline() << 3
+            return 0x12 | self.is_drawer_open << 2 | self.is_offline() << 3 | self.is_feeding << 6
         if kind == 2:
-            return 0x12 | self.is_cover_open << 2 | self.is_short << 5 | self.is_broken << 6
+            return 0x12 | self.is_cover_open << 2 | self.is_feeding << 3 | self.is_short << 5 | self.is_broken << 6
         if kind == 3:
             return 0x12 | self.is_broken << 3
         near = 0x0C if self.lines_left <= self.near else 0
