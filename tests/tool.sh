@@ -78,6 +78,7 @@ script() {
 
 hint_words='hint: `kijolvar help` lists the commands'
 hint_path='hint: check the path, and who may read and write it'
+hint_rights="hint: run it as the old file's owner, or as root"
 hint_link='hint: if a file is there, give another path, or restore with --replace; the disk must have hard links'
 hint_create='hint: is it the right file? Restore a copy if it had totals'
 hint_salvage='hint: `kijolvar salvage FILE TO` makes a sound file of what can be had'
@@ -309,7 +310,8 @@ ends 'load where a file is' 4 \
 ends 'salvage of sound totals' 0 '' '' salvage till.totals saved.totals
 same 'salvage of sound totals copies them' till.totals saved.totals
 ends 'salvage of bytes without totals' 1 "kijolvar: zero.totals: isn't formatted"$'\n'"$hint_create" '' salvage zero.totals new
-ends 'salvage of a file that was cut off' 0 '' '' salvage short.totals saved2.totals
+ends 'salvage of a file that was cut off' 0 '' 'cut off at 100000: each byte that is missing counts as 0' \
+  salvage short.totals saved2.totals
 same 'salvage adds the bytes that are missing' saved2.totals till.totals
 ends 'salvage of no file' 4 "kijolvar: none.totals: $unread: $none"$'\n'"$hint_path" '' salvage none.totals new
 ends 'salvage where a file is' 4 \
@@ -407,6 +409,20 @@ strace -o trace -e inject=rename,renameat,renameat2:error=EPERM "$tool" restore 
 told 'restore whose file gets no name: status' 4 $?
 same 'restore whose file gets no name keeps the file' other.totals kept
 told 'restore whose file gets no name leaves nothing' '' "$(ls other.totals.* 2> /dev/null)"
+# Only root may give a file away.
+[ "$(id -u)" -ne 0 ] || chown 65534:65533 other.totals
+chmod 640 other.totals
+rights=$(stat -c '%u %g %a' other.totals)
+strace -o trace -e inject=/chmod:error=EPERM "$tool" restore till.totals other.totals --replace > out 2> err
+told 'restore whose file gets no mode: status' 4 $?
+told 'restore whose file gets no mode: message' \
+  "kijolvar: other.totals: can't get the owner and the mode of the old file: Operation not permitted (os error 1)"$'\n'"$hint_rights" "$(cat err)"
+same 'restore whose file gets no mode keeps the file' other.totals kept
+told 'restore whose file gets no mode leaves nothing' '' "$(ls other.totals.* 2> /dev/null)"
+ends 'restore, replacing, of an owner with a group' 0 '' '' restore till.totals other.totals --replace
+told 'restore, replacing, keeps owner, group and mode' "$rights" "$(stat -c '%u %g %a' other.totals)"
+told 'restore, replacing, keeps those of the old file' "$rights" "$(stat -c '%u %g %a' other.totals.old)"
+mv other.totals.old other.totals
 
 no_file='is no file, but a link, a folder, a pipe or a device'
 hint_no_file='hint: give the path of a file, and not of a link to it'
@@ -543,6 +559,7 @@ deliver a
 call a clearText
 get a State
 SCRIPT
+: > nothing.script
 sale="sale.script:3: ok
 sale.script:4: ok
 sale.script:5: ok
@@ -554,6 +571,31 @@ sale.script:10: ok 2 S_IDLE"
 ends 'run' 0 '' "$sale" run sale.script
 "$tool" run < sale.script > out 2> err
 told 'run of standard input' "$(echo "$sale" | sed 's/^sale.script/-/')" "$(cat out)"
+tail -n +4 sale.script > rest.script
+rest=$("$tool" run rest.script | sed 's/^rest.script/-/')
+{ for _ in 1 2 3; do read -r _; done; "$tool" run -; } < sale.script > out 2> err
+told 'run of standard input: from where it stands' "$rest" "$(cat out)"
+ends 'run of standard input between scripts' 0 '' "$sale"$'\n'"$(echo "$sale" | sed '1s/ok/bad control/; 2s/ok/err 106 E_ILLEGAL/
+  5s/event.*/none/; s/^sale.script/-/')" run sale.script - nothing.script - < sale.script
+python3 - "$tool" > out 2> err << 'PYTHON'
+import socket
+import subprocess
+import sys
+
+ours, theirs = socket.socketpair()
+with subprocess.Popen([sys.argv[1], 'run', '-'], stdin=theirs, stdout=subprocess.PIPE) as running:
+    theirs.close()
+    with open('sale.script', 'rb') as script:
+        for line in script:
+            ours.sendall(line)
+    ours.close()
+    sys.stdout.buffer.write(running.stdout.read())
+PYTHON
+told 'run of a socket' "$(echo "$sale" | sed 's/^sale.script/-/')" "$(cat out)"
+ends 'run of what can be read by nobody' 4 \
+  "kijolvar: standard input can't be read"$'\n''hint: check where the input comes from; nothing was run' '' run sale.script - < /
+"$tool" run - <&- > out 2> err
+told 'run of no input' 4 $?
 ends 'run of a script twice: one counter' 0 '' \
   "$sale"$'\n'"$(echo "$sale" | sed '1s/ok/bad control/; 2s/ok/err 106 E_ILLEGAL/; 5s/event.*/none/')" \
   run sale.script sale.script
@@ -636,7 +678,6 @@ PYTHON
 told 'run --json' good "$(cat counted)"
 printf 'new a \377\n' > bytes.script
 told 'run --json: bytes that are no text' null "$("$tool" run bytes.script --json | python3 -c 'import json; print(json.dumps(json.load(open(0))["text"]))')"
-: > nothing.script
 ends 'run of an empty script' 0 '' '' run nothing.script
 hint_script='hint: check the path, and who may read it; `-` is standard input'
 ends 'run of no script' 4 "kijolvar: none.script: $unread: $none"$'\n'"$hint_script" '' run totals.script none.script --totals run.totals

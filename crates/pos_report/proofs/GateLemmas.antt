@@ -4,11 +4,11 @@ use Rattle.std.specs.Prelude.{slice_set, true}
 use Rattle.pos_survey.specs.Damages.{Breaks}
 use Rattle.pos_survey.specs.declared.fault.SurveyFault.{SurveyFault}
 use Rattle.pos_survey.specs.declared.fault.SurveyFault.TheVariants.{Damaged}
-use Rattle.pos_report.specs.Salvage.{IsClosed, IsSalvaged, IsUnsalvaged, Steps, gate_of, lost_line, padded}
+use Rattle.pos_report.specs.Salvage.{IsClosed, IsSalvaged, IsUnsalvaged, Steps, cut_line, gate_of, lost_line, padded}
 
 -- no gate is closed
-pub begins : (source copy lost : List ℕ) → copy ≡ padded source → lost ≡ [] → IsClosed source copy lost
-begins source copy lost same none = record { found = []; broken = tt; bytes_are = same; lost_is = none }
+pub begins : (source copy lost : List ℕ) → copy ≡ padded source → lost ≡ cut_line source → IsClosed source copy lost
+begins source copy lost same line = record { found = []; broken = tt; bytes_are = same; lost_is = line }
 
 -- one gate more
 pub goes_on : (source old said new told : List ℕ) → IsClosed source old said → Steps old said (Ok false) new told

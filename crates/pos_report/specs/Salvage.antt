@@ -42,10 +42,15 @@ abbrev pub lost_line : ℕ → Rule → List ℕ
 lost_line at broken = joined (codes "closed gate " ∷ decimal (gate_of at broken) ∷ codes ", broken at "
     ∷ decimal at ∷ codes ": " ∷ words_of broken ∷ codes "\n" ∷ [])
 
--- a line for each of them
-abbrev pub lost_text : Found → List ℕ
-lost_text [] = []
-lost_text (found ∷ earlier) = lost_text earlier ++ lost_line found.0 found.1
+-- where bytes were cut off, if they were
+abbrev pub cut_line : List ℕ → List ℕ
+cut_line source = if nat_lt (length source) disk_size then joined (codes "cut off at " ∷ decimal (length source)
+    ∷ codes ": each byte that is missing counts as 0\n" ∷ []) else []
+
+-- that line, and one for each gate
+abbrev pub lost_text : List ℕ → Found → List ℕ
+lost_text source [] = cut_line source
+lost_text source (found ∷ earlier) = lost_text source earlier ++ lost_line found.0 found.1
 
 -- each rule was broken there, by the bytes in which the gates of those before it were closed
 abbrev pub AreBroken : Found → List ℕ → Type 0
@@ -67,12 +72,12 @@ Steps old said (Ok false) new told = (at : ℕ) × (broken : Rule) × Breaks old
 Steps old said (Err fault) new told = Breaks old fault × (new ≡ old)
 
 -- The bytes are those of the source, in which gates were closed of what was damaged and nothing else was changed; and
--- the text has a line for each.
+-- the text says where the source was cut off, and has a line for each gate.
 pub record IsClosed (source bytes lost : List ℕ) : Type 0 where
   pub found : Found
   pub broken : AreBroken found (padded source)
   pub bytes_are : bytes ≡ closed found (padded source)
-  pub lost_is : lost ≡ lost_text found
+  pub lost_is : lost ≡ lost_text source found
 
 -- Such bytes that are sound.
 pub record IsSalvaged (source bytes lost : List ℕ) : Type 0 where

@@ -1,6 +1,7 @@
 //! What can be had of damaged totals.
 ghost use Rattle.std.specs.Prelude.{◌≡◌, ◌++◌, IfErr, IfOk, OnOk};
-ghost use Rattle.pos_report.specs.Salvage.{Finds, IsSalvaged, IsUnsalvaged, Steps, gate_of, lost_line, padded, slot_start};
+ghost use Rattle.pos_report.specs.Salvage.{Finds, IsSalvaged, IsUnsalvaged, Steps, cut_line, gate_of, lost_line, padded};
+ghost use Rattle.pos_report.specs.Salvage.{slot_start};
 
 use crate::texts::put_all;
 use itoa::Buffer;
@@ -18,7 +19,7 @@ const MOST: u32 = 16;
 pub struct Salvaged {
     /// The bytes.
     pub bytes: Vec<u8>,
-    /// What was lost: a line for each gate that was closed.
+    /// What was lost: a line if bytes are missing at the end, and one for each gate that was closed.
     pub lost: Vec<u8>,
 }
 
@@ -109,6 +110,23 @@ fn padded(alloc: Global, bytes: &[u8]) -> Result<Vec<u8>, AllocError>
     Ok(copy)
 }
 
+// A line on the bytes that are missing at the end, if some are.
+fn cut_line(alloc: Global, bytes: &[u8]) -> Result<Vec<u8>, AllocError>
+    ensures { IfOk result (λ text. text.items ≡ cut_line bytes.now) }
+{
+    let mut text = Vec::new(alloc);
+    if bytes.len() < LENGTH {
+        let mut place = Buffer::new();
+        let parts = [
+            "cut off at ",
+            place.format(bytes.len()),
+            ": each byte that is missing counts as 0\n",
+        ];
+        put_all(&mut text, &parts)?;
+    }
+    Ok(text)
+}
+
 /// Returns sound totals that are made of these bytes: gates are closed of what is damaged, one after another, until
 /// nothing is. Nothing else is changed, so each file that they hold is of an image and records of these bytes. Missing
 /// bytes at the end count as 0.
@@ -123,7 +141,9 @@ pub fn salvage_totals(alloc: Global, bytes: &[u8]) -> Result<Salvaged, SurveyFau
     let Ok(mut copy) = padded(alloc, bytes) else {
         return Err(SurveyFault::NoMemory);
     };
-    let mut lost = Vec::new(alloc);
+    let Ok(mut lost) = cut_line(alloc, bytes) else {
+        return Err(SurveyFault::NoMemory);
+    };
     for _turn in 0..MOST {
         match step(alloc, &mut copy, &mut lost) {
             Ok(true) => return Ok(Salvaged { bytes: copy, lost }),

@@ -1,11 +1,12 @@
 -- Scripts that are run one after another.
 use Rattle.std.proofs.Common.{ap, append-nil, append_assoc, drop, get_or, inl, length, map, refl, subst, sym, take}
 use Rattle.std.proofs.Common.{◌+◌, ◌<◌, ◌++◌, ◌∙◌, ◌∷◌, ◌≡◌, List, [], ℕ}
-use Rattle.std.specs.Prelude.{flat_map}
+use Rattle.std.specs.Prelude.{Ok, flat_map}
 use Rattle.std.proofs.lemmas.List.{drop_more, map-append, take-append-drop, take_more}
 use Rattle.std.specs.Borrow.{Bor}
 use Rattle.pos_program.specs.declared.file_system.FileSystem.{Ghosts as SystemGhosts}
-use Rattle.pos_shell.specs.Runs.{AreRead, ReadsScript}
+use Rattle.pos_streams.specs.Streams.{Taken}
+use Rattle.pos_shell.specs.Runs.{AreRead, ReadsText}
 use Rattle.std.proofs.lemmas.Grind.{flat_map-append}
 use Rattle.pos_counter.specs.Steps.{Request, Response}
 use Rattle.pos_run.proofs.Common.{Appends-trans}
@@ -35,13 +36,26 @@ module _ {A : Type 0} (xs : List A) (i : ℕ) (d : A) (lt : i < length xs) where
 
 -- one more script was read
 pub reads_more : {S F : Type 0} (system : SystemGhosts S F) (them : S) (paths : List (Bor (List ℕ)))
-    (scripts : List Script) {path : Bor (List ℕ)} (script : Script) → AreRead system them paths scripts
-    → ReadsScript system them path script → AreRead system them (paths ++ path ∷ []) (scripts ++ script ∷ [])
-reads_more system them [] [] script are one = (one, tt)
-reads_more system them [] (other ∷ scripts) script are one = absurd are
-reads_more system them (other ∷ paths) [] script are one = absurd are
-reads_more system them (other ∷ paths) (first ∷ scripts) script (is, are) one =
-    (is, reads_more system them paths scripts script are one)
+    (scripts : List Script) {path : Bor (List ℕ)} (script : Script) (old between new : Taken)
+    → AreRead system them paths scripts old between → script.name ≡ path
+    → ReadsText system them path between new (Ok script.text.items)
+    → AreRead system them (paths ++ path ∷ []) (scripts ++ script ∷ []) old new
+reads_more system them [] [] {path} script old between new same named reads =
+    (named, new, subst (λ before. ReadsText system them path before new (Ok script.text.items)) same reads, refl)
+reads_more system them [] (other ∷ scripts) script old between new are named reads = absurd are
+reads_more system them (other ∷ paths) [] script old between new are named reads = absurd are
+reads_more system them (other ∷ paths) (first ∷ scripts) script old between new (is, first_new, own, are) named reads =
+    (is, first_new, own, reads_more system them paths scripts script first_new between new are named reads)
+
+-- the one at the next path
+pub reads_next : {S F : Type 0} (system : SystemGhosts S F) (them : S) (paths : List (Bor (List ℕ))) (i : ℕ)
+    (d : Bor (List ℕ)) (scripts : List Script) (script : Script) (old between new : Taken) → i < length paths
+    → AreRead system them (take i paths) scripts old between → script.name ≡ get_or paths i d
+    → ReadsText system them (get_or paths i d) between new (Ok script.text.items)
+    → AreRead system them (take (i + 1) paths) (scripts ++ script ∷ []) old new
+reads_next system them paths i d scripts script old between new lt are named reads =
+    subst (λ xs. AreRead system them xs (scripts ++ script ∷ []) old new) (sym (taken_at paths i d lt))
+    (reads_more system them (take i paths) scripts script old between new are named reads)
 
 -- one more is at the end of what all are mapped to
 pub one_more : {A : Type 0} (f : Turn → List A) (turns : List Turn) (turn : Turn)

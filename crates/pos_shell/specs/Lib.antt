@@ -1,5 +1,6 @@
 pub mod Conversation
 pub mod Differences
+pub mod Input
 pub mod Names
 pub mod Outputs
 pub mod Paint

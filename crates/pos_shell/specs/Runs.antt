@@ -1,6 +1,7 @@
 -- What running the scripts in files comes to (docs/reference/tool.md, "run").
 use Rattle.std.specs.Prelude.{◌≡◌, ◌⊎◌, ◌++◌, ◌∷◌, [], ℕ, List, Option, Some, None, Result, Ok, Err, Vec, bytes_eq}
-use Rattle.std.specs.Prelude.{codes, if◌then◌else◌, ⊤}
+use Rattle.std.specs.Prelude.{codes}
+use Rattle.std.specs.Bool.{MatchBool}
 use Rattle.std.specs.Borrow.{Bor}
 use Rattle.pos_counter.specs.Counters.{IsLeftDuring}
 use Rattle.pos_counter.specs.Machine.{Machine}
@@ -19,6 +20,8 @@ use Rattle.pos_program.specs.declared.file_system.FileSystem.{Ghosts as SystemGh
 use Rattle.pos_program.specs.declared.named_files.NamedFiles.{Ghosts}
 use Rattle.pos_run.specs.Simulations.{begun_over}
 use Rattle.pos_store.specs.Standing.{LeavesOneOf, Standing}
+use Rattle.pos_streams.specs.Streams.{Taken}
+use Rattle.pos_shell.specs.Input.{TakesRest}
 use Rattle.pos_shell.specs.Outputs.{Streams}
 use Rattle.pos_shell.specs.ProfileRun.{Lines, RunsLines, steps_of}
 use Rattle.pos_shell.specs.declared.runs.RunFault.{RunFault}
@@ -37,32 +40,38 @@ abbrev pub scripts_of : {A : Type 0} → Result (Vec Script A) RunFault → Resu
 scripts_of (Ok scripts) = Ok scripts.items
 scripts_of (Err why) = Err why
 
--- the path of a script: `-` is standard input
-abbrev pub path_of : List ℕ → List ℕ
-path_of name = if bytes_eq name (codes "-") then codes "/dev/stdin" else name
+-- what reading the file at a path comes to
+abbrev pub ReadsFile : {S F : Type 0} → SystemGhosts S F → S → Bor (List ℕ) → Result (List ℕ) RunFault → Type 0
+ReadsFile system them path (Ok text) = system.reads them path.now (Ok text)
+ReadsFile system them path (Err (run.Script at cause)) = (at ≡ path) × system.reads them path.now (Err cause)
+ReadsFile system them path (Err other) = ⊥
 
--- a script has the name and the text of the file at a path
-abbrev pub ReadsScript : {S F : Type 0} → SystemGhosts S F → S → Bor (List ℕ) → Script → Type 0
-ReadsScript system them path script = (script.name ≡ path) × system.reads them (path_of path.now) (Ok script.text.items)
+-- What reading the script at a path comes to, by what was taken from the input before and after it. `-` is all that the
+-- input has left.
+abbrev pub ReadsText : {S F : Type 0} → SystemGhosts S F → S → Bor (List ℕ) → Taken → Taken → Result (List ℕ) RunFault
+    → Type 0
+ReadsText system them path old new result = MatchBool (bytes_eq path.now (codes "-")) (TakesRest old new result)
+    ((new ≡ old) × ReadsFile system them path result)
 
--- each script is that of its path
-abbrev pub AreRead : {S F : Type 0} → SystemGhosts S F → S → List (Bor (List ℕ)) → List Script → Type 0
-AreRead system them [] [] = ⊤
-AreRead system them (path ∷ paths) (script ∷ scripts) =
-    ReadsScript system them path script × AreRead system them paths scripts
-AreRead system them paths scripts = ⊥
+-- each script has the name of its path and the text that was read there
+abbrev pub AreRead : {S F : Type 0} → SystemGhosts S F → S → List (Bor (List ℕ)) → List Script → Taken → Taken → Type 0
+AreRead system them [] [] old new = new ≡ old
+AreRead system them (path ∷ paths) (script ∷ scripts) old new = (script.name ≡ path) × (between : Taken)
+    × ReadsText system them path old between (Ok script.text.items) × AreRead system them paths scripts between new
+AreRead system them paths scripts old new = ⊥
 
--- the file at one of the paths couldn't be read
-abbrev pub IsUnread : {S F : Type 0} → SystemGhosts S F → S → List (Bor (List ℕ)) → RunFault → Type 0
-IsUnread system them paths (run.Script path cause) = (earlier : List (Bor (List ℕ))) × (later : List (Bor (List ℕ)))
-    × (paths ≡ earlier ++ path ∷ later) × system.reads them (path_of path.now) (Err cause)
-IsUnread system them paths other = other ≡ without_memory
+-- Those at the first paths were read, and the next one couldn't be; or there was no memory for them.
+abbrev pub IsUnread : {S F : Type 0} → SystemGhosts S F → S → List (Bor (List ℕ)) → RunFault → Taken → Taken → Type 0
+IsUnread system them paths why old new = (earlier : List (Bor (List ℕ))) × (later : List (Bor (List ℕ)))
+    × (scripts : List Script) × (((path : Bor (List ℕ)) × (between : Taken) × (paths ≡ earlier ++ path ∷ later)
+    × AreRead system them earlier scripts old between × ReadsText system them path between new (Err why))
+    ⊎ ((paths ≡ earlier ++ later) × AreRead system them earlier scripts old new × (why ≡ without_memory)))
 
 -- what reading the scripts at paths comes to
-abbrev pub ReadsEach : {S F : Type 0} → SystemGhosts S F → S → List (Bor (List ℕ)) → Result (List Script) RunFault
-    → Type 0
-ReadsEach system them paths (Ok scripts) = AreRead system them paths scripts
-ReadsEach system them paths (Err why) = IsUnread system them paths why
+abbrev pub ReadsEach : {S F : Type 0} → SystemGhosts S F → S → List (Bor (List ℕ)) → Taken → Taken
+    → Result (List Script) RunFault → Type 0
+ReadsEach system them paths old new (Ok scripts) = AreRead system them paths scripts old new
+ReadsEach system them paths old new (Err why) = IsUnread system them paths why old new
 
 -- what reading a profile comes to: the built-in one where no path is given
 abbrev pub GivesProfile : {F B : Type 0} → Ghosts F B → F → Option (Bor (List ℕ)) → Result Contents RunFault → Type 0
@@ -162,6 +171,6 @@ abbrev pub Runs : {F B S G : Type 0} → Ghosts F B → FileGhosts B → DiskGho
     → DiskGhosts Memory → F → SystemGhosts S G → S → AnswerStyle → List (Bor (List ℕ)) → Option (Bor (List ℕ))
     → Option (Bor (List ℕ)) → Streams → Streams → Result (Unit {0}) RunFault → Type 0
 Runs files below mirrors memories them system it style paths profile totals old new result =
-    (read : Result (List Script) RunFault) × ReadsEach system it paths read
-    × RunsRead (λ scripts. RunsAll files below mirrors memories them style (Some scripts) profile totals old new
-    result) read old new result
+    (read : Result (List Script) RunFault) × (taken : Taken) × ReadsEach system it paths old.taken taken read
+    × RunsRead (λ scripts. RunsAll files below mirrors memories them style (Some scripts) profile totals
+    (record old { taken = taken }) new result) read (record old { taken = taken }) new result

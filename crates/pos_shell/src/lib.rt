@@ -11,6 +11,7 @@
 mod answer_texts;
 mod conversation;
 mod differences;
+mod input;
 mod names;
 mod paint;
 mod profile_run;

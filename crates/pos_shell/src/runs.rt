@@ -1,12 +1,14 @@
 //! Runs of scripts in files, or of what is typed, over a profile and totals.
 ghost use Rattle.std.specs.Prelude.{◌≡◌, None};
+ghost use Rattle.pos_program.specs.Answers.{bytes_of};
 ghost use Rattle.pos_program.specs.TotalsDisks.{IsNewMirror};
 ghost use Rattle.pos_shell.specs.Outputs.{streams_of};
 ghost use Rattle.pos_shell.specs.ProfileRun.{lines_in};
-ghost use Rattle.pos_shell.specs.Runs.{GivesProfile, ReadsEach, Runs, RunsAll, RunsInMemory, RunsOver, RunsOverTotals, ended};
-ghost use Rattle.pos_shell.specs.Runs.{path_of, scripts_of};
+ghost use Rattle.pos_shell.specs.Runs.{GivesProfile, ReadsEach, ReadsText, Runs, RunsAll, RunsInMemory, RunsOver};
+ghost use Rattle.pos_shell.specs.Runs.{RunsOverTotals, ended, scripts_of};
 
 use crate::answer_texts::AnswerStyle;
+use crate::input::read_rest;
 use crate::profile_run::run_lines;
 use crate::scripts::{Script, ScriptsFault};
 use pos_disk::{Disk, MemDisk};
@@ -30,6 +32,8 @@ pub enum RunFault<'a> {
         /// Why.
         cause: io::Error,
     },
+    /// Standard input can't be read to its end. Nothing was run.
+    Input,
     /// The profile can't be read, or is none. Nothing was run.
     Profile {
         /// Its path.
@@ -48,34 +52,44 @@ pub enum RunFault<'a> {
     Stopped(ScriptsFault),
 }
 
-// The path of a script: `-` is standard input.
-fn path_of(name: &str) -> &str
-    ensures { result.now ≡ path_of name.now }
+// Reads the script at a path; for `-` all that the reader has left.
+fn read_script<'a, S: FileSystem, R: Source>(
+    alloc: Global,
+    system: &S,
+    path: &'a str,
+    reader: &mut R,
+) -> Result<Vec<u8>, RunFault<'a>>
+    ensures { ReadsText S.FileSystem system.now path.entry (R.taken reader.old) (R.taken reader.new) (bytes_of result) }
 {
-    if name == "-" {
-        return "/dev/stdin";
+    if path == "-" {
+        return read_rest(alloc, reader);
     }
-    name
+    match system.read(path) {
+        Ok(text) => Ok(text),
+        Err(cause) => Err(RunFault::Script { path, cause }),
+    }
 }
 
 // Reads the scripts at paths, in order.
-fn read_scripts<'a, S: FileSystem>(
+fn read_scripts<'a, S: FileSystem, R: Source>(
     alloc: Global,
     system: &S,
     paths: &[&'a str],
+    reader: &mut R,
 ) -> Result<Vec<Script<'a>>, RunFault<'a>>
-    ensures { ReadsEach S.FileSystem system.now paths.entry.now (scripts_of result) }
+    ensures { ReadsEach S.FileSystem system.now paths.entry.now (R.taken reader.old) (R.taken reader.new)
+        (scripts_of result) }
 {
     let mut scripts = Vec::new(alloc);
     for path in paths {
         let name = *path;
-        match system.read(path_of(name)) {
+        match read_script(alloc, system, name, reader) {
             Ok(text) => {
                 let Ok(()) = scripts.push(Script { name, text }) else {
                     return Err(RunFault::Stopped(ScriptsFault::NoMemory));
                 };
             }
-            Err(cause) => return Err(RunFault::Script { path: name, cause }),
+            Err(fault) => return Err(fault),
         }
     }
     Ok(scripts)
@@ -203,12 +217,13 @@ fn run_all<'a, F: NamedFiles, R: Source, W: Sink>(
 
 /// Runs the scripts at paths, in order and over one counter: that of the profile at a path, or of the built-in one;
 /// with the totals in the file at a path, or in memory. It tells what each line is answered. All files are read before
-/// anything is run. Nothing is read from the reader. docs/reference/tool.md, "run".
+/// anything is run. A path `-` is all that the reader has left; nothing else is read from it. docs/reference/tool.md,
+/// "run".
 ///
 /// # Errors
 ///
-/// `Script`, `Profile` or `Totals` for the first file that can't serve: nothing was run. `Stopped` if the run stopped,
-/// or if there was no memory to begin.
+/// `Script`, `Input`, `Profile` or `Totals` for the first of them that can't serve: nothing was run. `Stopped` if the
+/// run stopped, or if there was no memory to begin.
 pub fn run<'a, F: NamedFiles, S: FileSystem, R: Source, W: Sink>(
     alloc: Global,
     files: &F,
@@ -224,7 +239,7 @@ pub fn run<'a, F: NamedFiles, S: FileSystem, R: Source, W: Sink>(
         S.FileSystem system.now style.now paths.entry.now profile.entry totals.entry
         (streams_of R.Source reader.old W.Sink writer.old) (streams_of R.Source reader.new W.Sink writer.new) result }
 {
-    let scripts = match read_scripts(alloc, system, paths) {
+    let scripts = match read_scripts(alloc, system, paths, reader) {
         Ok(scripts) => scripts,
         Err(fault) => return Err(fault),
     };

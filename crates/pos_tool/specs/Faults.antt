@@ -75,6 +75,7 @@ told_status told.Read = 4
 -- the status of a fault of a run
 abbrev pub run_status : RunFault → ℕ
 run_status (run.Script path cause) = 4
+run_status run.Input = 4
 run_status (run.Profile path cause) = profile_status cause
 run_status (run.Totals path cause) = file_status cause
 run_status (run.Stopped cause) = told_status cause

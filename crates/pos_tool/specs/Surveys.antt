@@ -1,5 +1,5 @@
 -- What the program prints of a totals file (docs/reference/tool.md, "Commands").
-use Rattle.std.specs.Prelude.{◌≡◌, ℕ, List, [], Result, Ok, Err}
+use Rattle.std.specs.Prelude.{◌≡◌, ℕ, List, [], Result, Ok, Err, Vec}
 use Rattle.pos_file.specs.declared.block_file.BlockFile.{Ghosts as FileGhosts}
 use Rattle.pos_file.specs.declared.file_disk.FileDisk.{FileDisk}
 use Rattle.pos_mirror.specs.Mirror.{Mirror}
@@ -21,18 +21,19 @@ abbrev pub name_in : Question → List ℕ
 name_in (Cat name hex) = name.now
 name_in other = []
 
--- what is printed of the bytes of the totals file at a path, by how the output stood before, and after: the answer to
--- the question, as far as it can be written; or why there is none, and then nothing is written
-abbrev pub PrintsBytes : List ℕ → Question → List ℕ → Output → Output → Result Finding Fault → Type 0
-PrintsBytes path question bytes old new (Ok finding) =
-    (text : List ℕ) × Answers question bytes finding text × IsWritten old new text
-PrintsBytes path question bytes old new (Err fault.Write) =
-    (finding : Finding) × (text : List ℕ) × Answers question bytes finding text × IsCutOff old new text
-PrintsBytes path question bytes old new (Err (fault.Totals at cause)) =
-    (at.now ≡ path) × Refuses question bytes (answer.Totals cause) × (new ≡ old)
-PrintsBytes path question bytes old new (Err (fault.NoFile at name)) =
-    (at.now ≡ path) × (name.now ≡ name_in question) × Refuses question bytes answer.NoFile × (new ≡ old)
-PrintsBytes path question bytes old new (Err other) = ⊥
+-- what is found, and the answer as a list
+abbrev pub answered : {A : Type 0} → Result (Finding × Vec ℕ A) Fault → Result (Finding × List ℕ) Fault
+answered (Ok found) = Ok (found.0, found.1.items)
+answered (Err why) = Err why
+
+-- what is answered to a question about the bytes of the totals file at a path, or why there is no answer
+abbrev pub AnswersBytes : List ℕ → Question → List ℕ → Result (Finding × List ℕ) Fault → Type 0
+AnswersBytes path question bytes (Ok found) = Answers question bytes found.0 found.1
+AnswersBytes path question bytes (Err (fault.Totals at cause)) =
+    (at.now ≡ path) × Refuses question bytes (answer.Totals cause)
+AnswersBytes path question bytes (Err (fault.NoFile at name)) =
+    (at.now ≡ path) × (name.now ≡ name_in question) × Refuses question bytes answer.NoFile
+AnswersBytes path question bytes (Err other) = ⊥
 
 -- a text is printed, as far as it can be written
 abbrev pub Prints : List ℕ → Output → Output → Result Finding Fault → Type 0
@@ -44,17 +45,31 @@ abbrev pub EndsAtFile : {A : Type 0} → List ℕ → FileFault → Result A Fau
 EndsAtFile path cause (Err (fault.File at why)) = (at.now ≡ path) × (why ≡ cause)
 EndsAtFile path cause other = ⊥
 
--- what is printed of totals that were only read: of the bytes that the one read of their file gave; or why they can't
+-- what is answered of totals that were only read: of the bytes that the one read of their file gave; or why they can't
 -- be read
-abbrev pub PrintsOpened : {B : Type 0} → FileGhosts B → List ℕ → Question → Result (Mirror (FileDisk B)) FileFault
-    → Output → Output → Result Finding Fault → Type 0
-PrintsOpened below path question (Ok totals) old new result =
-    AreRead below.calls totals × PrintsBytes path question totals.memory.present.reading old new result
-PrintsOpened below path question (Err cause) old new result = EndsAtFile path cause result × (new ≡ old)
+abbrev pub AnswersOpened : {B : Type 0} → FileGhosts B → List ℕ → Question → Result (Mirror (FileDisk B)) FileFault
+    → Result (Finding × List ℕ) Fault → Type 0
+AnswersOpened below path question (Ok totals) result =
+    AreRead below.calls totals × AnswersBytes path question totals.memory.present.reading result
+AnswersOpened below path question (Err cause) result = EndsAtFile path cause result
+
+-- what is answered of the totals file at a path
+abbrev pub AnswersFile : {F B : Type 0} → Ghosts F B → FileGhosts B → F → List ℕ → Question
+    → Result (Finding × List ℕ) Fault → Type 0
+AnswersFile {F} {B} files below them path question result =
+    (opened : Result (Mirror (FileDisk B)) FileFault) × files.reads_disk them path opened
+    × AnswersOpened below path question opened result
+
+-- what is printed of an answer, by how the output stood before, and after: the answer, as far as it can be written; or
+-- nothing, if there is none
+abbrev pub PrintsAnswer : Result (Finding × List ℕ) Fault → Output → Output → Result Finding Fault → Type 0
+PrintsAnswer (Ok found) old new (Ok finding) = (finding ≡ found.0) × IsWritten old new found.1
+PrintsAnswer (Ok found) old new (Err why) = (why ≡ fault.Write) × IsCutOff old new found.1
+PrintsAnswer (Err why) old new result = (result ≡ Err why) × (new ≡ old)
 
 -- what is printed of the totals file at a path
 abbrev pub PrintsFile : {F B : Type 0} → Ghosts F B → FileGhosts B → F → List ℕ → Question → Output → Output
     → Result Finding Fault → Type 0
-PrintsFile {F} {B} files below them path question old new result =
-    (opened : Result (Mirror (FileDisk B)) FileFault) × files.reads_disk them path opened
-    × PrintsOpened below path question opened old new result
+PrintsFile files below them path question old new result =
+    (found : Result (Finding × List ℕ) Fault) × AnswersFile files below them path question found
+    × PrintsAnswer found old new result

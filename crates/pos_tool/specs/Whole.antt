@@ -101,19 +101,26 @@ PutsOver system folder calls them path bytes result =
     ⊎ Continues (ChecksFile folder them path) (Continues (WritesPart system calls them (path ++ codes ".part") bytes)
     (RenamesPart system folder them (path ++ codes ".part") path result) result) result
 
--- what keeping a file under a second name, and putting another one in its place, comes to
+-- what keeping a file under a second name, and putting another one in its place, with its owner and mode, comes to
 abbrev pub SetsAside : {S F : Type 0} → SystemGhosts S F → FolderGhosts S → S → List ℕ → List ℕ → List ℕ
     → Result (Unit {0}) WholeFault → Type 0
 SetsAside system folder them part path old result =
     (linked : Result (Unit {0}) Error) × folder.links them path old linked
-    × Follows fault.Aside (RenamesPart system folder them part path result) linked result
+    × Follows fault.Aside ((copied : Result (Unit {0}) Error) × folder.copies_rights them old part copied
+    × Follows fault.Rights (RenamesPart system folder them part path result) copied result) linked result
 
--- What putting a file with these bytes in place of the one at a path comes to: want of memory; or its name may be
--- taken, they are written to the file beside it, then the old file gets a second name, and then the new one takes its
--- place.
+-- What putting a file with these bytes in place of the one at a path comes to: its name may be taken, they are written
+-- to the file beside it, then the old file gets a second name and the new one its owner and mode, and then the new one
+-- takes its place.
+abbrev pub Exchanges : {S F : Type 0} → SystemGhosts S F → FolderGhosts S → (F → List Call) → S → List ℕ → List ℕ
+    → List ℕ → List ℕ → Result (Unit {0}) WholeFault → Type 0
+Exchanges system folder calls them part path old bytes result = Continues (ChecksFile folder them path)
+    (Continues (WritesPart system calls them part bytes) (SetsAside system folder them part path old result) result)
+    result
+
+-- likewise, with the names that the files beside it get; or there is no memory for them
 abbrev pub Replaces : {S F : Type 0} → SystemGhosts S F → FolderGhosts S → (F → List Call) → S → List ℕ → List ℕ
     → Result (Unit {0}) WholeFault → Type 0
 Replaces system folder calls them path bytes result =
     (result ≡ Err fault.NoMemory)
-    ⊎ Continues (ChecksFile folder them path) (Continues (WritesPart system calls them (path ++ codes ".part") bytes)
-    (SetsAside system folder them (path ++ codes ".part") path (path ++ codes ".old") result) result) result
+    ⊎ Exchanges system folder calls them (path ++ codes ".part") path (path ++ codes ".old") bytes result

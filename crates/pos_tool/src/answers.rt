@@ -3,7 +3,7 @@ ghost use Rattle.std.specs.Prelude.{◌≡◌};
 ghost use Rattle.pos_shell.specs.Outputs.{output_of};
 ghost use Rattle.pos_tool.specs.Differences.{PrintsDifference, SurveysBytes, SurveysFile, WritesDifference};
 ghost use Rattle.pos_tool.specs.Differences.{difference_finding};
-ghost use Rattle.pos_tool.specs.Surveys.{Prints, PrintsBytes, PrintsFile, name_in};
+ghost use Rattle.pos_tool.specs.Surveys.{AnswersBytes, AnswersFile, Prints, PrintsFile, answered, name_in};
 
 use crate::fault::Fault;
 use pos_file::BlockFile;
@@ -24,33 +24,44 @@ fn name_in<'a>(question: Question<'a>) -> &'a str
     }
 }
 
-// Prints what is answered to a question about the bytes of the totals file at a path.
-fn print_bytes<'a, W: Sink>(
+// What is answered to a question about the bytes of the totals file at a path, and what is found.
+fn answer_bytes<'a>(
     alloc: Global,
-    writer: &mut W,
     path: &'a str,
     question: Question<'a>,
     bytes: &[u8],
-) -> Result<Finding, Fault<'a>>
-    ensures { PrintsBytes path.entry.now question.entry bytes.now
-        (output_of W.Sink writer.old) (output_of W.Sink writer.new) result }
+) -> Result<(Finding, Vec<u8>), Fault<'a>>
+    ensures { AnswersBytes path.entry.now question.entry bytes.now (answered result) }
 {
-    let (finding, text) = match answer(alloc, question, bytes) {
-        Ok(answered) => answered,
-        Err(AnswerFault::Totals(cause)) => return Err(Fault::Totals { path, cause }),
+    match answer(alloc, question, bytes) {
+        Ok(found) => Ok(found),
+        Err(AnswerFault::Totals(cause)) => Err(Fault::Totals { path, cause }),
         Err(AnswerFault::NoFile) => {
             let name = name_in(question);
-            return Err(Fault::NoFile { path, name });
+            Err(Fault::NoFile { path, name })
         }
-    };
-    match write_text(writer, &text) {
-        Ok(()) => Ok(finding),
-        Err(_) => Err(Fault::Write),
+    }
+}
+
+// What is answered to a question about the totals file at a path. The file is closed then: whoever reads the answer may
+// take long, and a till can't open a file that is locked.
+fn answer_file<'a, F: NamedFiles>(
+    alloc: Global,
+    files: &F,
+    path: &'a str,
+    question: Question<'a>,
+) -> Result<(Finding, Vec<u8>), Fault<'a>>
+    ensures { AnswersFile F.NamedFiles ⟦<F::File as BlockFile>⟧ files.now path.entry.now question.entry
+        (answered result) }
+{
+    match files.read_disk(path) {
+        Ok(totals) => answer_bytes(alloc, path, question, totals.bytes()),
+        Err(cause) => Err(Fault::File { path, cause }),
     }
 }
 
 /// Prints what is answered to a question about the totals file at a path. The file is read once, and nothing is written
-/// to it. docs/reference/tool.md, "Commands".
+/// to it. It is closed before anything is printed. docs/reference/tool.md, "Commands".
 ///
 /// # Errors
 ///
@@ -65,9 +76,13 @@ pub(crate) fn print_file<'a, F: NamedFiles, W: Sink>(
     ensures { PrintsFile F.NamedFiles ⟦<F::File as BlockFile>⟧ files.now path.entry.now question.entry
         (output_of W.Sink writer.old) (output_of W.Sink writer.new) result }
 {
-    match files.read_disk(path) {
-        Ok(totals) => print_bytes(alloc, writer, path, question, totals.bytes()),
-        Err(cause) => Err(Fault::File { path, cause }),
+    let (finding, text) = match answer_file(alloc, files, path, question) {
+        Ok(found) => found,
+        Err(fault) => return Err(fault),
+    };
+    match write_text(writer, &text) {
+        Ok(()) => Ok(finding),
+        Err(_) => Err(Fault::Write),
     }
 }
 

@@ -189,7 +189,7 @@ fn run_status(fault: &RunFault<'_>) -> u8
     ensures { result ≡ run_status fault.now }
 {
     match fault {
-        RunFault::Script { .. } => 4,
+        RunFault::Script { .. } | RunFault::Input => 4,
         RunFault::Profile { cause, .. } => profile_status(cause),
         RunFault::Totals { cause, .. } => file_status(cause),
         RunFault::Stopped(cause) => told_status(cause),
@@ -294,6 +294,7 @@ fn hint_of_whole(cause: &WholeFault) -> &'static str {
             "if a file is there, give another path, or restore with --replace; the disk must have hard links"
         }
         WholeFault::Aside(_) => "if a .old file is there: move it away first",
+        WholeFault::Rights(_) => "run it as the old file's owner, or as root",
         WholeFault::Left(_) => "remove the .part file",
         WholeFault::Unsynced(_) =>
             "check the device, and sync it; until then a crash may take the file away",
@@ -304,6 +305,7 @@ fn hint_of_whole(cause: &WholeFault) -> &'static str {
 fn hint_of_run(fault: &RunFault<'_>) -> &'static str {
     match fault {
         RunFault::Script { .. } => "check the path, and who may read it; `-` is standard input",
+        RunFault::Input => "check where the input comes from; nothing was run",
         RunFault::Profile { .. } =>
             "docs/reference/profile.md has each key; without --profile the built-in one serves",
         RunFault::Totals { cause, .. } => hint_of_file(cause),
@@ -386,6 +388,7 @@ impl fmt::Display for Cause<'_> {
 fn tell_run<W: Write>(fault: &RunFault<'_>, line: &mut W) -> fmt::Result {
     match fault {
         RunFault::Script { path, cause } => write!(line, "{path}: can't be read: {cause}"),
+        RunFault::Input => write!(line, "standard input can't be read"),
         RunFault::Profile { path, cause } => write!(line, "{path}: {cause}"),
         RunFault::Totals { path, cause } => write!(line, "{path}: {cause}"),
         RunFault::Stopped(cause) => write!(line, "{cause}"),

@@ -3,6 +3,7 @@ ghost use Rattle.std.specs.Prelude.{Bool, List, Option, Result, ℕ, ⊤};
 ghost use Rattle.std.specs.declared.io.Error.{Error};
 ghost use Rattle.pos_tool.specs.Texts.{names_in};
 
+use std::os::unix::fs::{MetadataExt, chown};
 use std::rt::Files;
 use std::{fs, io};
 
@@ -17,6 +18,9 @@ pub trait Folder {
 
     /// What taking a name away may answer.
     ghost removes: { Self → List ℕ → Result (Unit {0}) Error → Type 0 } = { λ _ _ _. ⊤ };
+
+    /// What giving a file the owner and the mode of another one may answer.
+    ghost copies_rights: { Self → List ℕ → List ℕ → Result (Unit {0}) Error → Type 0 } = { λ _ _ _ _. ⊤ };
 
     /// What asking whether a name is free or a file's may answer.
     ghost admits: { Self → List ℕ → Result Bool Error → Type 0 } = { λ _ _ _. ⊤ };
@@ -48,6 +52,14 @@ pub trait Folder {
     fn remove(&self, path: &str) -> io::Result<()>
         ensures { removes self.now path.now result };
 
+    /// Gives the file at `to` the owner, the group and the mode of the one at `from`.
+    ///
+    /// # Errors
+    ///
+    /// What the system says, as if the owner is another one than who runs the program, and that isn't root.
+    fn copy_rights(&self, from: &str, to: &str) -> io::Result<()>
+        ensures { copies_rights self.now from.now to.now result };
+
     /// Returns whether a name is free, or that of a file: not of a link, a folder, a pipe or a device.
     ///
     /// # Errors
@@ -76,6 +88,18 @@ impl<R: Files + AllocGlobal + Clone + Drop> Folder for R {
 
     fn remove(&self, path: &str) -> io::Result<()> {
         fs::remove_file(self, path)
+    }
+
+    fn copy_rights(&self, from: &str, to: &str) -> io::Result<()> {
+        let wanted = fs::metadata(self, from)?;
+        let found = fs::metadata(self, to)?;
+        if found.uid() != wanted.uid() || found.gid() != wanted.gid() {
+            chown(self, to, Some(wanted.uid()), Some(wanted.gid()))?;
+        }
+        if found.mode() != wanted.mode() {
+            fs::set_permissions(self, to, wanted.permissions())?;
+        }
+        Ok(())
     }
 
     fn is_free_or_file(&self, path: &str) -> io::Result<bool> {

@@ -1,7 +1,7 @@
 //! Files that appear whole or not at all.
 ghost use Rattle.std.specs.Prelude.{◌≡◌, ◌++◌, IfOk, string_bytes};
-ghost use Rattle.pos_tool.specs.Whole.{ChecksFile, LinksPart, Puts, PutsOver, RenamesPart, Replaces, SetsAside, Settles};
-ghost use Rattle.pos_tool.specs.Whole.{WritesPart, WritesWhole, to_make};
+ghost use Rattle.pos_tool.specs.Whole.{ChecksFile, Exchanges, LinksPart, Puts, PutsOver, RenamesPart, Replaces};
+ghost use Rattle.pos_tool.specs.Whole.{SetsAside, Settles, WritesPart, WritesWhole, to_make};
 
 use crate::folder::Folder;
 use pos_file::BlockFile;
@@ -32,6 +32,9 @@ pub enum WholeFault {
     /// What it replaces can't be kept beside it.
     #[error("the old file can't be kept beside it, with .old at its end: {0}")]
     Aside(io::Error),
+    /// It can't get the owner and the mode of what it replaces.
+    #[error("can't get the owner and the mode of the old file: {0}")]
+    Rights(io::Error),
     /// It is there, whole, but the file beside it can't be removed.
     #[error("is there, but the file beside it, with .part at its end, can't be removed: {0}")]
     Left(io::Error),
@@ -188,7 +191,8 @@ pub(crate) fn put_over<S: FileSystem + Folder>(
     rename_part(system, &part, path)
 }
 
-// Keeps a file under a second name, and then puts another one in its place. If that fails, it loses the second name.
+// Keeps a file under a second name, and then puts another one in its place, with its owner and mode. If that fails, it
+// loses the second name.
 fn set_aside<S: FileSystem + Folder>(
     system: &S,
     part: &str,
@@ -201,6 +205,11 @@ fn set_aside<S: FileSystem + Folder>(
         let _ = system.remove(part);
         return Err(WholeFault::Aside(cause));
     }
+    if let Err(cause) = system.copy_rights(old, part) {
+        let _ = system.remove(part);
+        let _ = system.remove(old);
+        return Err(WholeFault::Rights(cause));
+    }
     match rename_part(system, part, path) {
         Err(WholeFault::Link(cause)) => {
             let _ = system.remove(old);
@@ -210,8 +219,25 @@ fn set_aside<S: FileSystem + Folder>(
     }
 }
 
-/// Puts a file with these bytes in place of the one at a path, which is kept beside it with `.old` at its end.
-/// Whatever happens, the whole old file or the whole new one is at the path.
+// Puts a file with these bytes in place of the one at a path, by these names beside it: one for what is made, and one
+// for what it replaces.
+fn exchange<S: FileSystem + Folder>(
+    system: &S,
+    part: &str,
+    path: &str,
+    old: &str,
+    bytes: &[u8],
+) -> Result<(), WholeFault>
+    ensures { Exchanges S.FileSystem S.Folder ⟦<S::File as BlockFile>⟧.calls system.now part.now path.now old.now
+        bytes.now result }
+{
+    check_file(system, path)?;
+    write_part(system, part, bytes)?;
+    set_aside(system, part, path, old)
+}
+
+/// Puts a file with these bytes in place of the one at a path, which is kept beside it with `.old` at its end. It has
+/// the old one's owner and mode. Whatever happens, the whole old file or the whole new one is at the path.
 ///
 /// # Errors
 ///
@@ -226,7 +252,5 @@ pub(crate) fn replace<S: FileSystem + Folder>(
 {
     let part = beside(alloc, path, ".part")?;
     let old = beside(alloc, path, ".old")?;
-    check_file(system, path)?;
-    write_part(system, &part, bytes)?;
-    set_aside(system, &part, path, &old)
+    exchange(system, &part, path, &old, bytes)
 }

@@ -1,7 +1,7 @@
-use Rattle.std.proofs.Common.{Ok, [], refl, subst}
+use Rattle.std.proofs.Common.{Ok, refl, subst}
 use Rattle.pos_survey.specs.Damages.{Breaks}
 use Rattle.pos_survey.specs.declared.fault.SurveyFault.TheVariants.{Damaged, NoMemory}
-use Rattle.pos_report.specs.Salvage.{Finds, Steps, padded}
+use Rattle.pos_report.specs.Salvage.{Finds, Steps}
 use Rattle.pos_report.proofs.GateLemmas.{begins, fails, goes_on}
 use Rattle.pos_report.proofs.salvage.salvage_totals.Goals as goal
 
@@ -13,7 +13,10 @@ loop-turn-preserved c =
 
 pub returns-in_default-clause-refused : goal.returns-in_default-clause-refused
 returns-in_default-clause-refused c =
-    fails c.args.bytes.now (padded c.args.bytes.now) [] NoMemory (begins _ _ _ refl refl) tt
+    fails _ _ _ NoMemory (begins c.args.bytes.now _ _ refl refl) tt
+
+pub returns-in_default-cut_line-clause-refused : goal.returns-in_default-cut_line-clause-refused
+returns-in_default-cut_line-clause-refused c = fails _ _ _ NoMemory (begins c.args.bytes.now _ _ refl refl) tt
 
 pub returns-in-Ok-Some-clause-refused : goal.returns-in-Ok-Some-clause-refused
 returns-in-Ok-Some-clause-refused c =
