@@ -7,7 +7,7 @@ use Rattle.pos_disk.specs.Memory.{LeftSince, Memory, Moment, state_of, synced, w
 use Rattle.pos_file.specs.Calls.{Call, is_whole}
 use Rattle.pos_file.specs.Courses.{CourseLeaves, CourseMakes, KindMakes, PutsDown, TakesAll}
 use Rattle.pos_file.specs.declared.history.CallKind.{CallKind}
-use Rattle.pos_file.specs.declared.history.CallKind.TheVariants.{Lock, Share, Measure, Resize, Read, Write, Sync}
+use Rattle.pos_file.specs.declared.history.CallKind.TheVariants.{Lock, Share, Measure, Read, Write, Sync}
 
 -- one course after another
 pub joined : (done rest : List Call) (old mid new : Memory) → CourseMakes done old mid → CourseMakes rest mid new
@@ -36,7 +36,6 @@ call_is_one : (kind : CallKind) (at : ℕ) (bytes : List ℕ) (answer : Option �
 call_is_one Lock at bytes answer old new other takes a b = cc
 call_is_one Share at bytes answer old new other takes a b = cc
 call_is_one Measure at bytes answer old new other takes a b = cc
-call_is_one Resize at bytes answer old new other takes a b = absurd a
 call_is_one Read at bytes answer old new other takes a b = cc
 call_is_one Write at bytes answer old new other takes a b =
     put_is_one (is_whole (length bytes) answer) at bytes old new other (takes refl) a b
@@ -66,7 +65,6 @@ module _ (P : Memory → Type 0) (changed : (old : Memory) (next : Moment) (sett
   call_keeps Lock at bytes answer old new made has = subst P (sym made) has
   call_keeps Share at bytes answer old new made has = subst P (sym made) has
   call_keeps Measure at bytes answer old new made has = subst P (sym made) has
-  call_keeps Resize at bytes answer old new made has = absurd made
   call_keeps Read at bytes answer old new made has = subst P (sym made.1) has
   call_keeps Write at bytes answer old new made has =
       put_keeps (is_whole (length bytes) answer) at bytes old new made has

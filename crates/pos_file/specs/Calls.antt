@@ -3,12 +3,12 @@ use Rattle.std.specs.Prelude.{ℕ, List, [], Bool, false, ◌==◌, Option, Some
 use Rattle.std.specs.declared.fs.locks.TryLockError.{TryLockError}
 use Rattle.std.specs.declared.fs.locks.TryLockError.TheVariants as lock
 use Rattle.pos_file.specs.declared.history.CallKind.{CallKind}
-use Rattle.pos_file.specs.declared.history.CallKind.TheVariants.{Lock, Share, Measure, Resize, Read, Write, Sync}
+use Rattle.pos_file.specs.declared.history.CallKind.TheVariants.{Lock, Share, Measure, Read, Write, Sync}
 
 -- One call of a file.
 pub record Call : Type 0 where
   pub kind : CallKind
-  -- the place of a read or a write, the new length of a resize, and else 0
+  -- the place of a read or a write, and else 0
   pub at : ℕ
   -- the bytes of a write, those that the buffer of a read holds after it, and else none
   pub bytes : List ℕ
@@ -47,10 +47,6 @@ share_call answer = call_of Share 0 [] answer
 -- the file is asked for its length
 abbrev pub measure_call : Option ℕ → Call
 measure_call answer = call_of Measure 0 [] answer
-
--- the file is given another length
-abbrev pub resize_call : ℕ → Option ℕ → Call
-resize_call size answer = call_of Resize size [] answer
 
 -- bytes are read from a place on, and the buffer holds these then
 abbrev pub read_call : ℕ → List ℕ → Option ℕ → Call

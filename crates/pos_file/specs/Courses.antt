@@ -5,7 +5,7 @@ use Rattle.pos_disk.specs.Memory.{Memory, state_of, synced, written}
 use Rattle.pos_disk.specs.State.{MayLeave, part}
 use Rattle.pos_file.specs.Calls.{Call, is_whole}
 use Rattle.pos_file.specs.declared.history.CallKind.{CallKind}
-use Rattle.pos_file.specs.declared.history.CallKind.TheVariants.{Lock, Share, Measure, Resize, Read, Write, Sync}
+use Rattle.pos_file.specs.declared.history.CallKind.TheVariants.{Lock, Share, Measure, Read, Write, Sync}
 
 -- bytes were put down within a range, which is loose now: these if all of them were taken, else any
 abbrev pub PutsDown : Bool → ℕ → List ℕ → Memory → Memory → Type 0
@@ -18,12 +18,11 @@ Shows true at bytes now = bytes ≡ part at (length bytes) now.present.reading
 Shows false at bytes now = Unit {0}
 
 -- What one call makes of the disk in memory that stands for the file. A sync that failed settles nothing. A lock and a
--- measure leave the disk as it is. No disk stands for a file whose length changes.
+-- measure leave the disk as it is.
 abbrev pub KindMakes : CallKind → ℕ → List ℕ → Option ℕ → Memory → Memory → Type 0
 KindMakes Lock at bytes answer old new = new ≡ old
 KindMakes Share at bytes answer old new = new ≡ old
 KindMakes Measure at bytes answer old new = new ≡ old
-KindMakes Resize at bytes answer old new = ⊥
 KindMakes Read at bytes answer old new = Shows (is_whole (length bytes) answer) at bytes old × (new ≡ old)
 KindMakes Write at bytes answer old new = PutsDown (is_whole (length bytes) answer) at bytes old new
 KindMakes Sync at bytes (Some n) old new = new ≡ synced old

@@ -1,13 +1,12 @@
 -- What a disk in a file asks of it.
-use Rattle.std.specs.Prelude.{◌≡◌, ◌++◌, ℕ, List, [], ◌∷◌, false, length, Option, Some, None, Result, Ok, Err}
+use Rattle.std.specs.Prelude.{◌≡◌, ◌+◌, ◌++◌, ℕ, List, [], ◌∷◌, false, length, Option, Some, None, Result, Ok, Err}
 use Rattle.std.specs.Bool.{MatchBool}
 use Rattle.std.specs.declared.fs.locks.TryLockError.{TryLockError}
 use Rattle.pos_disk.specs.State.{Answer}
 use Rattle.pos_disk.specs.Unkept.{is_fault, unknown_state}
 use Rattle.pos_disk.specs.declared.device.Disk.{Ghosts}
 use Rattle.pos_file.specs.Answers.{answer_of, lock_fault, synced_of}
-use Rattle.pos_file.specs.Calls.{Call, lock_call, measure_call, read_call, resize_call, share_call, sync_call}
-use Rattle.pos_file.specs.Calls.{write_call}
+use Rattle.pos_file.specs.Calls.{Call, is_whole, lock_call, measure_call, read_call, share_call, sync_call, write_call}
 use Rattle.pos_file.specs.declared.fault.DiskFileFault.{DiskFileFault}
 use Rattle.pos_file.specs.declared.fault.DiskFileFault.TheVariants as fault
 use Rattle.pos_file.specs.declared.file_disk.FileDisk.{FileDisk}
@@ -83,13 +82,14 @@ Opens calls file result = OpensBy lock_call calls file result
 abbrev pub OpensShared : {F : Type 0} → (F → List Call) → F → Result (FileDisk F) (DiskFileFault × F) → Type 0
 OpensShared calls file result = OpensBy share_call calls file result
 
--- what lengthening a disk's file answers: it has the new length, which is synced; a refusal returns it
-abbrev pub Lengthens : {F : Type 0} → (F → List Call) → FileDisk F → ℕ → Result (FileDisk F) (DiskFileFault × F)
-    → Type 0
-Lengthens calls old size (Ok disk) =
-    Asks calls old.file disk.file (resize_call size (Some 0) ∷ sync_call (Some 0) ∷ [])
-    × (disk ≡ record old { file = disk.file; size = size })
-Lengthens calls old size (Err (fault.Lengthen cause, left)) = Asks calls old.file left (resize_call size None ∷ [])
-Lengthens calls old size (Err (fault.Sync cause, left)) =
-    Asks calls old.file left (resize_call size (Some 0) ∷ sync_call None ∷ [])
-Lengthens calls old size (Err (other, left)) = ⊥
+-- what lengthening a disk's file by bytes answers: they are written behind its end, and synced; a refusal returns it
+abbrev pub Lengthens : {F : Type 0} → (F → List Call) → FileDisk F → List ℕ
+    → Result (FileDisk F) (DiskFileFault × F) → Type 0
+Lengthens calls old bytes (Ok disk) =
+    Asks calls old.file disk.file (write_call old.size bytes (Some (length bytes)) ∷ sync_call (Some 0) ∷ [])
+    × (disk ≡ record old { file = disk.file; size = old.size + length bytes })
+Lengthens calls old bytes (Err (fault.Lengthen cause, left)) = (moved : Option ℕ)
+    × (is_whole (length bytes) moved ≡ false) × Asks calls old.file left (write_call old.size bytes moved ∷ [])
+Lengthens calls old bytes (Err (fault.Sync cause, left)) =
+    Asks calls old.file left (write_call old.size bytes (Some (length bytes)) ∷ sync_call None ∷ [])
+Lengthens calls old bytes (Err (other, left)) = ⊥

@@ -2,7 +2,7 @@
 ghost use Rattle.std.specs.Prelude.{◌≡◌, ◌++◌, ◌∷◌, [], List};
 ghost use Rattle.std.specs.Io.{ReadsAtMost, WritesAtMost};
 ghost use Rattle.pos_file.specs.Calls.{Call, done_of, lock_call, locks_of, measure_call, number_of, read_call};
-ghost use Rattle.pos_file.specs.Calls.{resize_call, share_call, sync_call, write_call};
+ghost use Rattle.pos_file.specs.Calls.{share_call, sync_call, write_call};
 
 use std::fs::TryLockError;
 use std::io;
@@ -40,14 +40,6 @@ pub trait BlockFile {
     /// The system's cause if the call failed.
     fn measure(&mut self) -> io::Result<u64>
         ensures { calls self.new ≡ calls self.old ++ measure_call (number_of result) ∷ [] };
-
-    /// Cuts it to `size` bytes, or lengthens it with zeros.
-    ///
-    /// # Errors
-    ///
-    /// The system's cause if the call failed.
-    fn resize(&mut self, size: u64) -> io::Result<()>
-        ensures { calls self.new ≡ calls self.old ++ resize_call size (done_of result) ∷ [] };
 
     /// Reads bytes from place `at` on, at most as many as `out` holds, and returns how many it read.
     ///

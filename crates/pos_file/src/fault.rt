@@ -19,7 +19,7 @@ pub enum DiskFileFault {
     /// It can't be lengthened.
     #[error("it can't be lengthened: {0}")]
     Lengthen(io::Error),
-    /// It was lengthened, but the device may not have the new length.
+    /// It was lengthened, but the device may not have it.
     #[error("it can't be synced: {0}")]
     Sync(io::Error),
 }

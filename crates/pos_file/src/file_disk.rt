@@ -1,5 +1,5 @@
 //! A disk in a file.
-ghost use Rattle.std.specs.Prelude.{◌≡◌, None, false};
+ghost use Rattle.std.specs.Prelude.{◌≡◌, ◌+◌, ◌<◌, None, false, length};
 ghost use Rattle.pos_disk.specs.Unkept.{is_fault, unknown_state};
 ghost use Rattle.pos_file.specs.Answers.{answer_of};
 ghost use Rattle.pos_file.specs.Calls.{number_of};
@@ -9,6 +9,7 @@ use crate::fault::DiskFileFault;
 use pos_disk::{Disk, DiskFault};
 use std::fs::TryLockError;
 use std::io;
+use std::io::ErrorKind;
 
 /// A disk in a file, as long as the file was when it was opened.
 ///
@@ -112,26 +113,33 @@ impl<F: BlockFile + Drop> FileDisk<F> {
         }
     }
 
-    /// Lengthens the file to `size` bytes with zeros, syncs it, and returns the disk.
+    /// Lengthens the file by these bytes behind its end, syncs it, and returns the disk. They are written, so that a
+    /// device that is full later has room for them.
     ///
     /// # Errors
     ///
-    /// - `Lengthen` if the file can't be lengthened.
-    /// - `Sync` if the sync failed. The device may not have the new length then.
+    /// - `Lengthen` if they can't be written whole.
+    /// - `Sync` if the sync failed. The device may not have them then.
     ///
     /// A refusal returns the file.
-    pub fn lengthen(self, size: u64) -> Result<FileDisk<F>, (DiskFileFault, F)>
-        requires { self.has_failed ≡ false }
-        ensures { Lengthens F.calls self size result }
+    pub fn lengthen(self, bytes: &[u8]) -> Result<FileDisk<F>, (DiskFileFault, F)>
+        requires sound { self.has_failed ≡ false }
+        requires fits { self.size + length bytes.now < 18446744073709551616 }
+        ensures { Lengthens F.calls self bytes.now result }
     {
-        let mut file = self.file;
-        if let Err(cause) = file.resize(size) {
-            return Err((DiskFileFault::Lengthen(cause), file));
+        let (mut file, size) = (self.file, self.size);
+        match file.write_at(size, bytes) {
+            Ok(count) if count == bytes.len() => {}
+            Ok(_) => {
+                let cause = io::Error::from(ErrorKind::StorageFull);
+                return Err((DiskFileFault::Lengthen(cause), file));
+            }
+            Err(cause) => return Err((DiskFileFault::Lengthen(cause), file)),
         }
         match file.sync() {
             Ok(()) => Ok(FileDisk {
                 file,
-                size,
+                size: size + bytes.len() as u64,
                 has_failed: false,
             }),
             Err(cause) => Err((DiskFileFault::Sync(cause), file)),

@@ -59,8 +59,6 @@ pub enum CallKind {
     Share,
     /// Its length.
     Measure,
-    /// Another length.
-    Resize,
     /// A read.
     Read,
     /// A write.

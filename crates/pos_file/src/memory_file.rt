@@ -10,8 +10,8 @@ use std::io::ErrorKind;
 
 /// A file in memory that fails as a test sets it.
 ///
-/// A read or a write moves at most `most` bytes. A lock or a sync fails if a cause is set. Its length never changes: a
-/// call for another length always fails.
+/// A read or a write moves at most `most` bytes. A lock or a sync fails if a cause is set. Its length never changes:
+/// behind its end nothing is written.
 #[derive(Drop)]
 pub struct MemoryFile {
     bytes: Vec<u8>,
@@ -82,12 +82,6 @@ impl BlockFile for MemoryFile {
         let size = self.bytes.len() as u64;
         self.history.note(CallKind::Measure, 0, &[], Some(size));
         Ok(size)
-    }
-
-    fn resize(&mut self, size: u64) -> io::Result<()> {
-        let answer = Err(io::Error::from(ErrorKind::Unsupported));
-        self.history.note(CallKind::Resize, size, &[], None);
-        answer
     }
 
     fn read_at(&mut self, at: u64, out: &mut [u8]) -> io::Result<usize> {

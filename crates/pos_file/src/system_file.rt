@@ -60,13 +60,6 @@ impl BlockFile for SystemFile {
         answer
     }
 
-    fn resize(&mut self, size: u64) -> io::Result<()> {
-        let answer = self.file.set_len(size);
-        self.history
-            .note(CallKind::Resize, size, &[], done(&answer));
-        answer
-    }
-
     fn read_at(&mut self, at: u64, out: &mut [u8]) -> io::Result<usize> {
         let answer = self.file.read_at(out, at);
         self.history.note(CallKind::Read, at, out, number(&answer));

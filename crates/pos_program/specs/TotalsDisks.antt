@@ -1,6 +1,6 @@
 -- How the disk of the totals in a file is opened (docs/reference/console.md, "The program").
 use Rattle.std.specs.Prelude.{◌≡◌, ◌∷◌, [], ℕ, List, Bool, true, false, max, min, nat_lt, Option, Some, Result, Ok}
-use Rattle.std.specs.Prelude.{length}
+use Rattle.std.specs.Prelude.{◌⊎◌, ◌-◌, Err, length, replicate}
 use Rattle.std.specs.Bool.{MatchBool}
 use Rattle.std.specs.Fs.{new_options, with_create, with_read, with_write}
 use Rattle.std.specs.Path.{cur_dir, path_parent}
@@ -68,11 +68,12 @@ OpensDisk {F} lock calls them result =
     (answer : Result (FileDisk F) (DiskFileFault × F)) × OpensBy lock calls them answer
     × Passes (λ refusal. ReportsDisk refusal.0) answer result
 
--- what lengthening a disk to that of totals comes to
+-- what lengthening a disk to that of totals comes to: want of memory, or zeros are written behind its end
 abbrev pub LengthensDisk : {F : Type 0} → (F → List Call) → FileDisk F → Result (FileDisk F) FileFault → Type 0
-LengthensDisk {F} calls old result =
-    (answer : Result (FileDisk F) (DiskFileFault × F)) × Lengthens calls old disk_size answer
-    × Passes (λ refusal. ReportsDisk refusal.0) answer result
+LengthensDisk {F} calls old result = (result ≡ Err file.NoMemory)
+    ⊎ ((answer : Result (FileDisk F) (DiskFileFault × F))
+    × Lengthens calls old (replicate (disk_size - old.size) 0) answer
+    × Passes (λ refusal. ReportsDisk refusal.0) answer result)
 
 -- why a disk can't be mirrored
 abbrev pub ReportsMirror : MirrorFault → FileFault → Type 0

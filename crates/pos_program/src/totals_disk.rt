@@ -1,5 +1,5 @@
 //! The disk of the totals in a file, mirrored in memory.
-ghost use Rattle.std.specs.Prelude.{◌≡◌, ◌≤◌, IfOk, false, length, List, ℕ};
+ghost use Rattle.std.specs.Prelude.{◌≡◌, ◌≤◌, IfOk, false, length, List, replicate, ℕ};
 ghost use Rattle.pos_file.specs.Calls.{lock_call, share_call};
 ghost use Rattle.pos_image.specs.Layout.{disk_size};
 ghost use Rattle.pos_program.specs.Faults.{ReportsOpen};
@@ -13,7 +13,7 @@ use crate::file_system::FileSystem;
 use pos_disk::Disk;
 use pos_file::{BlockFile, DiskFileFault, FileDisk};
 use pos_mirror::{MirrorDisk, MirrorFault};
-use std::alloc::Global;
+use std::alloc::{AllocError, Global};
 use std::fs::{File, OpenOptions};
 use std::io;
 use std::path::Path;
@@ -120,16 +120,30 @@ pub fn disk_to_read<F: BlockFile + Drop>(file: F) -> Result<FileDisk<F>, FileFau
     }
 }
 
-/// Returns the disk, lengthened with zero bytes to the length of a disk of totals, 327,680 bytes, if it is shorter.
+// Returns so many zero bytes.
+fn zero_bytes(alloc: Global, count: u64) -> Result<Vec<u8>, AllocError>
+    ensures { IfOk result (λ zeros. zeros.items ≡ replicate count 0) }
+{
+    vec![in alloc; 0; count as usize]
+}
+
+/// Returns a disk that isn't longer than one of totals, lengthened with zero bytes to that length, 327,680 bytes.
 ///
 /// # Errors
 ///
-/// `Lengthen` if the file can't be lengthened, and `Sync` if the device may not have the new length.
-pub fn lengthened<F: BlockFile + Drop>(disk: FileDisk<F>) -> Result<FileDisk<F>, FileFault>
-    requires { disk.has_failed ≡ false }
+/// `Lengthen` if the file can't be lengthened, `Sync` if the device may not have it, and `NoMemory`.
+pub fn lengthened<F: BlockFile + Drop>(
+    alloc: Global,
+    disk: FileDisk<F>,
+) -> Result<FileDisk<F>, FileFault>
+    requires sound { disk.has_failed ≡ false }
+    requires short { disk.size ≤ disk_size }
     ensures { LengthensDisk F.calls disk result }
 {
-    match disk.lengthen(LENGTH) {
+    let Ok(zeros) = zero_bytes(alloc, LENGTH - disk.len()) else {
+        return Err(FileFault::NoMemory);
+    };
+    match disk.lengthen(&zeros) {
         Ok(disk) => Ok(disk),
         Err((cause, _)) => Err(fault_of_disk(cause)),
     }
@@ -201,7 +215,7 @@ pub fn open_totals<S: FileSystem + AllocGlobal>(
 
 // Returns a disk that is long enough. A shorter one is lengthened, and before that its folder is synced, so that a
 // crash leaves no disk in a file that can't be found.
-fn long_enough<S: FileSystem>(
+fn long_enough<S: FileSystem + AllocGlobal>(
     files: &S,
     path: &str,
     disk: FileDisk<S::File>,
@@ -214,7 +228,7 @@ fn long_enough<S: FileSystem>(
         return Ok(disk);
     }
     sync_folder(files, path)?;
-    lengthened(disk)
+    lengthened(files.alloc(), disk)
 }
 
 /// Opens the totals in the file at a path, which is made if it isn't there, and returns them. A file with fewer bytes

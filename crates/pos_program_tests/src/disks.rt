@@ -72,7 +72,7 @@ fn files_that_are_no_totals(rt: HostRuntime) -> Result<(), Fail> {
 
 #[test]
 fn a_file_that_is_not_lengthened(rt: HostRuntime) -> Result<(), Fail> {
-    let fault = lengthened(disk_over(small_file(rt.alloc())?)?).err();
+    let fault = lengthened(rt.alloc(), disk_over(small_file(rt.alloc())?)?).err();
     assert!(rt; matches!(fault, Some(FileFault::Lengthen(_))));
     Ok(())
 }
