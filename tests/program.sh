@@ -187,7 +187,7 @@ meets() {
   local name=$1 fault=$2 status=$3 message=$4
   shift 4
   under=(strace -o trace -e quiet=path-resolution -P faulty.disk -P "$work/faulty.disk" -P "$work"
-    -e trace=flock,statx,ftruncate,fsync,pread64,pwrite64 -e "inject=$fault")
+    -e trace=flock,statx,fsync,pread64,pwrite64 -e "inject=$fault")
   ends "$name" "$status" "pos_console: faulty.disk: $message" "$@"
   under=()
 }
@@ -209,13 +209,14 @@ formats 'a file that is told of no second time' statx:error=EIO:when=3 4 "$opene
 told 'a file that may have another name stays empty' 0 "$(wc -c < faulty.disk)"
 formats 'a folder that is not synced' fsync:error=EIO:when=1 4 \
   "its folder can't be opened and synced: Input/output error (os error 5)"
-formats 'a file that is not lengthened' ftruncate:error=EFBIG 4 "can't be lengthened: File too large (os error 27)"
+formats 'a file that is not lengthened' pwrite64:error=EFBIG:when=1 4 "can't be lengthened: File too large (os error 27)"
+formats 'a file that is lengthened in part' pwrite64:retval=15:when=1 4 "can't be lengthened: no storage space"
 formats 'a length that is not synced' fsync:error=EIO:when=2 4 "can't be synced: Input/output error (os error 5)"
 formats 'a file that is not synced' fsync:error=EIO:when=3 4 "can't be synced: check the device that it is on"
 formats 'a file that is not read' pread64:error=EIO 4 "can't be read whole: check the device that it is on"
 formats 'a file that is read in part' pread64:retval=15 4 "can't be read whole: check the device that it is on"
-formats 'a write that fails' pwrite64:error=ENOSPC:when=3 4 "$failed_format"
-formats 'a write of no byte' pwrite64:retval=0:when=2 4 "$failed_format"
+formats 'a write that fails' pwrite64:error=ENOSPC:when=4 4 "$failed_format"
+formats 'a write of no byte' pwrite64:retval=0:when=3 4 "$failed_format"
 formats 'a sync that fails' fsync:error=EIO:when=5 4 "$failed_format"
 ends 'format of it once more' 0 '' format --disk faulty.disk
 formats 'the last sync fails' fsync:error=EIO:when=6 4 "$failed_format"
@@ -544,14 +545,15 @@ told 'files on closed output: status' 5 $?
 told 'closed streams leave the file as it was' same "$(cmp -s closed.disk till.disk && echo same)"
 
 # --- syncs, by strace: between what has to settle and what follows, and before an answer is written
-# calls WORD ..: the calls of the program on the words that change a file: w where bytes are written, l where it is
-# lengthened, s where it is synced, and t where answers are written; several writes in turn are one w
+# calls WORD ..: the calls of the program on the words that change a file: w where bytes are written, s where it is
+# synced, and t where answers are written; several writes in turn are one w
 calls() {
   strace -e trace=ftruncate,pwrite64,fsync,write -o trace "$program" "$@" < script > out 2> err
   sed -n 's/^pwrite64(.*/w/p; s/^ftruncate(.*/l/p; s/^fsync(.*/s/p; s/^write(1,.*/t/p' trace | tr -d '\n' | tr -s w
 }
 rm -f traced.disk
-told 'the calls of format' slsswswsws "$(calls format --disk traced.disk)"
+told 'the calls of format' swsswswsws "$(calls format --disk traced.disk)"
+told 'a file that was formatted has each of its bytes' yes "$([ "$(stat -c '%b * %B' traced.disk | xargs expr)" -ge 327680 ] && echo yes)"
 cp traced.disk traced2.disk
 told 'the calls of a move' sswsws "$(calls migrate --disk traced2.disk)"
 printf 'new a HardTotals\nopen a t1\nset a DeviceEnabled true\ncall a create 41 4 false\ncall a setAll 1 7\n' > script
