@@ -646,6 +646,102 @@ def try_cover_behind_a_line():
             told(f"{name}: each line is whole", (4, []), (len(items), not_whole(shop.device, items)))
 
 
+def try_button_behind_a_line():
+    """A printer whose paper feed button is held, on a cable that keeps what is sent: it is offline, for no cause that
+    the till knows. It says that it goes on, so its silence means nothing before."""
+    with contextlib.ExitStack() as stack:
+        shop = Shop(stack, "holds", timeout=PATIENCE)
+        shop.begins()
+        shop.device.ROOM = 8
+        goes_on = threading.Timer(2.75, shop.device.feeds, [False])
+        shop.device.after(35, lambda: shop.device.feeds(True), goes_on.start)
+        told("the button is held in an order", None, raised(shop.control.print, TEXT))
+        goes_on.join()
+        shop.same_paper("the button is held in an order: the paper")
+    with contextlib.ExitStack() as stack:
+        name, shop, answers = "the button is held for longer than the timeout", Shop(stack, "holds"), []
+        shop.begins()
+        shop.device.ROOM = 8
+        shop.device.after(35, lambda: shop.device.feeds(True))
+        until(lambda: answers.append(raised(shop.control.print, TEXT)) or shop.till.run_devices(0.01) is None, 2.75)
+        told(f"{name}: the answers", ({(111, 0)}, True), (set(answers), shop.driver.is_online))
+        shop.device.feeds(False)
+        told(f"{name}: again", True, until(
+            lambda: shop.till.run_devices(0.01) is not None and raised(shop.control.print, TEXT) is None))
+        shop.same_paper(f"{name}: the paper")
+        told(f"{name}: nothing else", (4, 0), (len(shop.device.receipt()), shop.driver.late_orders))
+    for place in (6, 35):
+        with contextlib.ExitStack() as stack:
+            name, shop = f"off and on while the button is held after {place} bytes", Shop(stack, "holds")
+            shop.begins()
+            shop.device.ROOM = 8
+            shop.device.after(place, lambda: shop.device.feeds(True))
+            told(f"{name}: the answer", (111, 0), raised(shop.control.print, TEXT))
+            until(lambda: shop.till.run_devices(0.01) is None, 1.5)
+            # It says something else of itself, and is offline still.
+            shop.device.load(10)
+            told(f"{name}: its paper is near its end", True, until(
+                lambda: shop.till.run_devices(0.01) is not None and shop.control.rec_near_end))
+            shop.device.pull_plug()
+            shop.device.feeds(False)
+            shop.device.plug_in()
+            told(f"{name}: again", True, until(
+                lambda: shop.till.run_devices(0.01) is not None and raised(shop.control.print, TEXT) is None))
+            items = shop.till.device("r1").show().items
+            told(f"{name}: each line is whole", (4, []), (len(items), not_whole(shop.device, items)))
+
+
+def try_long_orders():
+    """An order that is longer than what the printer and its line keep. Only a little of it is out at once, so that the
+    printer gets questions meanwhile."""
+    text = b"".join(b"Line %03d, as long as lines often are\n" % number for number in range(100))
+    for kind in ("usb", "tcp", "asked"):
+        with contextlib.ExitStack() as stack:
+            name, shop = f"a long order over {kind}", Shop(stack, kind)
+            shop.device.ROOM = 3000
+            shop.device.after_characters(200, lambda: shop.device.cover(True))
+            told(f"{name}: the cover is opened", (114, 201), raised(shop.control.print, text))
+            until(lambda: shop.till.run_devices(0.01) is None, 3.5 * TIMEOUT)
+            told(f"{name}: still", ((114, 201), True), (raised(shop.control.print, text), shop.driver.is_online))
+            shop.device.cover(False)
+            told(f"{name}: it goes on", True, shop.settle())
+            told(f"{name}: again", None, raised(shop.control.print, text))
+            shop.same_paper(f"{name}: the paper")
+            told(f"{name}: nothing else", (100, 0), (len(shop.device.receipt()), shop.driver.late_orders))
+    with contextlib.ExitStack() as stack:
+        name, shop = "a long order over a line that keeps what is sent", Shop(stack, "holds", timeout=PATIENCE)
+        shop.begins()
+        shop.device.ROOM = 1024
+        # That is longer than a printer may be silent.
+        shop.device.after_characters(200, lambda: shop.device.pauses(2.75))
+        told(name, None, raised(shop.control.print, text))
+        shop.same_paper(f"{name}: the paper")
+
+
+def try_process_that_stands_still():
+    """The process stands still while an order waits for its printer, longer than its time. What the printer has
+    acknowledged meanwhile counts, also if it was silent before, and was asked whether it is there."""
+    for kind, is_silent in (("usb", False), ("tcp", False), ("asked", False), ("holds", False), ("holds", True)):
+        with contextlib.ExitStack() as stack:
+            name, stood = f"the process stands still, over {kind}, silent {is_silent}", []
+            shop = Shop(stack, kind, timeout=max(TIMEOUT, 1.0))
+            shop.begins()
+            link, device = shop.driver.link, shop.device
+            port, ready, count = link.port, link.port.ready, len(device.receipt())
+            device.hang(is_silent)
+
+            def stands_still(is_writing, seconds):
+                if seconds <= 0 or is_writing or stood or is_silent and link._asked_at is None:
+                    return ready(is_writing, seconds)
+                device.hang(False)
+                stood.append(until(lambda: len(device.receipt()) > count))
+                time.sleep(link.timeout + 0.25)
+                return False, False
+            with mock.patch.object(port, "ready", stands_still):
+                told(f"{name}: the order", (None, [True]), (raised(shop.control.print, TEXT), stood))
+            shop.same_paper(f"{name}: the paper")
+
+
 def try_silence_that_nobody_heard():
     """A printer that has said nothing while nobody looked, on a cable that keeps what is sent: it has time to answer
     before what is due counts as lost. The loop looks at its line twice, for it and for its drawer."""
@@ -1576,6 +1672,90 @@ def try_status_before_an_answer():
         told("it prints", None, raised(shop.control.print, TEXT))
 
 
+def try_status_before_a_cause():
+    """An automatic status comes after a printer was asked why it is offline, and before its answer: that is older."""
+    with contextlib.ExitStack() as stack:
+        shop = Shop(stack, made=HeldPrinter, timeout=max(TIMEOUT, 1.0))
+        shop.begins()
+        list(shop.control.events())
+        shop.device.hold(True)
+
+        def is_asked(question):
+            return until(lambda: shop.till.run_devices(0.01) is not None and b"\x10\x04" + question in shop.device.held)
+        told("a question is out", True, is_asked(b"\1"))
+        shop.device.garbage(b"\x1a")
+        told("it is offline, and asked why", True, is_asked(b"\2"))
+        # It is online, as it says by itself; its cover was open, and it had paper.
+        for answers in (b"\x10\0\0\0\x16", b"\x12"):
+            shop.device.garbage(answers)
+            shop.device.wait(lambda: not shop.device._sends)
+            until(lambda: shop.till.run_devices(0.01) is None, TIMEOUT / 4)
+        told("its cover is closed", (False, []), (shop.control.cover_open, list(shop.control.events())))
+        shop.device.hold(False)
+        told("it prints", True, until(
+            lambda: shop.till.run_devices(0.01) is not None and raised(shop.control.print, TEXT) is None))
+        shop.same_paper("a status before a cause: the paper")
+
+
+def try_late_answers():
+    """A printer that is switched on without paper and answers late, at a port that holds nothing back. It is asked
+    again meanwhile, and other questions were lost: no answer is taken for another."""
+    for kind in ("usb stays", "tcp stays"):
+        with contextlib.ExitStack() as stack:
+            name, shop = f"late answers over {kind}", Shop(stack, kind, made=HeldPrinter)
+            shop.begins()
+            device = shop.device
+            device.pull_plug()
+            with mock.patch.object(shop.driver.link, "_ask", wraps=shop.driver.link._ask) as asks:
+                told(f"{name}: questions are lost", True, until(
+                    lambda: shop.till.run_devices(0.01) is not None and asks.call_count >= 2))
+            # The bit of the drawer's pin is that of an open cover in another answer.
+            device.drawer(True)
+            with device.lock:
+                device.lines_left, device.is_short = 0, True
+            list(shop.control.events())
+            device.hold(True)
+            device.plug_in()
+            told(f"{name}: it is asked again", True, until(
+                lambda: shop.till.run_devices(0.01) is not None and device.held.count(b"\x10\x04\1") >= 2))
+            device.hold(False)
+            told(f"{name}: it has no paper", True, until(
+                lambda: shop.till.run_devices(0.01) is not None and shop.control.rec_empty))
+            told(f"{name}: its cover was never open", (False, [24]), (shop.control.cover_open, [
+                event.status for event in shop.control.events() if event.status < 2000]))
+            device.load(1000)
+            told(f"{name}: it prints with paper", True, until(
+                lambda: shop.till.run_devices(0.01) is not None and raised(shop.control.print, TEXT) is None))
+            shop.same_paper(f"{name}: the paper")
+
+
+def try_another_cause():
+    """A printer that is offline, loses its power for a moment, and is offline for another cause then, behind a port
+    that stays open. It says nothing by itself: it is asked, but rarely."""
+    for kind in ("serial", "usb stays", "tcp stays"):
+        with contextlib.ExitStack() as stack:
+            name, shop = f"another cause over {kind}", Shop(stack, kind)
+            shop.begins()
+            device = shop.device
+            device.cover(True)
+            told(f"{name}: its cover is open", (True, True), (shop.settle(), shop.control.cover_open))
+            device.pull_plug()
+            device.cover(False)
+            with device.lock:
+                device.lines_left, device.is_short = 0, True
+            device.plug_in()
+            told(f"{name}: it has no paper", True, until(lambda: shop.till.run_devices(0.01) is not None and
+                                                         shop.control.rec_empty and not shop.control.cover_open))
+            told(f"{name}: an order then", (114, 203), raised(shop.control.print, TEXT))
+            with mock.patch.object(shop.driver.link, "_asks", wraps=shop.driver.link._asks) as asks:
+                until(lambda: shop.till.run_devices(0.01) is None, 5 * TIMEOUT)
+                told(f"{name}: it is asked rarely", True, 0 < asks.call_count <= 30)
+            device.load(1000)
+            told(f"{name}: it prints with paper", True, until(
+                lambda: shop.till.run_devices(0.01) is not None and raised(shop.control.print, TEXT) is None))
+            shop.same_paper(f"{name}: the paper")
+
+
 def try_order_within_the_loop():
     """A signal's handler that orders something of a printer while the loop is at it, or at its drawer."""
     with contextlib.ExitStack() as stack:
@@ -2180,6 +2360,52 @@ def try_torn_scans():
              keys.take(typed("12")[:-48] + events + typed("3") + typed("34")))
     told("too many keys", [None, b"34"], keys.take(typed("1" * 4097) + typed("34")))
     told("all but the end of Enter is dropped", [None, b"34"], keys.take(dropped + typed("")[-24:] + typed("34")))
+
+
+def try_half_codes():
+    """A code of which nothing more comes for a second, or whose port is lost, is a failed scan. The next one is whole.
+    What comes while nobody looks belongs to what has begun."""
+    for keys in (False, True):
+        with contextlib.ExitStack() as stack:
+            till, device = stack.enter_context(opened()), stack.enter_context(Scanner(cable()))
+            till.drive("s1", driver := WedgeScanner(device.path, keys=keys, pause=PAUSE))
+            scanner, found = stack.enter_context(till.scanner("s1").in_use()), []
+            half, rest = (typed("40063")[:-48], typed("81")) if keys else (b"40063", b"81\r")
+
+            def hears(count):
+                till.run_devices(0.01)
+                scanner.data_event_enabled = True
+                for event in scanner.events():
+                    found.append(scanner.scan_data if type(event).__name__ == "DataEvent" else type(event).__name__)
+                    scanner.data_event_enabled = True
+                return len(found) >= count
+
+            def begins():
+                found.clear()
+                device.garbage(half)
+                return until(lambda: not device._sends and device.cable.unread()) and until(
+                    lambda: hears(1) or not device.cable.unread())
+
+            def told_then(name, *wanted):
+                told(f"{name}, keys {keys}", (True, list(wanted)), (until(lambda: hears(len(wanted))), found))
+            told(f"half a code, keys {keys}", (True, []), (begins(), found))
+            told_then("its rest doesn't come", "ErrorEvent")
+            device.garbage(rest)
+            told_then("the next code", "ErrorEvent", b"81")
+            begins()
+            device.pull_plug()
+            told_then("its port is lost", "ErrorEvent")
+            told(f"the scanner is off, keys {keys}", True, until(lambda: hears(2) or not driver.is_online))
+            device.plug_in()
+            told(f"the scanner is back, keys {keys}", True, until(lambda: hears(2) or driver.is_online))
+            device.garbage(rest)
+            told_then("the next code then", "ErrorEvent", b"81")
+            begins()
+            time.sleep(1.5)
+            device.garbage(rest)
+            told(f"its rest comes while nobody looks, keys {keys}", True, until(
+                lambda: not device._sends and device.cable.unread() >= len(rest)))
+            told_then("the whole code", b"4006381")
 
 
 def types_all(keyboard, codes):

@@ -31,8 +31,12 @@ _NUMBERS = 65_536
 _JOB_SIZE, _NUMBER_SIZE, _QUESTION_SIZE = 11, 4, 3
 # In how many bytes a reply is looked for at once; it has at most seven.
 _READ_AT_ONCE = 64
-# What the library has to know was asked.
-_PRINTER, _CAUSE, _PAPER_IN_ORDER = int(Asked.PRINTER), int(Asked.OFFLINE_CAUSE), int(Asked.PAPER_IN_ORDER)
+# What the library has to know was asked. The questions of DLE EOT are asked in turn: the printer, why it is offline
+# (which has twice its number), and the paper (which has twice that).
+_PRINTER, _PAPER, _PAPER_IN_ORDER = int(Asked.PRINTER), int(Asked.PAPER), int(Asked.PAPER_IN_ORDER)
+# How many pieces of an order may be due, and how many bytes behind the first of them: at any port, and at one that
+# holds back what is sent, where a question waits until they have gone out.
+_MOST_DUE, _ENOUGH, _ENOUGH_HELD = 32, 2048, 512
 # How many bytes an automatic status has, which bits tell its first byte and those behind it, and those of the first.
 _STATUS_SIZE, _FIRST_BITS, _OTHER_BITS, _FIRST = 4, 0x93, 0x90, 0x10
 # How long a lost port may take to open while other devices wait, and how often a printer is asked, in seconds.
@@ -142,8 +146,11 @@ class PrinterLink:
 
     A line that holds back what is sent keeps a part of it while the printer is off, and gives it to the printer later:
     a tail that was kept would be acknowledged as the whole. So nothing of what is due counts any more once a printer on
-    such a line has said nothing for a time, or nobody has looked for so long. One that has stopped may take nothing,
+    such a line has said nothing for a time, or nobody has looked for so long. One that is offline may take nothing,
     and needn't say anything.
+
+    Answers to questions don't say what was asked, and are counted: a slow printer and a line that holds questions back
+    are asked again before the first answer comes.
 
     An interrupt, which a signal's handler may raise between any two steps, costs at most what a lost acknowledgement
     costs. So each step stands for itself: what is to be acknowledged is noted before it may go out, and a reply is
@@ -164,6 +171,7 @@ class PrinterLink:
     _job = 0
     _start, _refresh = _ZEROS + _INITIALIZE + _STATUS_ON, _STATUS_ON
     _end_size = _JOB_SIZE
+    _most_due = _MOST_DUE
 
     def __init__(self, port: Port, timeout: float, pause: float) -> None:
         self.port, self.timeout, self._pause = port, timeout, pause
@@ -187,11 +195,13 @@ class PrinterLink:
         self._is_there = self._was_silent = self._is_refreshing = False
         # Whether bytes of the outbox may have gone out that are still in it.
         self._is_unsure = False
-        self._tried_at = self._refreshed_at = self._heard_at = self._told_at = self._looked_at = -1e9
+        self._tried_at = self._refreshed_at = self._heard_at = self._offline_at = self._looked_at = -1e9
         self._asked_at: float | None = None
-        self._asked_what = _PRINTER
-        # Whether the printer is offline and isn't asked yet why, and until when answers to earlier questions may come.
-        self._is_unclear, self._late_until = False, -1e9
+        # The last question of DLE EOT, how many aren't answered, and when it was asked or a late answer came.
+        self._asked_last, self._unanswered, self._questioned_at = _PRINTER, 0, -1e9
+        # Whether late answers come, as far as is known, and what was answered since the printer was asked.
+        self._is_late = False
+        self._heard: dict[int, tuple[Told, dict[str, str]]] = {}
 
     @property
     def is_online(self) -> bool:
@@ -199,11 +209,20 @@ class PrinterLink:
         return self._is_there and self.port.is_open
 
     def _is_told(self, signs: dict[str, str], told: list[Told]) -> None:
-        """The printer is as these replies tell, or it isn't known how it is."""
-        self.signs, self.told, self._told_at = signs, told, time.monotonic()
+        """The printer is as these replies tell, or it isn't known how it is. Answers to earlier questions are older."""
+        if not self._is_offline:
+            self._offline_at = time.monotonic()
+        self.signs, self.told = signs, told
+        self._heard.clear()
         self.statuses += bool(told)
         self.is_stopped = signs.get("offline") == "yes" and (
             signs.get("cover") == "open" or signs.get("fault") == "yes" or signs.get("paper") == "empty")
+
+    @property
+    def _is_offline(self) -> bool:
+        """Whether the printer has said that it is offline, for whatever cause. It says that it goes on before it
+        acknowledges anything more."""
+        return self.signs.get("offline") == "yes"
 
     @property
     def has_paper(self) -> bool:
@@ -242,10 +261,10 @@ class PrinterLink:
                 self._failed = None
             job = self._taken_up(data[:-self._end_size], is_once)
             self._waits_until_it_is_back()
-            while not (job.is_done or job.is_torn or self.is_stopped or self._is_due(job)) and self._has_time():
+            if not (job.is_done or job.is_torn or self.is_stopped or self._is_due(job)) and self._has_time():
                 self._post(job)
                 self._writes()
-                self._pump(lambda: job.done == job.sent or job.is_torn or self.is_stopped)
+                self._pump(lambda: job.is_done or job.is_torn or self.is_stopped, job)
         except PortError:
             self._lose()
             return False
@@ -323,6 +342,9 @@ class PrinterLink:
         silence = now - max(self._heard_at, self._began_at)
         if not self._is_held() or silence < most / 2:
             return
+        if not is_over and self.port.ready(False, 0)[0]:
+            # What has come while nobody looked comes first.
+            return
         had_time = self._asked_at is not None and now - self._asked_at >= most / 2
         if is_over or silence >= most and had_time:
             self._tears()
@@ -338,10 +360,10 @@ class PrinterLink:
             self._tears()
 
     def _is_held(self) -> bool:
-        """Whether something of a job is due of which the line may keep a part. One that has stopped says that it goes
+        """Whether something of a job is due of which the line may keep a part. One that is offline says that it goes
         on."""
         is_any = any(parcel.job is not None for parcel in self._due)
-        return is_any and self.port.holds_back and not self.is_stopped
+        return is_any and self.port.holds_back and not self._is_offline
 
     def _tears(self) -> None:
         """The printer may have lost a part of what is due, and the line may have kept the rest: nothing of it counts
@@ -353,7 +375,7 @@ class PrinterLink:
         self._drop()
         self._outbox.clear()
         self._discounts_due()
-        self._was_silent, self._asked_at, self._asked_what = True, None, _PRINTER
+        self._was_silent, self._asked_at = True, None
         self._ask_at_once()
 
     def _discounts_due(self) -> None:
@@ -361,15 +383,23 @@ class PrinterLink:
         self._due.clear()
 
     def _was_reset(self) -> bool:
-        """Whether a printer that acknowledges something has lost its power since it stopped. It would have said first
-        that it goes on."""
-        return self.is_stopped and self.port.holds_back and time.monotonic() - self._told_at > _SHORTLY
+        """Whether a printer that acknowledges something has lost its power since it was offline. It would have said
+        first that it goes on."""
+        return self._is_offline and self.port.holds_back and time.monotonic() - self._offline_at > _SHORTLY
 
     def _post(self, job: Job) -> None:
-        """Sends the pieces of a job that weren't sent yet."""
-        while job.sent < len(job.pieces):
+        """Sends the next pieces of a job, so many that no more are due than may be."""
+        pieces, first = job.pieces, job.done
+        room = _ENOUGH_HELD if self.port.holds_back else _ENOUGH
+        room -= sum(len(piece) + self._end_size for piece in pieces[first + 1:job.sent])
+        while job.sent < min(len(pieces), first + self._most_due):
+            piece = pieces[job.sent]
+            if job.sent > first:
+                room -= len(piece) + self._end_size
+                if room < 0:
+                    return
             job.sent += 1
-            self._send(job.pieces[job.sent - 1], job, job.sent)
+            self._send(piece, job, job.sent)
 
     def _send(self, piece: bytes, job: Job | None, done: int) -> None:
         """Puts a piece and the question for its acknowledgement into the outbox."""
@@ -414,15 +444,13 @@ class PrinterLink:
         self._got += data
         while self._got:
             found = bytes(self._got[:_READ_AT_ONCE])
-            asked = 0 if self._asked_at is None else self._asked_what
+            asked = self._asked_last if self._unanswered else 0
             used, text = self._reply(found, asked)
             if not used:
                 return
             if text:
                 self._answers()
                 self._hears(text, found[:used], asked)
-            elif self._is_unclear:
-                self._late_until = time.monotonic() + _APART
             del self._got[:used]
 
     def _answers(self) -> None:
@@ -432,7 +460,7 @@ class PrinterLink:
             self._comes_back()
 
     def _hears(self, text: bytes, data: bytes, asked: int) -> None:
-        """What a reply says. Only an automatic status tells of the cover."""
+        """What a reply says. Only an automatic status tells of the drawer's pin and of the cover."""
         if text.startswith(b"job "):
             if self._due and self._was_reset():
                 self._tears()
@@ -440,25 +468,57 @@ class PrinterLink:
                 self._acknowledged(int(text[4:]))
             return
         signs = signs_of(text)
-        if asked == _CAUSE and "cover" in signs:
-            signs["offline"] = "yes"
-        if "cover" in signs:
+        if "pin" in signs and "cover" in signs:
             self._is_told(signs, [Told(data, asked)])
-        self._asked_what = _PRINTER
-        # One that can't print may keep the question for its status until it can.
-        self._is_unclear = (asked == _PRINTER and "cover" not in signs and signs.get("offline") == "yes"
-                            and not self.is_stopped)
-        self._asks_on()
-        # One that is online again has sent the status that it was asked for, or has lost the question.
-        self._is_refreshing = self._is_refreshing and "cover" not in signs and signs.get("offline") != "no"
+            self._is_refreshing = False
+        else:
+            self._hears_answer(Told(data, asked), signs)
+
+    def _hears_answer(self, told: Told, signs: dict[str, str]) -> None:
+        """The answer to the last question of DLE EOT, or to an earlier one while others aren't answered."""
+        # After an interrupt an answer is read again.
+        self._unanswered = max(self._unanswered - 1, 0)
+        self._is_late = self._unanswered > 0
+        if self._is_late:
+            self._questioned_at = time.monotonic()
+            return
+        if told.asked == _PRINTER:
+            self._heard.clear()
+        elif not self._heard:
+            # The printer has told meanwhile how it is.
+            return
+        self._heard[told.asked] = told, signs
+        self._asks_more(told.asked)
+
+    def _asks_more(self, asked: int) -> None:
+        """Asks a printer that is offline why, and for its paper. One that was switched on so says nothing by itself,
+        and one that was off may have said something else before."""
+        if self._heard[_PRINTER][1].get("offline") == "yes":
+            self._asks_next(asked)
+        else:
+            # It has sent the status that it was asked for, or has lost the question.
+            self._is_refreshing = False
+
+    def _asks_next(self, asked: int) -> None:
+        """Asks the next question. The answer to the last one tells how the printer is."""
+        if asked != _PAPER:
+            self._asks(2 * asked)
+        else:
+            self._composes()
+
+    def _composes(self) -> None:
+        """Puts the answers together to what an automatic status would tell. The paper's sensor tells the most."""
+        heard = list(self._heard.values())
+        signs = {name: sign for _, told in heard for name, sign in told.items()}
+        if signs != self.signs:
+            self._is_told(signs, [told for told, _ in heard])
+            # It may have lost the question for its status.
+            self._is_refreshing = False
 
     def _comes_back(self) -> None:
         """The printer answers, for the first time or again. It may have been off: then it tells no status by itself."""
         self._puts(self._start)
         self._is_there, self._was_silent = True, False
-        if self.port.holds_back:
-            # Its line may have kept questions while it was off.
-            self._late_until = time.monotonic() + _APART
 
     def _acknowledged(self, number: int) -> None:
         """The parcel with this number is printed, and those before it are printed or lost. Nothing of what is still to
@@ -483,26 +543,34 @@ class PrinterLink:
         if data:
             self._outbox.append(_Parcel(data))
 
-    def _receive(self) -> None:
-        """Reads what has come since the last time."""
+    def _receive(self, until: Callable[[], bool] = lambda: False) -> None:
+        """Reads what has come since the last time, until something is so."""
         self._minds_absence()
         for data in self.port.waiting():
             self._takes(data)
+            if until():
+                break
         self._looked_at = time.monotonic()
 
-    def _pump(self, until: Callable[[], bool]) -> bool:
-        """Sends and reads until something is so, and returns whether it was so in time."""
+    def _pump(self, until: Callable[[], bool], posting: Job | None = None) -> bool:
+        """Sends and reads until something is so, and returns whether it was so in time. It sends on with the job that
+        is posted once nothing waits to go out."""
         while not until():
             left = self._ends_at - time.monotonic()
             if left <= 0:
-                return False
+                # The process may have been stopped meanwhile: what has come comes first.
+                self._receive(until)
+                if self._has_time():
+                    continue
+                return until()
             self._asks_on()
+            if posting is not None and posting.sent < len(posting.pieces) and not self._outbox:
+                self._post(posting)
             can_read, can_write = self.port.ready(bool(self._outbox), min(left, _OFTEN))
             data = self.port.read_some() if can_read else b""
             if data:
                 self._takes(data)
             self._looked_at = time.monotonic()
-            # What has come while nobody looked comes first.
             self._minds_silence()
             if can_write:
                 self._writes()
@@ -511,11 +579,11 @@ class PrinterLink:
         return True
 
     def _asks_on(self) -> None:
-        """Asks what a printer doesn't say by itself: why it is offline. An answer doesn't say what was asked, so those
-        to earlier questions have to come first."""
-        if self._is_unclear and self._asked_at is None and time.monotonic() >= self._late_until:
-            self._is_unclear, self._asked_what = False, _CAUSE
-            self._ask()
+        """Asks again once no late answers come any more. Those that haven't come are lost."""
+        is_over = self._is_late and time.monotonic() - self._questioned_at >= min(self.timeout / 2, _APART)
+        if is_over and not self._outbox:
+            self._unanswered, self._is_late = 0, False
+            self._asks(_PRINTER)
 
     def _writes(self) -> None:
         """Sends of the outbox what there is room for."""
@@ -577,7 +645,7 @@ class PrinterLink:
         is_heard = self._is_there and now - self._heard_at <= self.timeout
         if self._outbox:
             return
-        if not (is_heard or is_asking):
+        if not (is_heard or is_asking or self._is_late):
             self._asked_at = None
             self._ask()
             self._refreshes(now)
@@ -586,14 +654,14 @@ class PrinterLink:
 
     def _notes_silence(self) -> bool:
         """A printer that hasn't answered for the timeout counts as off, also while orders are tried again and again. By
-        then only questions wait in its line. Returns whether it hasn't. One that has stopped may take no question from
+        then only questions wait in its line. Returns whether it hasn't. One that is offline may take no question from
         a line that holds it back."""
-        if self.is_stopped and self.port.holds_back:
+        if self._is_offline and self.port.holds_back:
             return False
         is_silent = self._asked_at is not None and time.monotonic() - self._asked_at > self.timeout
         if is_silent:
             self.port.resume()
-            self._is_there, self._asked_what = False, _PRINTER
+            self._is_there = False
             self._is_told({}, [])
         return is_silent
 
@@ -601,7 +669,13 @@ class PrinterLink:
         """Asks whether the printer is there. A question that isn't answered yet counts from when it was asked first."""
         if self._asked_at is None:
             self._asked_at = time.monotonic()
-        self._puts(_STATUS_NOW + bytes([self._asked_what]))
+        self._asks(_PRINTER)
+
+    def _asks(self, question: int) -> None:
+        """Asks a question of DLE EOT."""
+        self._asked_last, self._questioned_at = question, time.monotonic()
+        self._unanswered += 1
+        self._puts(_STATUS_NOW + bytes([question]))
 
     def _ask_at_once(self) -> None:
         """Asks whether the printer is there, also if a question is out that may be lost."""
@@ -635,9 +709,12 @@ class PrinterLink:
         self._drop()
         self._outbox.clear()
         self._got.clear()
-        self._is_there = self._was_silent = self._is_refreshing = self._is_unclear = False
+        self._is_there = self._was_silent = self._is_refreshing = False
         self._is_told({}, [])
-        self._asked_at, self._asked_what = None, _PRINTER
+        self._asked_at, self._is_late, self._questioned_at = None, False, -1e9
+        if not isinstance(self.port, TcpPort):
+            # A print server may pass the answers to an earlier connection on to this one.
+            self._unanswered = 0
 
     def close(self, wire: Wire | None) -> None:
         """Ends a driver's wire, and closes the port if no other driver has one."""
@@ -649,46 +726,34 @@ class PrinterLink:
 
 class AskedLink(PrinterLink):
     """The line to a printer that says nothing by itself, and doesn't know the end of a job: it is asked. GS r is
-    answered once everything before it is printed. Its replies have no number, so one piece at a time is out. Those to
-    DLE EOT don't say what was asked, and are counted: a line may hold questions back, which were asked again
-    meanwhile.
+    answered once everything before it is printed. Its replies have no number, so one piece at a time is out: if several
+    were and one of them was lost, the answer to a later one would count for it.
 
     One that sends an automatic status, which it was told not to do, was reset: some send it whenever they are switched
     on. Its bytes would count as replies to GS r if they were read one by one."""
 
     _job = JOB_PAPER
     _start, _refresh = _ZEROS + _INITIALIZE + _STATUS_OFF, b""
-    _end_size = _QUESTION_SIZE
+    _end_size, _most_due = _QUESTION_SIZE, 1
 
     def __init__(self, port: Port, timeout: float, pause: float) -> None:
         super().__init__(port, timeout, pause)
-        # The last question of DLE EOT, how many aren't answered, and when it was asked or a late answer came.
-        self._asked_last, self._unanswered, self._questioned_at = 1, 0, -1e9
-        # Whether late answers come, as far as is known.
-        self._is_late = False
-        self._heard: dict[int, tuple[Told, dict[str, str]]] = {}
         self._rounds = 0
+
+    @property
+    def _is_offline(self) -> bool:
+        """It doesn't say by itself that it goes on. Without a cause it may as well be off."""
+        return self.is_stopped
 
     def _end(self, number: int) -> bytes:
         return self._question
 
     def _asks_on(self) -> None:
-        """Asks the questions of DLE EOT, one after the other: the printer, why it is offline, the paper. It begins
-        again if one isn't answered in time."""
+        """Asks all questions of DLE EOT, one after the other. It begins again if one isn't answered in time."""
+        super()._asks_on()
         pause = self.timeout if self._unanswered else _OFTEN
-        if self._is_late:
-            pause = min(pause, _APART)
-        if self._outbox or time.monotonic() - self._questioned_at < pause:
-            return
-        if self._is_late:
-            # The answers that haven't come are lost.
-            self._unanswered, self._is_late = 0, False
-        self._asks(1)
-
-    def _asks(self, question: int) -> None:
-        self._asked_last, self._questioned_at = question, time.monotonic()
-        self._unanswered += 1
-        self._puts(_STATUS_NOW + bytes([question]))
+        if not (self._is_late or self._outbox) and time.monotonic() - self._questioned_at >= pause:
+            self._asks(_PRINTER)
 
     def _ask(self) -> None:
         if self._asked_at is None:
@@ -741,25 +806,11 @@ class AskedLink(PrinterLink):
             assert number is not None
             self._acknowledged(number)
             return
-        self._unanswered -= 1
-        self._is_late = self._unanswered > 0
-        if self._is_late:
-            # It is to an earlier question.
-            self._questioned_at = time.monotonic()
-            return
-        self._heard[asked] = Told(data, asked), signs_of(text)
-        if asked != 4:
-            self._asks(2 * asked)
-        else:
-            self._rounds += 1
-            self._composes()
+        self._hears_answer(Told(data, asked), signs_of(text))
 
-    def _composes(self) -> None:
-        """Puts the replies together to what an automatic status would tell. The paper's sensor tells the most."""
-        heard = [self._heard[question] for question in (1, 2, 4)]
-        signs = {name: sign for _, told in heard for name, sign in told.items()}
-        if signs != self.signs:
-            self._is_told(signs, [told for told, _ in heard])
+    def _asks_more(self, asked: int) -> None:
+        self._rounds += asked == _PAPER
+        self._asks_next(asked)
 
     def _taken_up(self, data: bytes, is_once: bool) -> Job:
         self._gives_up()
@@ -768,12 +819,6 @@ class AskedLink(PrinterLink):
     def _is_due(self, job: Job) -> bool:
         """Whether any acknowledgement may still come. It wouldn't say which job it is for."""
         return bool(self._due)
-
-    def _post(self, job: Job) -> None:
-        """Sends the next piece alone. If several were out and one of them was lost, the answer to a later one would
-        count for it."""
-        job.sent += 1
-        self._send(job.pieces[job.sent - 1], job, job.sent)
 
     def _discounts_due(self) -> None:
         """What is due counts for nothing, but stays due. Its acknowledgements may still come, and mustn't count for
@@ -800,4 +845,3 @@ class AskedLink(PrinterLink):
     def _forget(self) -> None:
         super()._forget()
         self._lost_due()
-        self._unanswered, self._is_late, self._questioned_at = 0, False, -1e9

@@ -144,6 +144,8 @@ class EscPosPrinter(Driver):
     seconds, or for the timeout if that is shorter, the order has failed, and what isn't acknowledged of it is printed
     again: parts of lines may be on the paper beside the whole ones. So is what it acknowledges of an order that failed
     for no reason (FailureError) while the till doesn't look for 2 seconds, as `run_devices` does: it may have been off.
+    One that has said by itself that it is offline may be silent, as while its feed button is held: it says that it goes
+    on.
 
     Args:
         port: The port, or its name as `port_of` takes it: /dev/usb/lp0, /dev/ttyUSB0, tcp:192.168.1.9:9100.
@@ -499,6 +501,8 @@ _AIM = {b"A": 108, b"C": 110, b"E": 104, b"F": 107, b"G": 109, b"I": 106, b"L": 
 _AIM_DIGIT = {b"C1": 120, b"E3": 119, b"E4": 103, b"o1": 121, b"o2": 122}
 # The longest code, and the highest type.
 _LONGEST, _HIGHEST_KIND = 4096, 999
+# How long the rest of a code may take, in seconds.
+_REST = 1.0
 
 # Linux input events: the time, type, code and value.
 _EVENT = struct.Struct("@llHHi")
@@ -526,6 +530,11 @@ class _Lines:
     def __init__(self) -> None:
         self._begun, self._is_noise = bytearray(), False
 
+    @property
+    def has_begun(self) -> bool:
+        """Whether a code has begun whose end hasn't come."""
+        return bool(self._begun) or self._is_noise
+
     def take(self, data: bytes) -> list[bytes | None]:
         self._begun += data
         *whole, rest = bytes(self._begun).replace(b"\r", b"\n").split(b"\n")
@@ -549,6 +558,11 @@ class _Keys:
     def __init__(self) -> None:
         self._bytes, self._begun = bytearray(), bytearray()
         self._is_shifted = self._is_controlled = self._is_noise = False
+
+    @property
+    def has_begun(self) -> bool:
+        """Whether a code has begun whose end hasn't come."""
+        return bool(self._begun) or self._is_noise
 
     def take(self, data: bytes) -> list[bytes | None]:
         self._bytes += data
@@ -613,7 +627,8 @@ class WedgeScanner(Driver):
     A keyboard wedge types as a keyboard of the layout US: characters, the keypad, and Ctrl and ] for GS. A code with
     any other key is a failed scan: the scanner gets an ErrorEvent. So is one of which the system drops key events: it
     keeps about 16 characters that nobody reads. While a call waits for a printer or a display, the till reads about
-    170 more. A code from a serial line with a byte of 0 is a failed scan, too: the line has disturbed it.
+    170 more. A code from a serial line with a byte of 0 is a failed scan, too: the line has disturbed it. So is a code
+    that has begun when its port is lost, or of which `run_devices` finds nothing more a second later.
 
     Args:
         device: /dev/input/.. for a keyboard wedge, or a link to one: no other program gets its keys meanwhile. Any
@@ -637,6 +652,8 @@ class WedgeScanner(Driver):
         self._take(_is_keyboard(device) if keys is None else keys)
         self._reader = self._new_reader()
         self._kind, self._pause, self._tried_at = kind, pause, -1e9
+        # When something was read last.
+        self._read_at = -1e9
         # The codes that have come whole, and whether another one hasn't.
         self._found: deque[bytes] = deque()
         self._has_failed = False
@@ -672,9 +689,19 @@ class WedgeScanner(Driver):
             self._open()
             for data in self.port.waiting():
                 self._read(data)
+        self._minds_rest()
+
+    def _minds_rest(self) -> None:
+        """A code that has begun has failed if its port is lost, or if a look after some time finds no more of it. If
+        nobody has looked before, what is found then may have come in time."""
+        is_late = time.monotonic() - self._read_at >= _REST
+        if self._reader.has_begun and (is_late or not self.port.is_open):
+            self._has_failed, self._reader = True, self._new_reader()
 
     def _read(self, data: bytes) -> None:
         """Finds the codes in what has come."""
+        if data:
+            self._read_at = time.monotonic()
         for code in self._reader.take(data):
             if code is None or self._is_disturbed(code):
                 self._has_failed = True
