@@ -72,7 +72,9 @@ fn files_that_are_no_totals(rt: HostRuntime) -> Result<(), Fail> {
 
 #[test]
 fn a_file_that_is_not_lengthened(rt: HostRuntime) -> Result<(), Fail> {
-    let fault = lengthened(rt.alloc(), disk_over(small_file(rt.alloc())?)?).err();
+    let disk = disk_over(small_file(rt.alloc())?)?;
+    assert!(rt; disk.len() == 16);
+    let fault = lengthened(rt.alloc(), disk).err();
     assert!(rt; matches!(fault, Some(FileFault::Lengthen(_))));
     Ok(())
 }
