@@ -1,10 +1,10 @@
 """Tries the drivers of a typed layer over emulated devices (tests/emulator), by a host program in its language.
 
-Usage: native.py NAME HOST [--faults N] [--seed N] [--only WORD] [--slack SECONDS] [--replacer LIBRARY]
+Usage: native.py NAME HOST [--faults N] [--seed N] [--only WORD] [--slack SECONDS] [--preloaded LIBRARY]
 
 HOST is the program that tests/native/host.c says the commands of. N random faults are tried, by default 100, from a
 seed. --only tries what has the word in its name; --slack is how much later than its timeout a call may return.
---replacer is tests/native/replacer.c as a library, which HOST may preload. The last line is 'N passed, M failed'.
+--preloaded is tests/native/preloaded.c as a library, which HOST may preload. The last line is 'N passed, M failed'.
 """
 import argparse
 import contextlib
@@ -15,6 +15,7 @@ import os
 import pathlib
 import random
 import shutil
+import signal
 import socket
 import struct
 import subprocess
@@ -149,9 +150,10 @@ def paper_of(device):
 class Shop:
     """A host whose printer is emulated, and may be in trouble. One of the kind "asked" is simpler, on "usb"."""
 
-    def __init__(self, stack, kind="usb", words="", lines=1000, is_claimed=True, timeout=TIMEOUT, made=Printer):
+    def __init__(self, stack, kind="usb", words="", lines=1000, is_claimed=True, timeout=TIMEOUT, made=Printer,
+                 **variables):
         self.device = stack.enter_context(made(cable(kind), lines=lines, is_simple="asked" in kind))
-        self.host = Host(stack)
+        self.host = Host(stack, **variables)
         words += " asked" * ("asked" in kind) + " serial 115200" * ("serial" in kind)
         words += " serial 115200 flow rts-cts" * ("holds" in kind)
         opened = f"printer r1 {self.device.path} timeout {timeout} pause 10 lines 1000 {words}"
@@ -372,6 +374,76 @@ def try_cover_over_line():
                 told(f"{name}: again", "ok", print_receipt(shop))
                 told(f"{name}: the paper", RECEIPT, [item[1] for item in shop.paper()])
                 told(f"{name}: nothing else", "0", shop.late())
+
+
+def try_feed_button():
+    """The paper feed button of a printer is held down, so that it is offline for no cause that the till knows, and
+    takes nothing from a line with RTS/CTS. However long that is, no line is printed twice, unless its power is cut."""
+    for kind, place in itertools.product(("holds", "usb", "asked"), (10, 60, 150)):
+        name = f"the button is held after {place} bytes over {kind}"
+        with contextlib.ExitStack() as stack:
+            shop = Shop(stack, kind)
+            shop.device.ROOM = 8 if kind == "holds" else Printer.ROOM
+            shop.device.after(place, lambda: shop.device.feeds(True))
+            for turn in ("at first", "later"):
+                told(f"{name}: the answer {turn}", "err 111", print_receipt(shop))
+                end = time.monotonic() + 2 * TIMEOUT / 1000
+                until(lambda: shop.host.ask("run 10") and time.monotonic() > end)
+                told(f"{name}: it is on {turn}", "online 0", shop.host.ask("state r1"))
+            shop.device.feeds(False)
+            told(f"{name}: again", True, is_done_after_all(shop))
+            told(f"{name}: the paper", RECEIPT, [item[1] for item in shop.paper()])
+            told(f"{name}: nothing else", "0", shop.late())
+    for place in (10, 60, 150):
+        name = f"the button is held after {place} bytes of an order"
+        with contextlib.ExitStack() as stack:
+            shop = Shop(stack, "holds", timeout=AMPLE)
+            shop.device.ROOM = 8
+            timer = threading.Timer(3, shop.device.feeds, [False])
+            shop.device.after(place, lambda: shop.device.feeds(True), timer.start)
+            told(f"{name}, which has the time", "ok", print_receipt(shop))
+            timer.join()
+            told(f"{name}, which has the time: its paper", RECEIPT, [item[1] for item in shop.paper()])
+        with contextlib.ExitStack() as stack:
+            shop = Shop(stack, "holds")
+            shop.device.ROOM = 8
+            shop.device.after(place, lambda: shop.device.feeds(True))
+            told(f"{name} and its power is cut: the answer", "err 111", print_receipt(shop))
+            # What it acknowledges soon after it was offline was printed before.
+            end = time.monotonic() + 1.3
+            until(lambda: shop.host.ask("run 10") and time.monotonic() > end)
+            shop.device.pull_plug()
+            shop.device.feeds(False)
+            shop.device.plug_in()
+            told(f"{name} and its power is cut: again", True, is_done_after_all(shop))
+            told(f"{name} and its power is cut: each line is whole", [], missing(shop))
+
+
+def try_little_held():
+    """A line that holds bytes back gets little of a long receipt at once, since a question waits behind it."""
+    lines = [b"Line %d of a long receipt" % number for number in range(100)]
+    with contextlib.ExitStack() as stack:
+        shop, found = Shop(stack, "holds"), []
+        device = shop.device
+        device.ROOM = 8
+
+        def counts():
+            """How much waits for the printer while it is silent."""
+            end = time.monotonic() + TIMEOUT / 2000
+            while time.monotonic() < end:
+                found.append(len(device._got) + device.cable.waiting())
+                time.sleep(0.01)
+        counting = threading.Thread(target=counts)
+        device.after_characters(1, device.hang, counting.start)
+        told("a long receipt", "err 111", shop.print(b"\n".join(lines) + b"\n"))
+        counting.join()
+        # Some questions wait behind it.
+        told(f"what waits in the line, of which there were up to {max(found)} bytes", True, 100 < max(found) < 600)
+        device.hang(False)
+        told("the receipt again", True,
+             until(lambda: shop.host.ask("run 10") and shop.print(b"\n".join(lines) + b"\n") == "ok"))
+        printed = {item.characters for item in device.receipt()}
+        told("all of it is printed", [], [line for line in lines if line not in printed])
 
 
 def try_reset_with_open_cover():
@@ -599,6 +671,70 @@ def try_typing_between():
             told(f"{name}: the next code", [b"4006381"], scanned(shop.host, 1))
 
 
+def try_typing_while_shown():
+    """What a keyboard types while the bytes of a display's order leave this machine is read meanwhile."""
+    if WORDS.preloaded is None:
+        return
+    codes, held = [b"%02d" % number for number in range(1, 21)], CHECKS.work / "held"
+    with contextlib.ExitStack() as stack:
+        display = stack.enter_context(Display(cable()))
+        scanner = stack.enter_context(Scanner(cable()))
+        host = Host(stack, LD_PRELOAD=WORDS.preloaded, HELD=str(held))
+        told("a display and a keyboard", ["ok"] * 2,
+             [host.ask(f"display p1 {display.path} timeout {AMPLE} pause 10 serial 9600"),
+              host.ask(f"scanner s1 {scanner.path} keys pause 10")])
+        host.lines("new p LineDisplay", "open p p1", "claim p 0", "set p DeviceEnabled true",
+                   "new s Scanner", "open s s1", "claim s 0", "set s DeviceEnabled true")
+
+        def types():
+            """It types once the display shows its order, and then the line says that all is out."""
+            until(lambda: display.shows().startswith(b"Total"))
+            for code in codes:
+                scanner.types(code)
+            scanner.wait(lambda: not scanner._sends)
+            scanner.cable.settle()
+            told("what it types is read", 0, scanner.cable.unread())
+            held.unlink()
+        thread = threading.Thread(target=types)
+        held.touch()
+        thread.start()
+        told("an order of the display", "ok", host.line("call p displayTextAt 0 0 546f74616c 0"))
+        thread.join()
+        told("the codes", codes, scanned(host, len(codes)))
+
+
+def is_still(process):
+    """Whether a process is stopped."""
+    return pathlib.Path(f"/proc/{process}/stat").read_text().rpartition(")")[2].split()[0] == "T"
+
+
+def try_stopped_program():
+    """The program is stopped while it waits for a printer, and goes on only after the order's time. The printer has
+    acknowledged the order meanwhile, so it is done."""
+    if WORDS.preloaded is None:
+        return
+    for kind in ("usb", "tcp", "asked"):
+        with contextlib.ExitStack() as stack:
+            stops = CHECKS.work / "stops"
+            shop = Shop(stack, kind, timeout=2000, LD_PRELOAD=WORDS.preloaded, STOPS=str(stops))
+            device, process, is_waiting = shop.device, shop.host.program.pid, threading.Event()
+            device.after_characters(1, device.hang, is_waiting.set)
+
+            def stops_it():
+                is_waiting.wait(PATIENCE)
+                stops.touch()
+                told(f"the program is stopped over {kind}", True, until(lambda: is_still(process)))
+                device.hang(False)
+                told(f"its order is printed over {kind}", True, device.wait(lambda: len(device.receipt()) == 1))
+                time.sleep(2.5)
+                os.kill(process, signal.SIGCONT)
+            thread = threading.Thread(target=stops_it)
+            thread.start()
+            told(f"it is done over {kind}", "ok", shop.print(b"Once\n"))
+            thread.join()
+            told(f"the paper over {kind}", [("left", b"Once")], shop.paper())
+
+
 def try_tear_off():
     """The till keeps the paper of at most 500 orders of a printer that has a driver, and what it prints stays right."""
     with contextlib.ExitStack() as stack:
@@ -676,6 +812,32 @@ def try_offline():
             shop.device.cover(False)
             told(f"it goes on then over {kind}", True, shop.settle())
             told(f"that order over {kind}", "ok", shop.print(TEXT))
+            told(f"its paper over {kind}", PRINTED, shop.paper())
+
+
+def try_other_cause():
+    """A printer whose cover is open loses its power, and has no paper when it is back with its cover closed: it is
+    known why it is offline then."""
+    for kind in ("serial", "usb stays", "tcp stays"):
+        with contextlib.ExitStack() as stack:
+            shop = Shop(stack, kind)
+            device = shop.device
+
+            def shows(line, answer):
+                return until(lambda: shop.host.ask("run 10") and shop.host.line(line) == answer)
+            device.cover(True)
+            told(f"its cover is open over {kind}", True, shows("get r CoverOpen", "ok true"))
+            device.pull_plug()
+            device.cover(False)
+            with device.lock:
+                device.lines_left, device.is_short = 0, True
+            device.plug_in()
+            told(f"it has no paper over {kind}", True, shows("get r RecEmpty", "ok true"))
+            told(f"its cover is closed over {kind}", "ok false", shop.host.line("get r CoverOpen"))
+            told(f"an order then over {kind}", "err 114 203", shop.print(TEXT))
+            device.load(1000)
+            told(f"it prints with paper over {kind}", True,
+                 until(lambda: shop.host.ask("run 10") and shop.print(TEXT) == "ok"))
             told(f"its paper over {kind}", PRINTED, shop.paper())
 
 
@@ -1295,6 +1457,58 @@ def try_scanner():
                 scanned(b"456", ["ok 0", "ok 343536", "ok 343536"])
 
 
+def try_scanner_halves():
+    """A code whose end doesn't come is a failed scan, and the next one is whole. So it is if the scanner is lost within
+    a code. What comes while nobody looks belongs to what has begun."""
+    for kind in ("lines", "keys"):
+        with contextlib.ExitStack() as stack:
+            device = stack.enter_context(Scanner(cable()))
+            host = Host(stack)
+            told(f"{kind}: a scanner", "ok",
+                 host.ask(f"scanner s1 {device.path} {'keys' if kind == 'keys' else ''} pause 10"))
+            host.lines("new s Scanner", "open s s1", "claim s 0", "set s DeviceEnabled true")
+
+            def begins(digits):
+                """The front of a code comes, and is read."""
+                keys = [(digit - ord("1")) % 10 + 2 for digit in digits]
+                events = [struct.pack("@llHHi", 0, 0, 1, key, value) for key in keys for value in (1, 0)]
+                device.garbage(digits if kind == "lines" else b"".join(events))
+                device.wait(lambda: not device._sends and device.cable.unread() > 0)
+                told(f"{kind}: {digits} isn't a code", "false", host.ask("run 10"))
+
+            def ends(digits):
+                """The end of a code is there."""
+                (device.scan if kind == "lines" else device.types)(digits)
+                device.wait(lambda: not device._sends and device.cable.unread() > 0)
+
+            def comes(name, wanted):
+                told(f"{kind}: {name} comes", True, until(lambda: host.ask("run 10") == "true", 5))
+                event = host.lines("set s DataEventEnabled true", "deliver s")[1]
+                told(f"{kind}: {name}", wanted, host.line("get s ScanData") if event == "event DataEvent 0" else event)
+            failed = "event ErrorEvent 111 0 2"
+            begins(b"4006")
+            told(f"{kind}: nor is it a failed scan at once", "false", host.ask("run 400"))
+            comes("a code without an end", failed)
+            ends(b"123")
+            comes("a code after it", "ok 313233")
+            begins(b"12")
+            told(f"{kind}: its end comes soon", "false", host.ask("run 300"))
+            ends(b"34")
+            comes("a code in two parts", "ok 31323334")
+            begins(b"12")
+            time.sleep(1.5)
+            ends(b"34")
+            comes("a code whose end comes while nobody looks", "ok 31323334")
+            begins(b"4006")
+            device.pull_plug()
+            comes("a code of a scanner that is lost", failed)
+            told(f"{kind}: it is off", True, until(lambda: host.ask("run 10") and host.ask("state s1") == "offline 0"))
+            device.plug_in()
+            told(f"{kind}: it is back", True, until(lambda: host.ask("run 10") and host.ask("state s1") == "online 0"))
+            ends(b"123")
+            comes("a code of it", "ok 313233")
+
+
 def try_code_behind():
     """A code that comes right behind one that has failed is told first."""
     with contextlib.ExitStack() as stack:
@@ -1526,6 +1740,33 @@ def try_held_back():
         told("its paper", PRINTED, shop.paper())
 
 
+def try_late_causes():
+    """A printer that has no paper answers late, to questions that were put again meanwhile: none of its answers is
+    taken for another cause."""
+    for kind in ("usb", "serial", "asked"):
+        with contextlib.ExitStack() as stack:
+            shop = Shop(stack, kind, made=HeldPrinter)
+            device, ask = shop.device, shop.host.ask
+            # The bit of the drawer's pin is that of an open cover in another answer.
+            device.drawer(True)
+            told(f"the printer is well over {kind}", True, shop.settle())
+            device.hold(True)
+            told(f"it is asked again and again over {kind}", True,
+                 until(lambda: ask("run 10") and device.held.count(b"\x10\x04\1") > 2))
+            with device.lock:
+                device.lines_left, device.is_short = 0, True
+            device.hold(False)
+            told(f"it has no paper over {kind}", True,
+                 until(lambda: ask("run 10") and shop.host.line("get r RecEmpty") == "ok true"))
+            told(f"its cover is closed over {kind}", "ok false", shop.host.line("get r CoverOpen"))
+            told(f"an order then over {kind}", "err 114 203", shop.print(TEXT))
+            events = iter(lambda: shop.host.line("deliver r"), "none")
+            told(f"its cover was never open over {kind}", False, "event StatusUpdateEvent 11" in list(events))
+            device.load(1000)
+            told(f"it prints with paper over {kind}", True, until(lambda: ask("run 10") and shop.print(TEXT) == "ok"))
+            told(f"its paper over {kind}", PRINTED, shop.paper())
+
+
 def try_late_line():
     """A link to a serial line that is made after its driver was opened is set up as a serial line. /dev/tty is the line
     here, which is the terminal of the host's session."""
@@ -1615,7 +1856,7 @@ def try_totals_files():
 
 def try_replaced():
     """A file of totals in whose place another one is put just before it is locked: the till opens that one."""
-    if WORDS.replacer is None:
+    if WORDS.preloaded is None:
         return
     path, old, other = (CHECKS.work / name for name in ("totals", "old", "other"))
     begins = ("new t HardTotals", "open t t1", "set t DeviceEnabled true")
@@ -1624,7 +1865,7 @@ def try_replaced():
             host = Host(stack, PROFILE, file)
             told("totals", ["ok"] * 3 + ["ok 1"], host.lines(*begins, f"call t create {name} 1 false"))
     os.link(path, old)
-    before, variables = old.read_bytes(), {"LD_PRELOAD": WORDS.replacer, "REPLACED": str(path)}
+    before, variables = old.read_bytes(), {"LD_PRELOAD": WORDS.preloaded, "REPLACED": str(path)}
     shutil.copy(other, f"{path}.1")
     with contextlib.ExitStack() as stack:
         host = Host(stack, PROFILE, path, **variables)
@@ -1644,14 +1885,14 @@ def try_replaced():
 
 def try_removed():
     """A file of totals that is removed just before it is locked: the till creates a new one."""
-    if WORDS.replacer is None:
+    if WORDS.preloaded is None:
         return
     path, begins = CHECKS.work / "totals", ("new t HardTotals", "open t t1", "set t DeviceEnabled true")
     with contextlib.ExitStack() as stack:
         host = Host(stack, PROFILE, path)
         told("totals", ["ok"] * 3 + ["ok 1"], host.lines(*begins, "call t create 4f4c44 1 false"))
     with contextlib.ExitStack() as stack:
-        host = Host(stack, PROFILE, path, LD_PRELOAD=WORDS.replacer, REMOVED=str(path))
+        host = Host(stack, PROFILE, path, LD_PRELOAD=WORDS.preloaded, REMOVED=str(path))
         told("new totals are created", ["ok"] * 3 + ["err 109", "ok 1"],
              host.lines(*begins, "call t find 4f4c44", "call t create 4e4557 1 false"))
     told("their file is there", True, path.exists())
@@ -2754,6 +2995,6 @@ if __name__ == "__main__":
     reader.add_argument("--seed", type=int, default=1)
     reader.add_argument("--only", default="")
     reader.add_argument("--slack", type=float, default=1.5)
-    reader.add_argument("--replacer")
+    reader.add_argument("--preloaded")
     WORDS = reader.parse_args()
     main()

@@ -3,7 +3,7 @@
 # (tests/native.py says what): the layer of C as it is, and under the address and the undefined behaviour sanitizer;
 # the crate of Rust. valgrind looks for what the layer of C forgets, tests/native/system.c tries what only the system
 # can do, tests/native/memory.c what the library says without memory, and tests/native/cost.c says what an order costs.
-# tests/native/replacer.c replaces a file of totals that a host opens.
+# tests/native/preloaded.c changes what the system does for a host.
 # It installs nothing, and a missing tool is a failure that names its package.
 # Usage: tests/native.sh [WORD ..]. The words are those of tests/native.py: --faults N (100 random faults by default),
 # --seed N, --only WORD. KIJOLVAR_ARCHIVE names a library in place of the one that rt lib builds. Its last line is
@@ -106,8 +106,8 @@ runs "what tries want of memory is built" gcc -std=c99 "${strict[@]}" -O1 -g -fs
 runs "lines that are held where memory runs out" "$work/memory"
 runs "the host in C++17 is built" g++ -std=c++17 "${strict[@]}" -O1 -x c++ "$here/host.c" "$abi"/c/kij_*.c -x none \
   -o "$work/plus" "${bare[@]}"
-runs "what replaces a file is built" gcc -std=c99 "${strict[@]}" -O1 -shared -fPIC -o "$work/replacer.so" \
-  "$here/replacer.c"
+runs "what is preloaded is built" gcc -std=c99 "${strict[@]}" -O1 -shared -fPIC -o "$work/preloaded.so" \
+  "$here/preloaded.c"
 cat > "$work/watched" <<END
 #!/bin/sh
 exec valgrind -q --error-exitcode=99 --undef-value-errors=no --leak-check=full --sim-hints=lax-ioctls "$work/host" "\$@"
@@ -123,14 +123,14 @@ runs "the host in Rust is built with a heap" env CARGO_TARGET_DIR="$work/heaped"
   --features heap --manifest-path "$here/rust/Cargo.toml" -- -C link-arg="$work/scarce.o" \
   -C link-arg=-Wl,--wrap=rattle_alloc,--wrap=rattle_realloc
 
-tries "C" "$work/host" --replacer "$work/replacer.so" "$@"
+tries "C" "$work/host" --preloaded "$work/preloaded.so" "$@"
 tries "C with sanitizers" "$work/checked" "$@"
 for word in plain display scanner drawer; do
   tries "C, watched: $word" "$work/watched" --slack 8 "$@" --only "$word"
 done
 tries "C, want of memory" "$work/heap" "$@" --only memory
 tries "C++" "$work/plus" "$@" --only plain
-tries "Rust" "$work/target/release/host" --replacer "$work/replacer.so" "$@"
+tries "Rust" "$work/target/release/host" --preloaded "$work/preloaded.so" "$@"
 tries "Rust, want of memory" "$work/heaped/release/host" "$@" --only memory
 collects
 

@@ -654,7 +654,8 @@ typedef struct kij_scanner_settings {
  * seconds, or for the timeout if that is shorter, an order over such a line fails. What it hasn't acknowledged by then
  * is sent again by a retry, once the printer answers, so that each line is whole on the paper; some may be there twice.
  * So is what it acknowledges of an order that failed for no reason (KIJ_E_FAILURE) while the till doesn't look for 2
- * seconds (kij_run_devices): it may have been off.
+ * seconds (kij_run_devices): it may have been off. A printer that has said by itself that it is offline, as while its
+ * paper feed button is held down, may be silent for longer, since it says that it goes on.
  * With `is_asked` the next order waits first for an answer to what was sent before. If none comes for the timeout, it
  * fails, and the one after it is sent.
  *
@@ -695,7 +696,8 @@ kij_result kij_serial_display_open(kij_till *till, const char *device, const cha
  * system keeps about 16 characters. If it drops some, the scan has failed (kij_input_scan_fault). So has one of more
  * than 4,096 bytes, and one with a key that is neither a character of the layout nor of its keypad, nor Num Lock. The
  * control key and ] are the separator GS. Over a serial line a code with a 0 byte has failed too: the system gives one
- * in place of a byte whose parity is wrong.
+ * in place of a byte whose parity is wrong. So has one without a terminator, once the till has looked and nothing has
+ * come for a second, or the port is lost.
  *
  * @param device   the name of a scanner of the profile
  * @param port     /dev/input/.. for a keyboard wedge; else as kij_escpos_printer_open takes it

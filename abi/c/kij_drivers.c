@@ -11,8 +11,9 @@
 static kij_result plain(int code) { return kij_internal_result(code, 0, KIJ_NO_CATEGORY); }
 
 /* How long a lost port may take to open while other devices wait, how long a drawer may take to open, how long output
-   that has failed waits, and after how long without an order nobody knows what a display shows, in milliseconds. */
-static const int64_t quickly = 20, briefly = 250, settle = 1000, rest = 100, unseen = 10000;
+   that has failed waits, after how long without an order nobody knows what a display shows, and after how long without
+   a byte a code that has begun has no end, in milliseconds. */
+static const int64_t quickly = 20, briefly = 250, settle = 1000, rest = 100, unseen = 10000, lull = 1000;
 
 /* The longest code of a scanner and the highest type, how many ports are waited for at once, of how many orders of a
    printer the till keeps the paper, and from how many lines before the near end on a roll is long; as many as a request
@@ -290,6 +291,15 @@ static bool show_bytes(kij_till *till, kij_drive *drive) {
     return kij_internal_order_bytes(till, &drive->wire, true, 65538, bytes) == KIJOLVAR_OK;
 }
 
+/* Whether all that a display was sent has left this machine in time. */
+static bool is_drained(kij_till *till, kij_port *port, int64_t end) {
+    while (kij_internal_port_is_draining(port)) {
+        if (kij_internal_now() >= end) return false;
+        kij_internal_rest_typing(till, 1);
+    }
+    return kij_internal_port_is_open(port);
+}
+
 /* Shows an order: whether its bytes are out. */
 static bool show(kij_till *till, kij_drive *drive) {
     kij_buffer *bytes = &till->drives->order;
@@ -306,10 +316,10 @@ static bool show(kij_till *till, kij_drive *drive) {
         if (can_read && !kij_internal_port_read(port, drive->got, sizeof drive->got, &count)) return false;
         if (can_write && !kij_internal_port_write(port, bytes->bytes + sent, bytes->size - sent, &count)) return false;
         if (can_write) sent += count;
-        else if (can_read && count == 0) kij_internal_sleep(1);
+        else if (can_read && count == 0) kij_internal_rest_typing(till, 1);
     }
     drive->is_new = false;
-    if (sent == bytes->size && kij_internal_port_drained(port, end)) return true;
+    if (sent == bytes->size && is_drained(till, port, end)) return true;
     if (!kij_internal_port_is_open(port)) return false;
     /* The display has a part of it. */
     port->error = ETIMEDOUT;
@@ -596,6 +606,13 @@ static int scan(kij_till *till, kij_drive *drive, bool *is_any) {
     return code;
 }
 
+/* What has begun of a code gets no end any more: the scan has failed, and what comes next is another code. */
+static void give_up_code(kij_drive *drive) {
+    if (drive->begun_size > 0 || drive->is_torn) drive->has_failed = true;
+    drive->begun_size = 0;
+    drive->is_shifted = drive->is_control = drive->is_torn = false;
+}
+
 static void add_byte(kij_drive *drive, uint8_t byte) {
     if (drive->begun_size < LONGEST_CODE) drive->begun[drive->begun_size] = byte;
     if (drive->begun_size <= LONGEST_CODE) drive->begun_size++;
@@ -713,8 +730,10 @@ static bool may_type(const kij_drive *drive) {
 /* Takes key events. A keyboard that gives none is left alone: it may be lost, which is seen once its codes are told. */
 static void take_typed(kij_drive *drive) {
     ssize_t found = read(drive->port.file, drive->got + drive->got_size, sizeof drive->got - drive->got_size);
-    if (found > 0) drive->got_size += (size_t)found;
-    else if (found == 0 || (errno != EAGAIN && errno != EINTR)) drive->port.was_empty = true;
+    if (found == 0 || (found < 0 && errno != EAGAIN && errno != EINTR)) drive->port.was_empty = true;
+    if (found <= 0) return;
+    drive->got_size += (size_t)found;
+    drive->heard_at = kij_internal_now();
 }
 
 /* Takes what a scanner has typed: the file where more may come, or -1. */
@@ -722,6 +741,15 @@ static int read_ahead(kij_drive *drive) {
     if (drive->is_own) return drive->own.read_ahead == NULL ? -1 : drive->own.read_ahead(drive->context);
     if (may_type(drive)) take_typed(drive);
     return may_type(drive) ? drive->port.file : -1;
+}
+
+void kij_internal_rest_typing(kij_till *till, int64_t time) {
+    int64_t end = kij_internal_now() + time;
+    do {
+        for (kij_drive *drive = till->drives->first; drive != NULL; drive = drive->next)
+            if (drive->category == KIJ_SCANNER) (void)read_ahead(drive);
+        kij_internal_sleep(1);
+    } while (kij_internal_now() < end);
 }
 
 void kij_internal_wait_typing(kij_till *till, const kij_port *port, bool is_writing, int64_t time, bool *can_read,
@@ -744,8 +772,8 @@ void kij_internal_wait_typing(kij_till *till, const kij_port *port, bool is_writ
     kij_internal_port_is_ready(&waiting[0], can_read, can_write);
 }
 
-/* Reads what a scanner has sent: a code of enum kij_code. A control ignores codes from a failed scan on, so those that
-   have come are first. */
+/* Reads what a scanner has sent: a code of enum kij_code. It sends each code in one go. A control ignores codes from a
+   failed scan on, so those that have come are first. */
 static int scans(kij_till *till, kij_drive *drive, bool *is_any) {
     static const kij_word fault = KIJ_WORD(" fault");
     kij_port *port = &drive->port;
@@ -756,8 +784,11 @@ static int scans(kij_till *till, kij_drive *drive, bool *is_any) {
         kij_internal_port_wait(port, false, 0, &can_read, &can_write);
         if (!can_read || !kij_internal_port_read(port, drive->got + drive->got_size, room, &count) || count == 0) break;
         drive->got_size += count;
+        drive->heard_at = kij_internal_now();
         code = take_scans(till, drive, &is_code);
     }
+    bool is_over = !kij_internal_port_is_open(port) || kij_internal_now() - drive->heard_at >= lull;
+    if (code == KIJ_OK && is_over) give_up_code(drive);
     if (code == KIJ_OK && drive->has_failed && !is_code) {
         code = tell_scan(till, drive, &fault, NULL, 0, &drive->has_failed);
         is_code = !drive->has_failed;
@@ -775,8 +806,7 @@ static void connect_port(kij_drive *drive, int64_t time) {
     kij_internal_port_open(&drive->port, time);
     drive->tried_at = kij_internal_now();
     drive->is_new = true;
-    drive->begun_size = drive->got_size = 0;
-    drive->is_shifted = drive->is_control = drive->is_torn = false;
+    drive->got_size = 0;
 }
 
 /* Reads what a device has said, and looks for one that was lost, without waiting. */

@@ -177,17 +177,14 @@ typedef struct kij_link {
     int64_t looked_at;
     int64_t tried_at;
     int64_t refreshed_at;
-    /* Whether it is offline and isn't asked yet why, and until when answers to earlier questions may come. */
-    bool is_unclear;
-    int64_t late_until;
-    /* The question that was put last, and how many statuses had come when one that is offline was asked why. Of one
-       that is asked: how many have no answer, whether late answers come, when one was put or such an answer came, and
-       what was heard of 1, 2 and 4. */
+    /* The question that was put last, how many have no answer, whether late answers come, when one was put or such an
+       answer came, how many statuses had come at the answer to question 1, what was heard of 1, 2 and 4, and how often
+       all three were answered. */
     uint32_t question;
-    uint64_t asked_why_at;
     unsigned unanswered;
     bool has_late_answers;
     int64_t questioned_at;
+    uint64_t asked_why_at;
     kij_told heard[3];
     kij_signs hearing;
     unsigned rounds;
@@ -232,10 +229,11 @@ typedef struct kij_drive {
     int64_t tried_at;
     int64_t shown_at;
     bool is_new;
-    /* A scanner: what of a code has come, of key events, whether a shift and a control key are down, whether a part of
-       the code was lost, whether a whole code couldn't be told for want of memory, and whether a failed scan is to be
-       told. */
+    /* A scanner: what of a code has come, and when the last byte did; of key events, whether a shift and a control key
+       are down; whether a part of the code was lost, whether a whole code couldn't be told for want of memory, and
+       whether a failed scan is to be told. */
     int type;
+    int64_t heard_at;
     bool is_shifted;
     bool is_control;
     bool is_torn;
@@ -340,6 +338,9 @@ void kij_internal_port_resume(const kij_port *port);
 void kij_internal_wait_typing(kij_till *till, const kij_port *port, bool is_writing, int64_t time, bool *can_read,
                               bool *can_write);
 
+/* Waits for so many milliseconds, and takes what keyboards type meanwhile. */
+void kij_internal_rest_typing(kij_till *till, int64_t time);
+
 /* What is waited for at a port, and whether it has come. */
 struct pollfd kij_internal_port_waiting(const kij_port *port, bool is_writing);
 void kij_internal_port_is_ready(const struct pollfd *found, bool *can_read, bool *can_write);
@@ -353,8 +354,9 @@ bool kij_internal_port_read(kij_port *port, void *bytes, size_t room, size_t *co
 /* Writes what there is room for. False if the port was lost: it is closed then. */
 bool kij_internal_port_write(kij_port *port, const void *bytes, size_t size, size_t *count);
 
-/* Whether all that was written has left this machine before a time. If the port was lost, it is closed then. */
-bool kij_internal_port_drained(kij_port *port, int64_t end);
+/* Whether something that was written hasn't left this machine, if that is known. If the port was lost, it is closed
+   then. */
+bool kij_internal_port_is_draining(kij_port *port);
 
 /* kij_links.c */
 

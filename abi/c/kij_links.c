@@ -26,8 +26,10 @@ enum {
     /* What the library has to know was asked: DLE EOT 1, and GS r 1. */
     ASKED_NOW = 1,
     ASKED_PAPER = 5,
-    /* How much goes out at once. */
-    ENOUGH = 2048
+    /* How much goes out at once, and how much is unacknowledged at most in a line that holds bytes back: a question
+       waits behind it. */
+    ENOUGH = 2048,
+    ENOUGH_HELD = 512
 };
 
 /* How long a lost port may take to open while other devices wait, how often a printer is asked, how long its late
@@ -43,11 +45,19 @@ bool kij_internal_link_is_online(const kij_link *link) {
     return kij_internal_port_is_open(&link->port) && link->is_there;
 }
 
-/* Whether the printer has said that it prints nothing now, and why. */
+/* Whether the printer has said last that it prints nothing now. */
+static bool is_offline(const kij_link *link) { return link->told_count > 0 && link->signs.is_offline; }
+
+/* Whether it has also said why. Nothing says that its paper feed button is held down. */
 static bool is_stopped(const kij_link *link) {
     const kij_signs *signs = &link->signs;
-    return link->told_count > 0 && signs->is_offline &&
-           (signs->is_cover_open || signs->has_fault || signs->paper == KIJ_PAPER_EMPTY);
+    return is_offline(link) && (signs->is_cover_open || signs->has_fault || signs->paper == KIJ_PAPER_EMPTY);
+}
+
+/* Whether a printer may be silent for long, and is still there: it takes nothing over a line that holds bytes back, and
+   says that it goes on before it acknowledges anything. One that is asked says that only if it is asked. */
+static bool may_be_silent(const kij_link *link) {
+    return kij_internal_port_holds_back(&link->port) && (link->is_asked ? is_stopped(link) : is_offline(link));
 }
 
 /* Puts bytes that nothing acknowledges out next. If there is no room, the printer takes nothing. */
@@ -69,33 +79,29 @@ static bool is_idle(const kij_link *link) { return link->out_sent == link->out.s
 static void put_question(kij_link *link, uint32_t question) {
     const uint8_t bytes[3] = {0x10, 0x04, (uint8_t)question};
     link->question = question;
-    put(link, bytes, sizeof bytes);
-}
-
-/* Puts a question of DLE EOT whose answer is waited for. */
-static void ask_for(kij_link *link, uint32_t question) {
     link->questioned_at = kij_internal_now();
     link->unanswered++;
-    put_question(link, question);
+    put(link, bytes, sizeof bytes);
 }
 
 /* Whether a question goes out at once. In a line that holds bytes back it would only wait with those before it. */
 static bool may_ask(const kij_link *link) { return is_idle(link) && !kij_internal_port_is_holding(&link->port); }
 
-/* Asks a printer that says nothing by itself how it is: the printer, why it is offline, the paper, one after another.
-   It begins again if one isn't answered in time. */
+/* Asks a printer how it is that says nothing by itself, or whose late answers have told nothing: the printer, why it is
+   offline, the paper, one after another. It begins again if one isn't answered in time, or late answers have ended. */
 static void ask_on(kij_link *link) {
     int64_t time = link->unanswered > 0 ? link->timeout : often;
     if (link->has_late_answers) time = least(time, apart);
-    if (!link->is_asked || !may_ask(link) || kij_internal_now() - link->questioned_at < time) return;
+    else if (!link->is_asked) return;
+    if (!may_ask(link) || kij_internal_now() - link->questioned_at < time) return;
     /* The late answers that haven't come are lost. */
     if (link->has_late_answers) link->unanswered = 0;
     link->has_late_answers = false;
-    ask_for(link, 1);
+    put_question(link, ASKED_NOW);
 }
 
 /* Asks whether the printer is there. It may have been off meanwhile, and have forgotten that it is to say how it is: it
-   is told again. One that has stopped isn't, since it would keep that until it goes on. */
+   is told again. One that is offline isn't, since it would keep that until it goes on. */
 static void ask(kij_link *link) {
     link->asked_at = kij_internal_now();
     link->was_asked = true;
@@ -103,7 +109,7 @@ static void ask(kij_link *link) {
         ask_on(link);
     } else {
         put_question(link, ASKED_NOW);
-        if (link->is_there && !is_stopped(link)) put_refresh(link);
+        if (link->is_there && !is_offline(link)) put_refresh(link);
     }
     link->was_sent = is_idle(link);
 }
@@ -113,15 +119,8 @@ static bool has_question(const kij_link *link) { return link->is_asked ? link->u
 
 /* Asks whether the printer is there, though other bytes may wait. */
 static void ask_now(kij_link *link) {
-    if (link->is_asked) ask_for(link, ASKED_NOW);
+    if (link->is_asked) put_question(link, ASKED_NOW);
     else ask(link);
-}
-
-/* Asks a printer that is offline why, once late answers have come. */
-static void ask_why(kij_link *link) {
-    if (!link->is_unclear || link->was_asked || !may_ask(link) || kij_internal_now() < link->late_until) return;
-    link->is_unclear = false;
-    ask_now(link);
 }
 
 /* ---- Jobs and parcels ---- */
@@ -219,20 +218,28 @@ static bool is_doubtful(const kij_link *link) {
     return link->was_silent && kij_internal_port_holds_back(&link->port);
 }
 
+/* Whether the next piece of an order, which ends here, may go out though others aren't acknowledged. */
+static bool may_send(const kij_link *link, const kij_job *job, size_t end) {
+    /* Answers to GS r have no number: one piece is out at a time, so that none counts for another. */
+    size_t count = due_of(link, job), most = link->is_asked ? 1 : KIJ_DUE_OF_JOB;
+    if (count == 0 || !kij_internal_port_holds_back(&link->port)) return count < most;
+    uint64_t unacknowledged = link->put_out - link->due[0].place + (end - job->sent) + link->end_size;
+    return count < most && unacknowledged <= ENOUGH_HELD;
+}
+
 /* Puts out what comes next, once nothing is left of what went out before: what nothing acknowledges, and then pieces of
    the order. */
 static void fill(kij_link *link) {
     kij_job *job = is_doubtful(link) ? NULL : link->posting;
-    /* Answers to GS r have no number: one piece is out at a time, so that none counts for another. */
-    size_t most = link->is_asked ? 1 : KIJ_DUE_OF_JOB;
     if (link->out_sent < link->out.size) return;
     link->out.size = link->out_sent = 0;
     if (link->control_size > 0 && kij_internal_buffer_add(&link->out, link->control, link->control_size)) {
         link->put_out += link->control_size;
         link->control_size = 0;
     }
-    while (job != NULL && !job->is_all_sent && link->out.size < ENOUGH && due_of(link, job) < most) {
+    while (job != NULL && !job->is_all_sent && link->out.size < ENOUGH) {
         size_t end = piece_end(&job->data, job->sent);
+        if (!may_send(link, job, end)) return;
         if (!send_parcel(link, job->data.bytes + job->sent, end - job->sent, job)) return;
         job->sent = end;
         job->is_all_sent = end == job->data.size;
@@ -292,10 +299,9 @@ static int64_t quiet_of(const kij_link *link) {
     return kij_internal_now() - greatest(link->heard_at, link->began_at);
 }
 
-/* Whether a line may hold back a part of what is due. A printer that has stopped may take nothing, and says that it
-   goes on. */
+/* Whether a line may hold back a part of what is due for a printer that should say something. */
 static bool is_held(const kij_link *link) {
-    return kij_internal_port_holds_back(&link->port) && is_any_due(link) && !is_stopped(link);
+    return kij_internal_port_holds_back(&link->port) && is_any_due(link) && !may_be_silent(link);
 }
 
 /* Looks whether a printer says anything of an order, or answers, if its line holds bytes back. It has time to answer,
@@ -343,11 +349,10 @@ static void acknowledge(kij_link *link, size_t last) {
     }
 }
 
-/* Whether a printer that acknowledges something has lost its power since it stopped. Otherwise it would have said first
-   that it goes on. */
+/* Whether a printer that acknowledges something has lost its power since it was offline. Otherwise it would have said
+   first that it goes on. */
 static bool was_reset(const kij_link *link) {
-    return kij_internal_port_holds_back(&link->port) && is_stopped(link) &&
-           kij_internal_now() - link->told_at > shortly;
+    return may_be_silent(link) && kij_internal_now() - link->told_at > shortly;
 }
 
 /* A job is acknowledged, if one of the number is due. */
@@ -430,8 +435,6 @@ static void come_back(kij_link *link) {
     if (!link->is_started || link->port.kind == KIJ_PORT_SERIAL) put_start(link);
     link->is_there = true;
     link->is_started = link->was_silent = link->is_refreshing = false;
-    /* A line may have kept questions for it. */
-    if (kij_internal_port_holds_back(&link->port)) link->late_until = kij_internal_now() + apart;
 }
 
 /* The printer has answered something. */
@@ -460,24 +463,36 @@ static void compose(kij_link *link) {
     }
 }
 
-/* A printer that is offline and hasn't said so by itself was so when it was switched on. It keeps what tells it to say
-   how it is until it goes on. So it is asked why, and for its paper, which it answers at once. */
-static void take_cause(kij_link *link, const char *line, const kij_told *told) {
-    if (told->asked == ASKED_NOW) {
+/* The answer to a question of DLE EOT. A printer that says by itself how it is gets the other two questions while it is
+   offline: if it was off meanwhile, it may be so for another cause, and says nothing until it goes on. */
+static void take_part(kij_link *link, const char *line, const kij_told *told) {
+    /* Answers don't say what was asked. Questions are put again if they aren't answered, and may only have waited. */
+    link->unanswered--;
+    link->has_late_answers = link->unanswered > 0;
+    if (link->has_late_answers) {
+        link->questioned_at = kij_internal_now();
+        return;
+    }
+    if (link->question == ASKED_NOW) {
         link->asked_why_at = link->statuses;
         memset(&link->hearing, 0, sizeof link->hearing);
     }
-    link->question = ASKED_NOW;
-    /* It has said it meanwhile. */
+    /* It has said it by itself meanwhile. */
     if (link->statuses != link->asked_why_at) return;
-    link->heard[told->asked / 2] = *told;
+    link->heard[link->question / 2] = *told;
     hear(&link->hearing, line);
-    if (told->asked < 4) put_question(link, 2 * told->asked);
-    else compose(link);
+    if (!link->is_asked && !link->hearing.is_offline) {
+        /* It prints again, and hasn't said so: it was off, and has lost that it is to say how it is. */
+        if (is_offline(link)) put_refresh(link);
+        return;
+    }
+    if (link->question != 4) {
+        put_question(link, 2 * link->question);
+        return;
+    }
+    link->rounds++;
+    compose(link);
 }
-
-/* Whether the printer has said by itself that it is offline, which is one reply. */
-static bool has_said_offline(const kij_link *link) { return link->told_count == 1 && link->signs.is_offline; }
 
 /* A reply of a printer that says by itself how it is: an acknowledgement, an automatic status, which alone has several
    bytes, or the answer to a question. */
@@ -491,42 +506,18 @@ static void take_reply(kij_link *link, const char *text, const kij_told *told) {
         link->told[0] = *told;
         link->told_count = 1;
         link->told_at = kij_internal_now();
-        link->is_refreshing = link->is_unclear = false;
+        link->is_refreshing = false;
         link->statuses++;
-    } else if (told->asked != ASKED_NOW) {
-        take_cause(link, line, told);
-    } else if (says(line, "offline", "yes") && !has_said_offline(link)) {
-        /* An answer doesn't say what was asked: one to an earlier question would be taken for the cause. */
-        link->is_unclear = kij_internal_now() < link->late_until;
-        if (!link->is_unclear) take_cause(link, line, told);
-    } else if (is_stopped(link) && says(line, "offline", "no")) {
-        /* It prints again, and hasn't said so: it was off, and has lost that it was asked. */
-        put_refresh(link);
+    } else {
+        take_part(link, line, told);
     }
 }
 
 /* A reply of a printer that is asked, which is a byte. */
 static void take_answer(kij_link *link, const char *text, const kij_told *told) {
     answered(link);
-    if (told->asked == ASKED_PAPER) {
-        acknowledge(link, 0);
-        return;
-    }
-    /* The answers don't say what was asked, and a line may hold questions back that were asked again meanwhile. */
-    link->unanswered--;
-    link->has_late_answers = link->unanswered > 0;
-    if (link->has_late_answers) {
-        link->questioned_at = kij_internal_now();
-        return;
-    }
-    link->heard[link->question / 2] = *told;
-    hear(&link->hearing, last_line(text));
-    if (link->question != 4) {
-        ask_for(link, 2 * link->question);
-        return;
-    }
-    link->rounds++;
-    compose(link);
+    if (told->asked == ASKED_PAPER) acknowledge(link, 0);
+    else take_part(link, last_line(text), told);
 }
 
 /* A printer that is asked has sent an automatic status, although it was told to send none: it was reset. What is due
@@ -578,26 +569,19 @@ static void take_byte(kij_link *link, uint8_t byte) {
 static bool take_first(kij_link *link) {
     char text[256];
     size_t used = 0, skipped = 0, needed = 0;
-    uint32_t asked = link->was_asked || link->question > ASKED_NOW ? link->question : 0;
+    uint32_t asked = link->unanswered > 0 ? link->question : 0;
     uint32_t code = read_reply(link, asked, link->got, link->got_size, &used, &skipped, text, sizeof text - 1, &needed);
     if (code != KIJOLVAR_OK || used == 0) return false;
     text[needed] = 0;
-    if (needed > 0) {
-        kij_told told;
-        memset(&told, 0, sizeof told);
-        told.asked = asked;
-        /* What isn't the reply was skipped before it. */
-        told.size = used - skipped < sizeof told.bytes ? used - skipped : sizeof told.bytes;
-        memcpy(told.bytes, link->got + used - told.size, told.size);
-        link->got_size -= used;
-        memmove(link->got, link->got + used, link->got_size);
-        take_reply(link, text, &told);
-        return true;
-    }
-    /* It is a late answer, and more may come. */
-    if (link->is_unclear) link->late_until = kij_internal_now() + apart;
+    kij_told told;
+    memset(&told, 0, sizeof told);
+    told.asked = asked;
+    /* What isn't the reply was skipped before it. */
+    told.size = used - skipped < sizeof told.bytes ? used - skipped : sizeof told.bytes;
+    memcpy(told.bytes, link->got + used - told.size, told.size);
     link->got_size -= used;
     memmove(link->got, link->got + used, link->got_size);
+    if (needed > 0) take_reply(link, text, &told);
     return true;
 }
 
@@ -692,9 +676,13 @@ static bool pump(kij_link *link, is_reached reached, const kij_job *job) {
     while (!reached(link, job)) {
         bool can_read, can_write, is_any = false;
         int64_t left = link->ends_at - kij_internal_now();
-        if (left <= 0) return true;
+        if (left <= 0) {
+            /* This process may have stood still. What has come meanwhile counts. */
+            if (!receive(link)) return false;
+            if (kij_internal_now() >= link->ends_at) return true;
+            continue;
+        }
         ask_on(link);
-        ask_why(link);
         fill(link);
         kij_internal_wait_typing(link->till, &link->port, link->out_sent < link->out.size, least(left, often),
                                  &can_read, &can_write);
@@ -703,7 +691,7 @@ static bool pump(kij_link *link, is_reached reached, const kij_job *job) {
         link->looked_at = kij_internal_now();
         /* What has come was read before. */
         watch(link, false);
-        if (can_read && !is_any && !can_write) kij_internal_sleep(least(left, often));
+        if (can_read && !is_any && !can_write) kij_internal_rest_typing(link->till, least(left, often));
     }
     return true;
 }
@@ -714,16 +702,13 @@ static void forget(kij_link *link) {
     drop(link);
     link->out.size = link->out_sent = link->control_size = link->got_size = 0;
     link->is_there = link->is_started = link->was_silent = link->is_refreshing = link->was_asked = false;
-    link->is_unclear = false;
-    link->told_count = 0;
-    memset(&link->signs, 0, sizeof link->signs);
-    if (!link->is_asked) return;
-    /* Acknowledgements without a number can't be told from those of another connection. */
-    lose_due(link);
-    memset(&link->hearing, 0, sizeof link->hearing);
-    link->unanswered = link->status_left = 0;
     link->has_late_answers = false;
+    link->told_count = 0;
+    link->unanswered = link->status_left = 0;
     link->questioned_at = KIJ_NEVER;
+    memset(&link->signs, 0, sizeof link->signs);
+    /* Acknowledgements without a number can't be told from those of another connection. */
+    if (link->is_asked) lose_due(link);
 }
 
 /* The port was lost, with what wasn't sent. What was sent may still be acknowledged over the next one. */
@@ -754,14 +739,12 @@ void kij_internal_link_start(kij_link *link) {
     if (kij_internal_port_is_open(&link->port) && !pump(link, is_known, NULL)) lose(link);
 }
 
-/* Asks a printer that has said nothing for a time, and one that says that it can't print, for more. One that has
-   stopped may get no question over a line that holds it back, and isn't off for that. False if the port is to be opened
-   again: a network printer that lost its power has closed nothing, and the system would send it what comes next for
-   minutes. What is due may still be acknowledged. */
+/* Asks a printer that has said nothing for a time, and one that says that it can't print, for more. One that may be
+   silent isn't off for that. False if the port is to be opened again: a network printer that lost its power has closed
+   nothing, and the system would send it what comes next for minutes. What is due may still be acknowledged. */
 static bool look_after(kij_link *link) {
     int64_t now = kij_internal_now();
-    bool may_wait = kij_internal_port_holds_back(&link->port) && is_stopped(link);
-    bool is_late = link->was_asked && now - link->asked_at > link->timeout;
+    bool may_wait = may_be_silent(link), is_late = link->was_asked && now - link->asked_at > link->timeout;
     watch(link, false);
     if (is_late && !may_wait) {
         kij_internal_port_resume(&link->port);
@@ -783,7 +766,6 @@ static bool look_after(kij_link *link) {
         put_refresh(link);
     }
     ask_on(link);
-    ask_why(link);
     return true;
 }
 
@@ -805,7 +787,7 @@ static bool give_up(kij_link *link) {
     unsigned rounds = link->rounds;
     if (!link->is_asked || count == 0) return true;
     if (!pump(link, is_none_due, NULL)) return false;
-    if (link->due_count == count && link->rounds > rounds + 1 && !is_stopped(link)) lose_due(link);
+    if (link->due_count == count && link->rounds > rounds + 1 && !is_offline(link)) lose_due(link);
     return true;
 }
 

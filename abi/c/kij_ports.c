@@ -481,16 +481,12 @@ bool kij_internal_port_write(kij_port *port, const void *bytes, size_t size, siz
     return is_kept(port, found, false, count);
 }
 
-bool kij_internal_port_drained(kij_port *port, int64_t end) {
+bool kij_internal_port_is_draining(kij_port *port) {
     int left = 0;
-    if (port->kind != KIJ_PORT_SERIAL) return true;
-    while (ioctl(port->file, TIOCOUTQ, &left) == 0) {
-        if (left <= 0) return true;
-        if (kij_internal_now() >= end) return false;
-        kij_internal_sleep(1);
-    }
+    if (port->kind != KIJ_PORT_SERIAL) return false;
+    if (ioctl(port->file, TIOCOUTQ, &left) == 0) return left > 0;
     /* A file that was set up as a serial line may be none. */
-    if (errno == ENOTTY || errno == EINVAL) return true;
+    if (errno == ENOTTY || errno == EINVAL) return false;
     port->error = errno;
     kij_internal_port_close(port);
     return false;

@@ -308,9 +308,13 @@ static void try_lost_line(void) {
     size_t count = 0;
     int other = open_line(&port);
     told("bytes are written", true, kij_internal_port_write(&port, "Total", 5, &count));
-    told("they are out", true, kij_internal_port_drained(&port, kij_internal_now() + 100));
+    told("they are out", false, kij_internal_port_is_draining(&port));
+    told("the line is open", true, kij_internal_port_is_open(&port));
+    held = 3;
+    told("they aren't if the line holds some", true, kij_internal_port_is_draining(&port));
+    held = 0;
     close(other);
-    told("they aren't if the line is lost", false, kij_internal_port_drained(&port, kij_internal_now() + 100));
+    told("no byte leaves a line that is lost", false, kij_internal_port_is_draining(&port));
     told("why", EIO, port.error);
     told("the line is closed", false, kij_internal_port_is_open(&port));
     kij_internal_port_close(&port);

@@ -21,6 +21,8 @@ const LONG: u64 = 100;
 const REST: Duration = Duration::from_secs(10);
 /// How long a scanner's port may take to open at first.
 const SCANNER_OPENS: Duration = Duration::from_secs(2);
+/// After how long without a byte a code that has begun has no end.
+const LULL: Duration = Duration::from_secs(1);
 /// The longest code of a scanner, and the highest type (ScanDataType) that a till takes.
 const LONGEST_CODE: usize = 4096;
 const HIGHEST_KIND: u64 = 999;
@@ -364,7 +366,9 @@ fn check(till: &mut DriverTill<'_>, device: &str, settings: &WireSettings, port:
 /// printer says nothing for 2 seconds, or for the timeout if that is shorter, the lines that it hasn't acknowledged are
 /// sent again once it answers. It may print some of them twice. So are lines of an order that failed for no reason
 /// (E_FAILURE), if it acknowledges them while the till doesn't look for 2 seconds
-/// ([`Till::run_devices`](crate::Till::run_devices)), since it may have been off.
+/// ([`Till::run_devices`](crate::Till::run_devices)), since it may have been off. A printer that has said by itself
+/// that it is offline, as while its paper feed button is held down, may be silent for longer, since it says that it
+/// goes on.
 ///
 /// ```no_run
 /// use kijolvar::{EscPosPrinter, EscPosSettings, Till, Totals, BUILT_PROFILE};
@@ -753,12 +757,15 @@ impl Driver for SerialDisplay {
 ///
 /// A scan of which characters were dropped has failed, as has a code of more than 4,096 bytes, or with a key that has
 /// no character, but NumLock: the scanner's control gets an ErrorEvent. So it does of a code with a 0 byte over a
-/// serial line, since a byte that was changed on its way reads as 0 if the line has a parity.
+/// serial line, since a byte that was changed on its way reads as 0 if the line has a parity; and of one without a
+/// terminator, once the till has looked and nothing has come for a second, or the port is lost.
 #[derive(Debug)]
 pub struct WedgeScanner {
     port: Reopened,
     kind: u64,
     begun: Vec<u8>,
+    /// When the last byte came.
+    heard_at: Option<Instant>,
     /// The key events that were read ahead, the last one of which may be in parts; and whether the shift and control
     /// keys are down.
     events: Vec<u8>,
@@ -768,7 +775,7 @@ pub struct WedgeScanner {
     /// changed on a serial line.
     has_gap: bool,
     found: Vec<Scan>,
-    /// Whether a code had a gap or was too long, and whether that is said next.
+    /// Whether a code had a gap, was too long or has no end, and whether that is said next.
     has_failed: bool,
     is_failing: bool,
 }
@@ -782,6 +789,7 @@ impl WedgeScanner {
             port,
             kind: 0,
             begun: Vec::new(),
+            heard_at: None,
             events: Vec::new(),
             is_shifted: false,
             is_control: false,
@@ -822,9 +830,28 @@ impl WedgeScanner {
         self.found.push(Scan { kind, data, label });
     }
 
+    /// What has begun of a code gets no end any more: the scan has failed, and what comes next is another code.
+    fn give_up_code(&mut self) {
+        self.has_failed |= self.has_gap || !self.begun.is_empty();
+        self.begun.clear();
+        (self.is_shifted, self.is_control, self.has_gap) = (false, false, false);
+    }
+
     fn add(&mut self, byte: u8) {
         if self.begun.len() <= LONGEST_CODE {
             self.begun.push(byte);
+        }
+    }
+
+    /// Takes what has come of a scanner that isn't a keyboard.
+    fn take_bytes(&mut self, bytes: &[u8]) {
+        let is_line = matches!(self.port.cable.port, Port::Line(_) | Port::Serial(..));
+        for byte in bytes {
+            match byte {
+                b'\r' | b'\n' => self.end_code(),
+                0 if is_line => self.has_gap = true,
+                _ => self.add(*byte),
+            }
         }
     }
 
@@ -942,21 +969,19 @@ impl Driver for WedgeScanner {
 
     fn poll(&mut self, _: &mut DriverTill<'_>) {
         if self.port.open(QUICKLY) {
-            (self.begun, self.events) = (Vec::new(), Vec::new());
-            (self.is_shifted, self.is_control, self.has_gap) = (false, false, false);
+            self.events.clear();
         }
         let bytes = self.port.read();
-        if matches!(self.port.cable.port, Port::Keys(_)) {
-            self.take_events(&bytes);
-            return;
+        if !bytes.is_empty() {
+            self.heard_at = Some(Instant::now());
         }
-        let is_line = matches!(self.port.cable.port, Port::Line(_) | Port::Serial(..));
-        for byte in bytes {
-            match byte {
-                b'\r' | b'\n' => self.end_code(),
-                0 if is_line => self.has_gap = true,
-                _ => self.add(byte),
-            }
+        match self.port.cable.port {
+            Port::Keys(_) => self.take_events(&bytes),
+            _ => self.take_bytes(&bytes),
+        }
+        // It sends each code in one go.
+        if !self.port.cable.is_open() || is_over(self.heard_at, LULL) {
+            self.give_up_code();
         }
     }
 
@@ -985,6 +1010,7 @@ impl Driver for WedgeScanner {
             if count == 0 {
                 return Some(file).filter(|_| self.port.cable.waits_at().is_some());
             }
+            self.heard_at = Some(Instant::now());
             self.events.extend_from_slice(&room[..count]);
         }
         None

@@ -15,8 +15,11 @@ const JOB_SIZE: usize = 11;
 const QUESTION_SIZE: usize = 3;
 /// How many bytes an automatic status has.
 const STATUS_SIZE: usize = 4;
-/// How much goes out at once, how many pieces of an order may be due, and how many bytes of no use are kept.
+/// How much goes out at once, and how much is unacknowledged at most in a line that holds bytes back: a question waits
+/// behind it.
 const ENOUGH: usize = 2048;
+const ENOUGH_HELD: usize = 512;
+/// How many pieces of an order may be due, and how many bytes of no use are kept.
 const DUE_OF_JOB: usize = 32;
 const MOST_KEPT: usize = 1024;
 /// How often a printer is asked, and how long late answers may be apart.
@@ -175,8 +178,7 @@ pub(crate) struct Link {
     looked_at: Option<Instant>,
     tried_at: Option<Instant>,
     refreshed_at: Option<Instant>,
-    /// The last question, how many aren't answered, and when it was put or a late answer came. Answers don't say what
-    /// was asked, and a line may hold questions back, which are put again meanwhile.
+    /// The last question, how many aren't answered, and when it was put or a late answer came.
     question: usize,
     unanswered: u32,
     questioned_at: Option<Instant>,
@@ -263,11 +265,21 @@ impl Link {
         self.signs.paper == Paper::Near
     }
 
-    /// Whether the printer has said that it prints nothing now, and why.
+    /// Whether the printer has said last that it prints nothing now.
+    fn is_offline(&self) -> bool {
+        !self.told.is_empty() && self.signs.is_offline
+    }
+
+    /// Whether it has also said why. Nothing says that its paper feed button is held down.
     fn is_stopped(&self) -> bool {
         let signs = &self.signs;
-        let has_cause = signs.is_cover_open || signs.has_fault || signs.paper == Paper::Empty;
-        !self.told.is_empty() && signs.is_offline && has_cause
+        self.is_offline() && (signs.is_cover_open || signs.has_fault || signs.paper == Paper::Empty)
+    }
+
+    /// Whether the printer may be silent for long, and is still there: it takes nothing over a line that holds bytes
+    /// back, and says that it goes on before it acknowledges anything. One that is asked says that only if it is asked.
+    fn may_be_silent(&self) -> bool {
+        self.cable.holds_back() && if self.is_asked { self.is_stopped() } else { self.is_offline() }
     }
 
     /// Puts what begins a connection, unless it waits already.
@@ -296,15 +308,6 @@ impl Link {
         self.control.extend_from_slice(&[0x10, 0x04, QUESTIONS[question] as u8]);
     }
 
-    /// Puts the first question. Answers that haven't come are lost if late ones come no more, and if no line may hold
-    /// their questions back.
-    fn put_first_question(&mut self) {
-        if std::mem::take(&mut self.is_late) || !(self.is_asked || self.cable.holds_back()) {
-            self.unanswered = 0;
-        }
-        self.put_question(0);
-    }
-
     /// Asks a printer how it is that says nothing by itself, or whose late answers have told nothing.
     fn ask_on(&mut self) {
         let time = match self.unanswered {
@@ -313,7 +316,11 @@ impl Link {
             _ => self.timeout,
         };
         if (self.is_asked || self.is_late) && self.is_idle() && is_over(self.questioned_at, time) {
-            self.put_first_question();
+            if std::mem::take(&mut self.is_late) {
+                // The late answers that haven't come are lost.
+                self.unanswered = 0;
+            }
+            self.put_question(0);
         }
     }
 
@@ -323,7 +330,7 @@ impl Link {
         if self.is_asked {
             self.ask_on();
         } else {
-            self.put_first_question();
+            self.put_question(0);
         }
     }
 
@@ -375,22 +382,29 @@ impl Link {
         self.put_out += self.control.len() as u64;
         self.out.append(&mut self.control);
         let Some(is_once) = posting else { return };
-        // Answers to GS r have no number: one piece is out at a time, so that none counts for another.
-        let most = if self.is_asked { 1 } else { DUE_OF_JOB };
-        while self.out.len() < ENOUGH {
-            let number = self.current(is_once).number;
-            let count = self.due.iter().filter(|parcel| parcel.job == number).count();
-            if self.current(is_once).is_all_sent || count >= most {
+        while self.out.len() < ENOUGH && !self.current(is_once).is_all_sent {
+            let job = self.current(is_once);
+            let (number, from, to) = (job.number, job.sent, piece_end(&job.bytes, job.sent));
+            if !self.may_send(number, to - from) {
                 return;
             }
             let job = self.current(is_once);
-            let (from, to) = (job.sent, piece_end(&job.bytes, job.sent));
             let piece = job.bytes[from..to].to_vec();
             (job.sent, job.is_all_sent) = (to, to == job.bytes.len());
             let (is_last, is_once) = (job.is_all_sent, job.is_once && !job.bytes.is_empty());
             let parcel = Parcel { number: 0, job: number, from, to, is_last, is_torn: false, is_once, place: 0 };
             self.send(&piece, parcel);
         }
+    }
+
+    /// Whether the next piece of a job, which has so many bytes, may go out though others aren't acknowledged.
+    fn may_send(&self, number: u64, size: usize) -> bool {
+        // Answers to GS r have no number: one piece is out at a time, so that none counts for another.
+        let most = if self.is_asked { 1 } else { DUE_OF_JOB };
+        let count = self.due.iter().filter(|parcel| parcel.job == number).count();
+        let begun = self.due.front().map_or(self.put_out, |first| first.place);
+        let unacknowledged = (self.put_out - begun) as usize + size + self.end.len();
+        count < most && (count == 0 || !self.cable.holds_back() || unacknowledged <= ENOUGH_HELD)
     }
 
     /// Takes back what hasn't begun to go out.
@@ -505,10 +519,10 @@ impl Link {
     /// The answer to a question of DLE EOT. The three together say what an automatic status would. A printer that says
     /// by itself how it is gets the other two while it is offline: if it was switched on so, it says nothing.
     fn take_part(&mut self, line: &str, told: Told) {
+        // Answers don't say what was asked. Questions are put again if they aren't answered, and may only have waited.
         self.unanswered -= 1;
         self.is_late = self.unanswered > 0;
         if self.is_late {
-            // It is to an earlier question.
             self.questioned_at = Some(Instant::now());
             return;
         }
@@ -669,12 +683,22 @@ impl Link {
         self.is_stopped() || self.pulse.as_ref().is_some_and(|job| job.is_done || job.is_torn)
     }
 
+    /// How long the order that is out may still take.
+    fn time_left(&self) -> Duration {
+        self.ends_at.saturating_duration_since(Instant::now())
+    }
+
     /// Sends and reads until something is so, or the time is over. What is posted is the paper's order, or a pulse.
     fn pump(&mut self, till: &mut DriverTill<'_>, until: Until, posting: Option<bool>) -> Result<(), Lost> {
         while !(if posting == Some(false) { self.is_pulsed() } else { self.is_reached(until) }) {
-            let left = self.ends_at.saturating_duration_since(Instant::now());
+            let left = self.time_left();
             if left.is_zero() {
-                return Ok(());
+                // This process may have stood still. What has come meanwhile counts.
+                self.receive(till)?;
+                if self.time_left().is_zero() {
+                    return Ok(());
+                }
+                continue;
             }
             self.ask_on();
             self.fill(posting);
@@ -707,11 +731,10 @@ impl Link {
         is_over(self.heard_at.max(Some(self.began_at)), time)
     }
 
-    /// Whether a line may hold back a part of what is due. A printer that has stopped may take nothing, and says that
-    /// it goes on.
+    /// Whether a line may hold back a part of what is due for a printer that should say something.
     fn is_held(&self) -> bool {
         let is_any = self.due.iter().any(|parcel| parcel.job != 0 && !parcel.is_torn);
-        is_any && self.cable.holds_back() && !self.is_stopped()
+        is_any && self.cable.holds_back() && !self.may_be_silent()
     }
 
     /// Looks whether the printer has fallen silent while a line may hold something of a job back for it. It is asked
@@ -737,10 +760,10 @@ impl Link {
         self.is_online() && self.is_held() && was_long
     }
 
-    /// Whether the printer was switched off and on again since it said that it stops: it would have said by itself that
-    /// it goes on before it acknowledged anything.
+    /// Whether the printer was switched off and on again since it said that it is offline: it would have said by itself
+    /// that it goes on before it acknowledged anything.
     fn was_reset(&self) -> bool {
-        self.cable.holds_back() && self.is_stopped() && is_over(self.told_at, STOPPING)
+        self.may_be_silent() && is_over(self.told_at, STOPPING)
     }
 
     /// The printer may have lost its power, and a line holds back the rest of what is due, which the printer may still
@@ -813,12 +836,10 @@ impl Link {
 
     /// Asks a printer that has said nothing for a time, and one that says that it can't print, for more. One on a
     /// network that doesn't answer is lost, unless something is due: the system might find that much later. One that
-    /// has stopped may take nothing over a line that holds it back, and is still there. It is asked again all the same,
-    /// since it may have been off meanwhile, where the question was lost.
+    /// may be silent is asked again, too, since it may have been off meanwhile, where the question was lost.
     fn look_after(&mut self) -> Result<(), Lost> {
-        let is_held = self.cable.holds_back() && self.is_stopped();
         let is_late = self.asked_at.is_some_and(|asked_at| asked_at.elapsed() > self.timeout);
-        if is_late && !is_held {
+        if is_late && !self.may_be_silent() {
             self.cable.resume();
             self.is_there = false;
             self.told.clear();
@@ -870,7 +891,7 @@ impl Link {
             return Ok(());
         }
         self.pump(till, Until::NoneDue, None)?;
-        if self.due.len() == count && self.rounds > rounds + 1 && !self.is_stopped() {
+        if self.due.len() == count && self.rounds > rounds + 1 && !self.is_offline() {
             self.lose_due();
         }
         Ok(())
