@@ -8,8 +8,9 @@
 #   clearInputProperties, clearOutput, claimFile, releaseFile, beginTrans and rollback;
 #   none of these lines asked for a growth;
 #   in no line a growth came after a write to the disk.
-# It wants the last of `format` and `migrate` too. With -t it also runs the tests `orders::..` of pos_counter_tests that
-# `rt test` built. Their peripherals report each order, and no growth may come between an order and the line's answer.
+# It wants the last of `format` and `migrate` too, once a file that is too short has been lengthened. With -t it also runs
+# the tests `orders::..` of pos_counter_tests that `rt test` built. Their peripherals report each order, and no growth may
+# come between an order and the line's answer.
 # Usage: tests/memory.sh [-t] [PROGRAM [TESTS]]. It needs a C compiler: the one of the kit, by rt, or cc. Its last
 # line is 'N passed, M failed'; it ends with 0 if nothing failed.
 set -u
@@ -200,7 +201,11 @@ printf 'lmdmalmdRalda' > events
 printf 'call a openDrawer\ndeliver a\nget a ScanData\nget a State\nset a DeviceEnabled true\n\n# deliver\n' > first
 [ "$(quiet_of first)" = 0101000 ] || give_up 'the lines that take no memory are chosen wrongly'
 
-# a formatting and a move: whatever they take comes before their first write
+# a formatting and a move: whatever they take comes before their first write, but for that which lengthens a file
+observe '' /dev/null "$program" format --disk short
+sed -i 's/d//' events
+check 'format of no file: a growth after the first write behind its length' is_never_late /dev/null d
+truncate -s 327680 disk
 for verb in format migrate; do
   observe '' /dev/null "$program" "$verb" --disk disk
   check "$verb: it is done" [ "$?:$(cat out err)" = 0: ]

@@ -164,7 +164,7 @@ def sync_of(entry, moment):
         return FOLDER if moment.may_miss else NOTHING
     if not loose:
         return NOTHING
-    if any(other.kind == "T" or len(other.text) == reader.LENGTH for other in loose):
+    if any(other.at + len(other.text) == reader.LENGTH and not any(other.text) for other in loose):
         return LENGTH
     if all(len(other.text) == 1 for other in loose):
         if len(loose) > 1:
