@@ -203,6 +203,7 @@ printf 'call a openDrawer\ndeliver a\nget a ScanData\nget a State\nset a DeviceE
 
 # a formatting and a move: whatever they take comes before their first write, but for that which lengthens a file
 observe '' /dev/null "$program" format --disk short
+check 'format of no file: it writes more than its length' grep -q 'd.*d' events
 sed -i 's/d//' events
 check 'format of no file: a growth after the first write behind its length' is_never_late /dev/null d
 truncate -s 327680 disk

@@ -6,7 +6,7 @@ use Rattle.std.proofs.lemmas.List.{drop_more, map-append, take-append-drop, take
 use Rattle.std.specs.Borrow.{Bor}
 use Rattle.pos_program.specs.declared.file_system.FileSystem.{Ghosts as SystemGhosts}
 use Rattle.pos_streams.specs.Streams.{Taken}
-use Rattle.pos_shell.specs.Runs.{AreRead, ReadsText}
+use Rattle.pos_shell.specs.Runs.{AreRead, ReadsPath}
 use Rattle.std.proofs.lemmas.Grind.{flat_map-append}
 use Rattle.pos_counter.specs.Steps.{Request, Response}
 use Rattle.pos_run.proofs.Common.{Appends-trans}
@@ -38,10 +38,10 @@ module _ {A : Type 0} (xs : List A) (i : ℕ) (d : A) (lt : i < length xs) where
 pub reads_more : {S F : Type 0} (system : SystemGhosts S F) (them : S) (paths : List (Bor (List ℕ)))
     (scripts : List Script) {path : Bor (List ℕ)} (script : Script) (old between new : Taken)
     → AreRead system them paths scripts old between → script.name ≡ path
-    → ReadsText system them path between new (Ok script.text.items)
+    → ReadsPath system them path between new (Ok script.text.items)
     → AreRead system them (paths ++ path ∷ []) (scripts ++ script ∷ []) old new
 reads_more system them [] [] {path} script old between new same named reads =
-    (named, new, subst (λ before. ReadsText system them path before new (Ok script.text.items)) same reads, refl)
+    (named, new, subst (λ before. ReadsPath system them path before new (Ok script.text.items)) same reads, refl)
 reads_more system them [] (other ∷ scripts) script old between new are named reads = absurd are
 reads_more system them (other ∷ paths) [] script old between new are named reads = absurd are
 reads_more system them (other ∷ paths) (first ∷ scripts) script old between new (is, first_new, own, are) named reads =
@@ -51,7 +51,7 @@ reads_more system them (other ∷ paths) (first ∷ scripts) script old between 
 pub reads_next : {S F : Type 0} (system : SystemGhosts S F) (them : S) (paths : List (Bor (List ℕ))) (i : ℕ)
     (d : Bor (List ℕ)) (scripts : List Script) (script : Script) (old between new : Taken) → i < length paths
     → AreRead system them (take i paths) scripts old between → script.name ≡ get_or paths i d
-    → ReadsText system them (get_or paths i d) between new (Ok script.text.items)
+    → ReadsPath system them (get_or paths i d) between new (Ok script.text.items)
     → AreRead system them (take (i + 1) paths) (scripts ++ script ∷ []) old new
 reads_next system them paths i d scripts script old between new lt are named reads =
     subst (λ xs. AreRead system them xs (scripts ++ script ∷ []) old new) (sym (taken_at paths i d lt))

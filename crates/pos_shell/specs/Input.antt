@@ -1,13 +1,10 @@
 -- What taking all that an input has left comes to.
 use Rattle.std.specs.Prelude.{◌≡◌, ◌⊎◌, ◌≤◌, ℕ, List, Result, Ok, Err, length}
 use Rattle.pos_streams.specs.Streams.{IsWhole, Taken, end_after, read_fault_after, taken_after}
+use Rattle.pos_run.specs.Streams.{most_reads}
 use Rattle.pos_shell.specs.declared.runs.RunFault.{RunFault}
 use Rattle.pos_shell.specs.declared.runs.RunFault.TheVariants as run
 use Rattle.pos_shell.specs.declared.scripts.ScriptsFault.TheVariants.{NoMemory}
-
--- how many reads there are at most
-abbrev pub most_reads : ℕ
-most_reads = 1073741824
 
 -- a text was taken, up to the end of what is there; or a read failed behind some of it, or there would be too many; or
 -- there was no memory for it

@@ -41,30 +41,30 @@ scripts_of (Ok scripts) = Ok scripts.items
 scripts_of (Err why) = Err why
 
 -- what reading the file at a path comes to
-abbrev pub ReadsFile : {S F : Type 0} → SystemGhosts S F → S → Bor (List ℕ) → Result (List ℕ) RunFault → Type 0
-ReadsFile system them path (Ok text) = system.reads them path.now (Ok text)
-ReadsFile system them path (Err (run.Script at cause)) = (at ≡ path) × system.reads them path.now (Err cause)
-ReadsFile system them path (Err other) = ⊥
+abbrev pub ReadsFileAt : {S F : Type 0} → SystemGhosts S F → S → Bor (List ℕ) → Result (List ℕ) RunFault → Type 0
+ReadsFileAt system them path (Ok text) = system.reads them path.now (Ok text)
+ReadsFileAt system them path (Err (run.Script at cause)) = (at ≡ path) × system.reads them path.now (Err cause)
+ReadsFileAt system them path (Err other) = ⊥
 
 -- What reading the script at a path comes to, by what was taken from the input before and after it. `-` is all that the
 -- input has left.
-abbrev pub ReadsText : {S F : Type 0} → SystemGhosts S F → S → Bor (List ℕ) → Taken → Taken → Result (List ℕ) RunFault
+abbrev pub ReadsPath : {S F : Type 0} → SystemGhosts S F → S → Bor (List ℕ) → Taken → Taken → Result (List ℕ) RunFault
     → Type 0
-ReadsText system them path old new result = MatchBool (bytes_eq path.now (codes "-")) (TakesRest old new result)
-    ((new ≡ old) × ReadsFile system them path result)
+ReadsPath system them path old new result = MatchBool (bytes_eq path.now (codes "-")) (TakesRest old new result)
+    ((new ≡ old) × ReadsFileAt system them path result)
 
 -- each script has the name of its path and the text that was read there
 abbrev pub AreRead : {S F : Type 0} → SystemGhosts S F → S → List (Bor (List ℕ)) → List Script → Taken → Taken → Type 0
 AreRead system them [] [] old new = new ≡ old
 AreRead system them (path ∷ paths) (script ∷ scripts) old new = (script.name ≡ path) × (between : Taken)
-    × ReadsText system them path old between (Ok script.text.items) × AreRead system them paths scripts between new
+    × ReadsPath system them path old between (Ok script.text.items) × AreRead system them paths scripts between new
 AreRead system them paths scripts old new = ⊥
 
 -- Those at the first paths were read, and the next one couldn't be; or there was no memory for them.
 abbrev pub IsUnread : {S F : Type 0} → SystemGhosts S F → S → List (Bor (List ℕ)) → RunFault → Taken → Taken → Type 0
 IsUnread system them paths why old new = (earlier : List (Bor (List ℕ))) × (later : List (Bor (List ℕ)))
     × (scripts : List Script) × (((path : Bor (List ℕ)) × (between : Taken) × (paths ≡ earlier ++ path ∷ later)
-    × AreRead system them earlier scripts old between × ReadsText system them path between new (Err why))
+    × AreRead system them earlier scripts old between × ReadsPath system them path between new (Err why))
     ⊎ ((paths ≡ earlier ++ later) × AreRead system them earlier scripts old new × (why ≡ without_memory)))
 
 -- what reading the scripts at paths comes to

@@ -4,7 +4,7 @@ ghost use Rattle.pos_program.specs.Answers.{bytes_of};
 ghost use Rattle.pos_program.specs.TotalsDisks.{IsNewMirror};
 ghost use Rattle.pos_shell.specs.Outputs.{streams_of};
 ghost use Rattle.pos_shell.specs.ProfileRun.{lines_in};
-ghost use Rattle.pos_shell.specs.Runs.{GivesProfile, ReadsEach, ReadsText, Runs, RunsAll, RunsInMemory, RunsOver};
+ghost use Rattle.pos_shell.specs.Runs.{GivesProfile, ReadsEach, ReadsPath, Runs, RunsAll, RunsInMemory, RunsOver};
 ghost use Rattle.pos_shell.specs.Runs.{RunsOverTotals, ended, scripts_of};
 
 use crate::answer_texts::AnswerStyle;
@@ -59,7 +59,7 @@ fn read_script<'a, S: FileSystem, R: Source>(
     path: &'a str,
     reader: &mut R,
 ) -> Result<Vec<u8>, RunFault<'a>>
-    ensures { ReadsText S.FileSystem system.now path.entry (R.taken reader.old) (R.taken reader.new) (bytes_of result) }
+    ensures { ReadsPath S.FileSystem system.now path.entry (R.taken reader.old) (R.taken reader.new) (bytes_of result) }
 {
     if path == "-" {
         return read_rest(alloc, reader);

@@ -21,10 +21,10 @@ abbrev pub name_in : Question → List ℕ
 name_in (Cat name hex) = name.now
 name_in other = []
 
--- what is found, and the answer as a list
-abbrev pub answered : {A : Type 0} → Result (Finding × Vec ℕ A) Fault → Result (Finding × List ℕ) Fault
-answered (Ok found) = Ok (found.0, found.1.items)
-answered (Err why) = Err why
+-- what is found, and the text of the answer as a list
+abbrev pub finding_and_text : {A : Type 0} → Result (Finding × Vec ℕ A) Fault → Result (Finding × List ℕ) Fault
+finding_and_text (Ok found) = Ok (found.0, found.1.items)
+finding_and_text (Err why) = Err why
 
 -- what is answered to a question about the bytes of the totals file at a path, or why there is no answer
 abbrev pub AnswersBytes : List ℕ → Question → List ℕ → Result (Finding × List ℕ) Fault → Type 0

@@ -112,9 +112,9 @@ SetsAside system folder them part path old result =
 -- What putting a file with these bytes in place of the one at a path comes to: its name may be taken, they are written
 -- to the file beside it, then the old file gets a second name and the new one its owner and mode, and then the new one
 -- takes its place.
-abbrev pub Exchanges : {S F : Type 0} → SystemGhosts S F → FolderGhosts S → (F → List Call) → S → List ℕ → List ℕ
+abbrev pub PutsInstead : {S F : Type 0} → SystemGhosts S F → FolderGhosts S → (F → List Call) → S → List ℕ → List ℕ
     → List ℕ → List ℕ → Result (Unit {0}) WholeFault → Type 0
-Exchanges system folder calls them part path old bytes result = Continues (ChecksFile folder them path)
+PutsInstead system folder calls them part path old bytes result = Continues (ChecksFile folder them path)
     (Continues (WritesPart system calls them part bytes) (SetsAside system folder them part path old result) result)
     result
 
@@ -123,4 +123,4 @@ abbrev pub Replaces : {S F : Type 0} → SystemGhosts S F → FolderGhosts S →
     → Result (Unit {0}) WholeFault → Type 0
 Replaces system folder calls them path bytes result =
     (result ≡ Err fault.NoMemory)
-    ⊎ Exchanges system folder calls them (path ++ codes ".part") path (path ++ codes ".old") bytes result
+    ⊎ PutsInstead system folder calls them (path ++ codes ".part") path (path ++ codes ".old") bytes result

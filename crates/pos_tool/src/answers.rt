@@ -3,7 +3,7 @@ ghost use Rattle.std.specs.Prelude.{◌≡◌};
 ghost use Rattle.pos_shell.specs.Outputs.{output_of};
 ghost use Rattle.pos_tool.specs.Differences.{PrintsDifference, SurveysBytes, SurveysFile, WritesDifference};
 ghost use Rattle.pos_tool.specs.Differences.{difference_finding};
-ghost use Rattle.pos_tool.specs.Surveys.{AnswersBytes, AnswersFile, Prints, PrintsFile, answered, name_in};
+ghost use Rattle.pos_tool.specs.Surveys.{AnswersBytes, AnswersFile, Prints, PrintsFile, finding_and_text, name_in};
 
 use crate::fault::Fault;
 use pos_file::BlockFile;
@@ -31,7 +31,7 @@ fn answer_bytes<'a>(
     question: Question<'a>,
     bytes: &[u8],
 ) -> Result<(Finding, Vec<u8>), Fault<'a>>
-    ensures { AnswersBytes path.entry.now question.entry bytes.now (answered result) }
+    ensures { AnswersBytes path.entry.now question.entry bytes.now (finding_and_text result) }
 {
     match answer(alloc, question, bytes) {
         Ok(found) => Ok(found),
@@ -52,7 +52,7 @@ fn answer_file<'a, F: NamedFiles>(
     question: Question<'a>,
 ) -> Result<(Finding, Vec<u8>), Fault<'a>>
     ensures { AnswersFile F.NamedFiles ⟦<F::File as BlockFile>⟧ files.now path.entry.now question.entry
-        (answered result) }
+        (finding_and_text result) }
 {
     match files.read_disk(path) {
         Ok(totals) => answer_bytes(alloc, path, question, totals.bytes()),

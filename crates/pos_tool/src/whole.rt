@@ -1,6 +1,6 @@
 //! Files that appear whole or not at all.
 ghost use Rattle.std.specs.Prelude.{◌≡◌, ◌++◌, IfOk, string_bytes};
-ghost use Rattle.pos_tool.specs.Whole.{ChecksFile, Exchanges, LinksPart, Puts, PutsOver, RenamesPart, Replaces};
+ghost use Rattle.pos_tool.specs.Whole.{ChecksFile, LinksPart, Puts, PutsInstead, PutsOver, RenamesPart, Replaces};
 ghost use Rattle.pos_tool.specs.Whole.{SetsAside, Settles, WritesPart, WritesWhole, to_make};
 
 use crate::folder::Folder;
@@ -221,14 +221,14 @@ fn set_aside<S: FileSystem + Folder>(
 
 // Puts a file with these bytes in place of the one at a path, by these names beside it: one for what is made, and one
 // for what it replaces.
-fn exchange<S: FileSystem + Folder>(
+fn put_instead<S: FileSystem + Folder>(
     system: &S,
     part: &str,
     path: &str,
     old: &str,
     bytes: &[u8],
 ) -> Result<(), WholeFault>
-    ensures { Exchanges S.FileSystem S.Folder ⟦<S::File as BlockFile>⟧.calls system.now part.now path.now old.now
+    ensures { PutsInstead S.FileSystem S.Folder ⟦<S::File as BlockFile>⟧.calls system.now part.now path.now old.now
         bytes.now result }
 {
     check_file(system, path)?;
@@ -252,5 +252,5 @@ pub(crate) fn replace<S: FileSystem + Folder>(
 {
     let part = beside(alloc, path, ".part")?;
     let old = beside(alloc, path, ".old")?;
-    exchange(system, &part, path, &old, bytes)
+    put_instead(system, &part, path, &old, bytes)
 }
