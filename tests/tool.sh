@@ -284,19 +284,26 @@ ends 'dump, load, dump' 0 '' "$(cat dumped)" dump loaded.totals
 "$tool" dump moved.totals > dumped2
 ends 'load of 250 files' 0 '' '' load dumped2 loaded2.totals
 told 'dump, load, dump of 250 files' same "$(cmp -s <("$tool" dump loaded2.totals) dumped2 && echo same)"
-# A pager reads the first line, and waits. A pipe has no room for the rest, and a till may open the file all the same.
+# lets_go NAME FIRST WORD ..: whether a command has let its file go once it prints. A pager reads the first line, and
+# waits; a pipe has no room for the rest, and a till may open the file all the same.
+lets_go() {
+  local name=$1 wanted=$2 printer first
+  shift 2
+  "$@" > page &
+  printer=$!
+  exec 6< page
+  read -r -t 60 first <&6
+  told "$name whose reader waits" "$wanted goes on" "$first $(kill -0 "$printer" && echo goes on)"
+  told "$name whose reader waits leaves the file free" free "$(flock --nonblock long.totals echo free)"
+  told "$name whose reader waited" same "$(cmp -s <("$@" | tail -n +2) - <&6 && echo same)"
+  exec 6<&-
+}
 "$tool" create long.totals
 "$tool" migrate long.totals
 printf 'call a create 42 30000 false\ncall a create 43 30000 false\n' | script long.totals
 mkfifo page
-"$tool" dump long.totals > page &
-dump=$!
-exec 6< page
-read -r -t 60 first <&6
-told 'a dump whose reader waits' 'layout 2 goes on' "$first $(kill -0 "$dump" && echo goes on)"
-told 'a dump whose reader waits leaves the file free' free "$(flock --nonblock long.totals echo free)"
-told 'a dump whose reader waited' same "$(cmp -s <("$tool" dump long.totals | tail -n +2) - <&6 && echo same)"
-exec 6<&-
+lets_go 'a dump' 'layout 2' "$tool" dump long.totals
+lets_go 'pos_console files' 'layout 2' "$program" files --disk long.totals
 ends 'diff of the same files' 0 '' '' diff till.totals loaded.totals
 ends 'diff with layout 2' 1 '' "$(for at in $(seq 3 250); do printf 'only in the second: f%03d\n' $((at - 2)); done)" diff till.totals moved.totals
 printf 'call a write 1 3 05\ncall a delete 422043\ncall a create 44 0 false\n' | script loaded.totals

@@ -77,28 +77,39 @@ IsWritten old new text = Appends old.given new.given text × IsFlushed new
 abbrev pub IsCutOff : Writing → Writing → List ℕ → Type 0
 IsCutOff old new text = (front : List ℕ) × (back : List ℕ) × (text ≡ front ++ back) × Fails old.given new.given front
 
--- what it tells of the bytes of the totals in the file at a path, by how its writer stood before, and after: their
--- survey's text, as far as it can be written; or why there is none, and then nothing is written
-abbrev pub PrintsBytes : List ℕ → List ℕ → Writing → Writing → Result (Unit {0}) Fault → Type 0
-PrintsBytes path bytes old new (Ok u) = (text : List ℕ) × IsTold bytes text × IsWritten old new text
-PrintsBytes path bytes old new (Err fault.Write) = (text : List ℕ) × IsTold bytes text × IsCutOff old new text
-PrintsBytes path bytes old new (Err (fault.Disk at cause)) = (at.now ≡ path) × IsBroken bytes cause × (new ≡ old)
-PrintsBytes path bytes old new (Err other) = ⊥
+-- what it tells of the bytes of the totals in the file at a path: their survey's text; or why there is none
+abbrev pub TellsBytes : List ℕ → List ℕ → Result (List ℕ) Fault → Type 0
+TellsBytes path bytes (Ok text) = IsTold bytes text
+TellsBytes path bytes (Err (fault.Disk at cause)) = (at.now ≡ path) × IsBroken bytes cause
+TellsBytes path bytes (Err other) = ⊥
 
 -- what it tells of totals that were only read: of the bytes that the one read of their file gave; or why they can't be
 -- read
-abbrev pub PrintsOpened : {B : Type 0} → FileGhosts B → List ℕ → Result (Mirror (FileDisk B)) FileFault → Writing
-    → Writing → Result (Unit {0}) Fault → Type 0
-PrintsOpened below path (Ok totals) old new result =
-    AreRead below.calls totals × PrintsBytes path totals.memory.present.reading old new result
-PrintsOpened below path (Err cause) old new result = EndsAtDisk path (Err cause) result × (new ≡ old)
+abbrev pub TellsOpened : {B : Type 0} → FileGhosts B → List ℕ → Result (Mirror (FileDisk B)) FileFault
+    → Result (List ℕ) Fault → Type 0
+TellsOpened below path (Ok totals) told =
+    AreRead below.calls totals × TellsBytes path totals.memory.present.reading told
+TellsOpened below path (Err cause) (Err (fault.Disk at why)) = (at.now ≡ path) × (why ≡ cause)
+TellsOpened below path (Err cause) other = ⊥
 
--- it tells what the totals file at a path holds
+-- what it tells of the totals file at a path
+abbrev pub TellsFile : {F B : Type 0} → Ghosts F B → FileGhosts B → F → List ℕ → Result (List ℕ) Fault → Type 0
+TellsFile {F} {B} files below them path told =
+    (opened : Result (Mirror (FileDisk B)) FileFault) × files.reads_disk them path opened
+    × TellsOpened below path opened told
+
+-- A text is printed, by how its writer stood before, and after, as far as it can be written. Where there is none,
+-- nothing is written.
+abbrev pub PrintsTold : Result (List ℕ) Fault → Writing → Writing → Result (Unit {0}) Fault → Type 0
+PrintsTold (Ok text) old new (Ok u) = IsWritten old new text
+PrintsTold (Ok text) old new (Err why) = (why ≡ fault.Write) × IsCutOff old new text
+PrintsTold (Err why) old new result = (result ≡ Err why) × (new ≡ old)
+
+-- it tells what the totals file at a path holds, and prints that
 abbrev pub PrintsFile : {F B : Type 0} → Ghosts F B → FileGhosts B → F → List ℕ → Writing → Writing
     → Result (Unit {0}) Fault → Type 0
-PrintsFile {F} {B} files below them path old new result =
-    (opened : Result (Mirror (FileDisk B)) FileFault) × files.reads_disk them path opened
-    × PrintsOpened below path opened old new result
+PrintsFile files below them path old new result =
+    (told : Result (List ℕ) Fault) × TellsFile files below them path told × PrintsTold told old new result
 
 -- what it does for a task, over these files: by how its reader and its writer stood before, and after
 abbrev pub Does : {F B : Type 0} → Ghosts F B → FileGhosts B → DiskGhosts (Mirror (FileDisk B)) → F → Task → Streams

@@ -1,7 +1,8 @@
 //! Prints what a totals file holds.
 ghost use Rattle.std.specs.Prelude.{IfErr, IfOk, MatchResult};
+ghost use Rattle.pos_program.specs.Answers.{bytes_of};
 ghost use Rattle.pos_run.specs.Streams.{writing_of};
-ghost use Rattle.pos_console.specs.Program.{IsCutOff, IsWritten, PrintsBytes, PrintsFile};
+ghost use Rattle.pos_console.specs.Program.{IsCutOff, IsWritten, PrintsFile, TellsBytes, TellsFile};
 ghost use Rattle.pos_console.specs.Surveys.{IsBroken, IsTold, PrintsBreak};
 
 use pos_file::BlockFile;
@@ -52,28 +53,33 @@ fn write_text<W: Sink>(writer: &mut AnswerWriter<W>, text: &[u8]) -> Result<(), 
     writer.flush()
 }
 
-/// Writes what the bytes of the totals file at a path hold.
-fn print_bytes<'a, W: Sink>(
-    alloc: Global,
-    writer: &mut AnswerWriter<W>,
-    path: &'a str,
-    bytes: &[u8],
-) -> Result<(), Fault<'a>>
-    ensures { PrintsBytes path.entry.now bytes.now
-        (writing_of W.Sink writer.old) (writing_of W.Sink writer.new) result }
+/// Returns what the bytes of the totals file at a path hold, as lines of text.
+fn text_of_bytes<'a>(alloc: Global, path: &'a str, bytes: &[u8]) -> Result<Vec<u8>, Fault<'a>>
+    ensures { TellsBytes path.entry.now bytes.now (bytes_of result) }
 {
-    let text = match survey_text(alloc, bytes) {
-        Ok(text) => text,
-        Err(cause) => return Err(Fault::Disk { path, cause }),
-    };
-    match write_text(writer, &text) {
-        Ok(()) => Ok(()),
-        Err(_) => Err(Fault::Write),
+    match survey_text(alloc, bytes) {
+        Ok(text) => Ok(text),
+        Err(cause) => Err(Fault::Disk { path, cause }),
+    }
+}
+
+/// Returns what the totals file at a path holds, as lines of text. The file is closed then: whoever reads the text may
+/// take long, and a till can't open a file that is locked.
+fn text_of_file<'a, F: NamedFiles>(
+    alloc: Global,
+    files: &F,
+    path: &'a str,
+) -> Result<Vec<u8>, Fault<'a>>
+    ensures { TellsFile F.NamedFiles ⟦<F::File as BlockFile>⟧ files.now path.entry.now (bytes_of result) }
+{
+    match files.read_disk(path) {
+        Ok(totals) => text_of_bytes(alloc, path, totals.bytes()),
+        Err(cause) => Err(Fault::Disk { path, cause }),
     }
 }
 
 /// Writes what the totals file at a path holds, as lines of text. The file is read once, and nothing is written to it.
-/// docs/reference/console.md, "What a totals file holds".
+/// It is closed before anything is printed. docs/reference/console.md, "What a totals file holds".
 ///
 /// # Errors
 ///
@@ -88,8 +94,12 @@ pub fn print_file<'a, F: NamedFiles, W: Sink>(
     ensures { PrintsFile F.NamedFiles ⟦<F::File as BlockFile>⟧ files.now path.entry.now
         (writing_of W.Sink writer.old) (writing_of W.Sink writer.new) result }
 {
-    match files.read_disk(path) {
-        Ok(totals) => print_bytes(alloc, writer, path, totals.bytes()),
-        Err(cause) => Err(Fault::Disk { path, cause }),
+    let text = match text_of_file(alloc, files, path) {
+        Ok(text) => text,
+        Err(fault) => return Err(fault),
+    };
+    match write_text(writer, &text) {
+        Ok(()) => Ok(()),
+        Err(_) => Err(Fault::Write),
     }
 }
