@@ -33,11 +33,11 @@ to_read = with_read new_options true
 abbrev pub to_write : Bool → OpenOptions
 to_write may_make = with_create (with_write to_read true) may_make
 
--- what opening a file comes to, if a fault of the system is told so
+-- what opening a file comes to, if a fault of the system is told so; one that it makes is private
 abbrev pub OpensFile : {S F : Type 0} → SystemGhosts S F → (Error → FileFault → Type 0) → S → OpenOptions → List ℕ
     → Result F FileFault → Type 0
 OpensFile {F = F} system Tells them how path result =
-    (answer : Result F Error) × system.opens them how path answer × Passes Tells answer result
+    (answer : Result F Error) × system.opens them how true path answer × Passes Tells answer result
 
 -- the folder of a path, or the present one
 abbrev pub folder_or_here : Option (List ℕ) → List ℕ

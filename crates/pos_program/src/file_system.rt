@@ -6,8 +6,12 @@ ghost use Rattle.pos_program.specs.Answers.{bytes_of};
 
 use pos_file::{BlockFile, SystemFile};
 use std::fs::{File, OpenFile, OpenOptions};
+use std::os::unix::fs::OpenOptionsExt;
 use std::rt::Files;
 use std::{fs, io};
+
+// The mode of a private file: its owner may read and write it.
+const OWNER_ALONE: u32 = 0o600;
 
 /// A file system. Contracts of functions over it say what they make of its answers, and each type with this trait
 /// defines what it may answer. No contract can say anything of the system's own.
@@ -18,8 +22,8 @@ pub trait FileSystem {
     /// What reading the file at a path may answer.
     ghost reads: { Self → List ℕ → Result (List ℕ) Error → Type 0 } = { λ _ _ _. ⊤ };
 
-    /// What opening the file at a path may answer.
-    ghost opens: { Self → Options → List ℕ → Result Self.File Error → Type 0 } = { λ _ _ _ _. ⊤ };
+    /// What opening the file at a path may answer, by whether one that it makes is private.
+    ghost opens: { Self → Options → Bool → List ℕ → Result Self.File Error → Type 0 } = { λ _ _ _ _ _. ⊤ };
 
     /// What asking whether the file at a path is this open one may answer.
     ghost names: { Self → Self.File → List ℕ → Result Bool Error → Type 0 } = { λ _ _ _ _. ⊤ };
@@ -35,13 +39,14 @@ pub trait FileSystem {
     fn read(&self, path: &str) -> io::Result<Vec<u8>>
         ensures { reads self.now path.now (bytes_of result) };
 
-    /// Opens the file at a path, and returns it. No call of it was made yet.
+    /// Opens the file at a path, and returns it. No call of it was made yet. If it makes the file, a private one may be
+    /// read and written by its owner alone, and another one by whom the system lets.
     ///
     /// # Errors
     ///
     /// The system's error, which says why the file can't be opened.
-    fn open(&self, how: &OpenOptions, path: &str) -> io::Result<Self::File>
-        ensures opened { opens self.now how.now path.now result }
+    fn open(&self, how: &OpenOptions, is_private: bool, path: &str) -> io::Result<Self::File>
+        ensures opened { opens self.now how.now is_private path.now result }
         ensures new { IfOk result (λ file. ⟦<Self::File as BlockFile>⟧.calls file ≡ []) };
 
     /// Returns whether the file at a path is this open one. It isn't if another one took its place, or none is there.
@@ -61,6 +66,16 @@ pub trait FileSystem {
         ensures { syncs self.now folder.now result };
 }
 
+// Refuses what is there and is no file: to open a pipe waits for another program. Opening tells of what isn't there.
+fn check_kind<R: Files>(files: &R, path: &str) -> io::Result<()> {
+    match fs::metadata(files, path) {
+        Ok(found) if !found.is_file() => Err(io::Error::other(
+            "is no file, but a folder, a pipe or a device",
+        )),
+        _ => Ok(()),
+    }
+}
+
 impl<R: Files<File = File> + AllocGlobal> FileSystem for R {
     type File = SystemFile;
 
@@ -68,7 +83,12 @@ impl<R: Files<File = File> + AllocGlobal> FileSystem for R {
         fs::read(self, path)
     }
 
-    fn open(&self, how: &OpenOptions, path: &str) -> io::Result<SystemFile> {
+    fn open(&self, how: &OpenOptions, is_private: bool, path: &str) -> io::Result<SystemFile> {
+        check_kind(self, path)?;
+        let mut how = how.clone()?;
+        if is_private {
+            how.mode(OWNER_ALONE);
+        }
         match how.open(self, path) {
             Ok(file) => Ok(SystemFile::new(file)),
             Err(cause) => Err(cause),

@@ -45,8 +45,8 @@ pub use profile_fault::ProfileFileFault;
 pub use profile_file::{profile_of_bytes, profile_of_text, read_profile};
 pub use run_files::open_run;
 pub use totals_disk::{
-    TotalsDisk, disk_over, disk_to_read, file_is_mirrored, lengthened, make_totals, mirrored,
-    open_totals, sync_folder,
+    TotalsDisk, disk_over, disk_to_read, file_is_mirrored, lengthened, lock_totals, make_totals,
+    mirrored, open_totals, sync_folder,
 };
 pub use totals_file::{open_file, read_totals};
 pub use words::{Task, choice, read_words};

@@ -43,11 +43,11 @@ fn fault_of_open(cause: io::Error) -> FileFault
     FileFault::Open(cause)
 }
 
-// Opens a file and returns it. It is made if it isn't there and may be made.
+// Opens a file and returns it. It is made if it isn't there and may be made: for its owner alone.
 fn open_file<S: FileSystem>(files: &S, path: &str, may_make: bool) -> Result<S::File, FileFault>
     ensures { OpensFile S.FileSystem ReportsOpen files.now (to_write may_make) path.now result }
 {
-    match files.open(&options(may_make), path) {
+    match files.open(&options(may_make), true, path) {
         Ok(file) => Ok(file),
         Err(cause) => Err(fault_of_open(cause)),
     }
@@ -177,9 +177,16 @@ fn check_name<S: FileSystem>(files: &S, file: &S::File, path: &str) -> Result<()
     }
 }
 
-// Returns the disk in the file at a path, which is locked for this program alone. It is made if it isn't there and may
-// be made.
-fn lock_totals<S: FileSystem>(
+/// Returns the disk in the file at a path, which is locked for this program alone. It is made if it isn't there and may
+/// be made. Nothing of it is read.
+///
+/// # Errors
+///
+/// - `Open` if the file can't be opened for reading and writing, or the system can't tell whether it is still at the
+///   path.
+/// - `InUse` also if another program put another file in its place before it was locked.
+/// - Those of `disk_over`.
+pub fn lock_totals<S: FileSystem>(
     files: &S,
     path: &str,
     may_make: bool,
@@ -198,10 +205,7 @@ fn lock_totals<S: FileSystem>(
 ///
 /// # Errors
 ///
-/// - `Open` if the file can't be opened for reading and writing, or the system can't tell whether it is still at the
-///   path.
-/// - `InUse` also if another program put another file in its place before it was locked.
-/// - Those of `disk_over` and `mirrored`.
+/// Those of `lock_totals` and `mirrored`.
 pub fn open_totals<S: FileSystem + AllocGlobal>(
     files: &S,
     path: &str,

@@ -38,7 +38,7 @@ pub fn open_file<S: FileSystem>(files: &S, path: &str) -> Result<S::File, FileFa
     ensures opens { OpensFile S.FileSystem ReportsUnreadable files.now to_read path.now result }
     ensures new { IfOk result (λ file. ⟦<S::File as BlockFile>⟧.calls file ≡ []) }
 {
-    match files.open(&options(), path) {
+    match files.open(&options(), true, path) {
         Ok(file) => Ok(file),
         Err(cause) => Err(fault_of_read(cause)),
     }

@@ -8,7 +8,7 @@ use Rattle.pos_image.specs.Layout.{disk_size}
 use Rattle.pos_mirror.specs.Mirror.{Mirror}
 use Rattle.pos_program.specs.Answers.{AnswersFor}
 use Rattle.pos_program.specs.Faults.{ReportsUnreadable}
-use Rattle.pos_program.specs.TotalsDisks.{AreRead, OpensFile, OpensTotals, ReadsTotals, to_read}
+use Rattle.pos_program.specs.TotalsDisks.{AreRead, LocksTotals, OpensFile, ReadsTotals, to_read}
 use Rattle.pos_program.specs.declared.file_fault.FileFault.{FileFault}
 use Rattle.pos_program.specs.declared.file_fault.FileFault.TheVariants as file
 use Rattle.pos_program.specs.declared.file_system.FileSystem.{Ghosts as SystemGhosts}
@@ -120,7 +120,7 @@ CopiesBytes from Copies bytes result =
 
 -- a file with these bytes takes the place of the one at a path, which is opened and locked for this program alone
 abbrev pub PutsOver : {S F : Type 0} → SystemGhosts S F → FolderGhosts S → (F → List Call) → S → List ℕ → List ℕ
-    → Result (Mirror (FileDisk F)) FileFault → Result Finding Fault → Type 0
+    → Result (FileDisk F) FileFault → Result Finding Fault → Type 0
 PutsOver system folder calls them path bytes (Ok held) result =
     (answer : Result (Unit {0}) WholeFault) × Replaces system folder calls them path bytes answer
     × EndsCopy path answer result
@@ -131,7 +131,7 @@ abbrev pub PutsBack : {S F : Type 0} → SystemGhosts S F → FolderGhosts S →
     → Bool → Result Finding Fault → Type 0
 PutsBack system folder calls them path bytes false result = PutsNew system folder calls them path bytes result
 PutsBack {F = F} system folder calls them path bytes true result =
-    (held : Result (Mirror (FileDisk F)) FileFault) × OpensTotals system calls them path held
+    (held : Result (FileDisk F) FileFault) × LocksTotals system calls them false path held
     × PutsOver system folder calls them path bytes held result
 
 -- what putting the bytes of the totals file at one path to another comes to: they are sound, and the file has them

@@ -1,6 +1,6 @@
 -- What the program does for its words, and how it ends (docs/reference/tool.md).
 use Rattle.std.specs.Prelude.{◌≡◌, ◌≢◌, ℕ, List, [], Option, Some, None, Result, Ok, Err, Vec, bytes_eq, codes}
-use Rattle.std.specs.Prelude.{flat_map, if◌then◌else◌, map}
+use Rattle.std.specs.Prelude.{◌&&◌, Bool, flat_map, if◌then◌else◌, map}
 use Rattle.pos_disk.specs.Memory.{Memory}
 use Rattle.pos_disk.specs.declared.device.Disk.{Ghosts as DiskGhosts}
 use Rattle.pos_file.specs.declared.block_file.BlockFile.{Ghosts as FileGhosts}
@@ -115,13 +115,17 @@ Does files below mirrors memories them system folder under it pages terminals (C
 Does files below mirrors memories them system folder under it pages terminals Man old new result =
     Prints pages.man.now old new result
 
+-- whether input and output are terminals
+abbrev pub are_both : Terminals → Bool
+are_both terminals = terminals.input && terminals.output
+
 -- what it does for any task; but for a run that is typed it reads nothing from its input
 abbrev pub DoesTask : {F B S G : Type 0} → Ghosts F B → FileGhosts B → DiskGhosts (Mirror (FileDisk B))
     → DiskGhosts Memory → F → SystemGhosts S G → FolderGhosts S → FileGhosts G → S → Pages → Terminals → Task → Streams
     → Streams → Result Finding Fault → Type 0
 DoesTask files below mirrors memories them system folder under it pages terminals (Run scripts profile totals json)
     old new result = EndsRun files below mirrors memories them system it pages.codes pages.lines_help scripts.items
-    profile totals json terminals.input old new result
+    profile totals json (are_both terminals) old new result
 DoesTask files below mirrors memories them system folder under it pages terminals task old new result =
     (new.taken ≡ old.taken)
     × Does files below mirrors memories them system folder under it pages terminals task old.output new.output result

@@ -19,7 +19,7 @@ use Rattle.pos_shell.specs.declared.answer_texts.AnswerFormat.TheVariants.{Json,
 use Rattle.pos_tool.specs.declared.fault.Fault.{Fault}
 use Rattle.pos_tool.specs.declared.fault.Fault.TheVariants as fault
 
--- the lines of a run are typed: the input is a terminal, no script is named, and a person reads the answers
+-- the lines of a run are typed: input and output are terminals, no script is named, and a person reads the answers
 abbrev pub is_typed : List (Bor (List ℕ)) → Bool → Bool → Bool
 is_typed (path ∷ []) false true = bytes_eq path.now (codes "-")
 is_typed paths json is_terminal = false

@@ -19,7 +19,7 @@ use Rattle.pos_shell.specs.declared.runs.RunFault.{RunFault}
 use Rattle.pos_shell.specs.declared.trials.Trial.{Trial}
 use Rattle.pos_shell.specs.declared.trials.TrialFault.{TrialFault}
 use Rattle.pos_tool.specs.Names.{FindsScripts}
-use Rattle.pos_tool.specs.Whole.{PutsOver}
+use Rattle.pos_tool.specs.Whole.{PutsReport}
 use Rattle.pos_tool.specs.declared.fault.Fault.{Fault}
 use Rattle.pos_tool.specs.declared.fault.Fault.TheVariants as fault
 use Rattle.pos_tool.specs.declared.folder.Folder.{Ghosts as FolderGhosts}
@@ -61,7 +61,7 @@ EndsReport path finding (Err cause) other = ⊥
 abbrev pub MakesReport : {S G : Type 0} → SystemGhosts S G → FolderGhosts S → (G → List Call) → S → List ℕ → List Trial
     → Finding → Result Finding Fault → Type 0
 MakesReport system folder calls it path trials finding result = (result ≡ Err fault.NoMemory)
-    ⊎ ((answer : Result (Unit {0}) WholeFault) × PutsOver system folder calls it path (junit trials) answer
+    ⊎ ((answer : Result (Unit {0}) WholeFault) × PutsReport system folder calls it path (junit trials) answer
     × EndsReport path finding answer result)
 
 -- what follows what was printed: the report, if a path for one is given

@@ -1,9 +1,12 @@
 -- How a file appears whole or not at all (docs/reference/tool.md, "backup").
 use Rattle.std.specs.Prelude.{◌≡◌, ◌⊎◌, ◌++◌, ◌∷◌, [], ℕ, List, length, true, false, Option, Some, None, Result, Ok}
-use Rattle.std.specs.Prelude.{Bool, Err, codes}
+use Rattle.std.specs.Prelude.{◌==◌, ◌||◌, ◌≢◌, Bool, Err, codes, if◌then◌else◌, nat_eq}
 use Rattle.std.specs.Fs.{new_options, with_create_new, with_write}
+use Rattle.std.specs.IoError.{error_kind}
+use Rattle.std.specs.List.{starts_with}
 use Rattle.std.specs.declared.fs.options.OpenOptions.{OpenOptions}
 use Rattle.std.specs.declared.io.Error.{Error}
+use Rattle.std.specs.declared.io.ErrorKind.TheVariants.{NotFound}
 use Rattle.pos_file.specs.Calls.{Call, is_whole, sync_call, write_call}
 use Rattle.pos_file.specs.Disks.{Asks}
 use Rattle.pos_program.specs.Answers.{HasToBe, Passes}
@@ -34,11 +37,11 @@ WritesOpened {F} calls (Ok file) bytes result =
     (calls file ≡ []) × ((after : F) × WritesWhole calls file after bytes result)
 WritesOpened calls (Err cause) bytes result = result ≡ Err (fault.Part cause)
 
--- what making a new file with these bytes comes to
-abbrev pub WritesPart : {S F : Type 0} → SystemGhosts S F → (F → List Call) → S → List ℕ → List ℕ
+-- what making a new file with these bytes comes to, which may be private
+abbrev pub WritesPart : {S F : Type 0} → SystemGhosts S F → (F → List Call) → S → List ℕ → Bool → List ℕ
     → Result (Unit {0}) WholeFault → Type 0
-WritesPart {F = F} system calls them part bytes result =
-    (opened : Result F Error) × system.opens them to_make part opened × WritesOpened calls opened bytes result
+WritesPart {F = F} system calls them part is_private bytes result =
+    (opened : Result F Error) × system.opens them to_make is_private part opened × WritesOpened calls opened bytes result
 
 -- what making the name of a file stay comes to
 abbrev pub Settles : {S F : Type 0} → SystemGhosts S F → S → List ℕ → Result (Unit {0}) WholeFault → Type 0
@@ -70,13 +73,13 @@ Continues Writes next result =
     (written : Result (Unit {0}) WholeFault) × Writes written
     × Then written next result
 
--- What making a file with these bytes at a path comes to: want of memory; or they are written to the file beside it,
--- and after that it gets its name.
+-- What making a file with these bytes at a path comes to: want of memory; or they are written to a private file beside
+-- it, and that gets its name.
 abbrev pub Puts : {S F : Type 0} → SystemGhosts S F → FolderGhosts S → (F → List Call) → S → List ℕ → List ℕ
     → Result (Unit {0}) WholeFault → Type 0
 Puts system folder calls them path bytes result =
     (result ≡ Err fault.NoMemory)
-    ⊎ Continues (WritesPart system calls them (path ++ codes ".part") bytes)
+    ⊎ Continues (WritesPart system calls them (path ++ codes ".part") true bytes)
     (LinksPart system folder them (path ++ codes ".part") path result) result
 
 -- what putting a whole file in the place of what has its name comes to
@@ -92,14 +95,29 @@ ChecksFile folder them path result =
     (answer : Result Bool Error) × folder.admits them path answer
     × HasToBe fault.NoFile (λ cause why. why ≡ fault.Link cause) answer result
 
--- What making a file with these bytes at a path comes to, in place of one that may be there: want of memory; or its
--- name may be taken, they are written to the file beside it, and after that it gets its name.
-abbrev pub PutsOver : {S F : Type 0} → SystemGhosts S F → FolderGhosts S → (F → List Call) → S → List ℕ → List ℕ
+-- the bytes of a report, or none, which a report may take the place of
+abbrev pub is_report : List ℕ → Bool
+is_report bytes = (length bytes == 0) || starts_with nat_eq bytes (codes "<?xml")
+
+-- what is made of what is at the path of a report, if this is what reading it answered
+abbrev pub AdmitsReport : Result (List ℕ) Error → Result (Unit {0}) WholeFault → Type 0
+AdmitsReport (Ok bytes) result = result ≡ (if is_report bytes then Ok tt else Err fault.NoReport)
+AdmitsReport (Err cause) (Ok u) = error_kind cause ≡ NotFound
+AdmitsReport (Err cause) (Err why) = (why ≡ fault.Link cause) × (error_kind cause ≢ NotFound)
+
+-- what checking comes to that a report may take a name
+abbrev pub ChecksReport : {S F : Type 0} → SystemGhosts S F → S → List ℕ → Result (Unit {0}) WholeFault → Type 0
+ChecksReport system them path result =
+    (answer : Result (List ℕ) Error) × system.reads them path answer × AdmitsReport answer result
+
+-- What making a report with these bytes at a path comes to, in place of one that may be there: want of memory; or its
+-- name may be taken, it is written to the file beside it, and that gets its name.
+abbrev pub PutsReport : {S F : Type 0} → SystemGhosts S F → FolderGhosts S → (F → List Call) → S → List ℕ → List ℕ
     → Result (Unit {0}) WholeFault → Type 0
-PutsOver system folder calls them path bytes result =
-    (result ≡ Err fault.NoMemory)
-    ⊎ Continues (ChecksFile folder them path) (Continues (WritesPart system calls them (path ++ codes ".part") bytes)
-    (RenamesPart system folder them (path ++ codes ".part") path result) result) result
+PutsReport system folder calls them path bytes result = (result ≡ Err fault.NoMemory)
+    ⊎ Continues (ChecksFile folder them path) (Continues (ChecksReport system them path)
+    (Continues (WritesPart system calls them (path ++ codes ".part") false bytes)
+    (RenamesPart system folder them (path ++ codes ".part") path result) result) result) result
 
 -- what keeping a file under a second name, and putting another one in its place, with its owner and mode, comes to
 abbrev pub SetsAside : {S F : Type 0} → SystemGhosts S F → FolderGhosts S → S → List ℕ → List ℕ → List ℕ
@@ -110,12 +128,12 @@ SetsAside system folder them part path old result =
     × Follows fault.Rights (RenamesPart system folder them part path result) copied result) linked result
 
 -- What putting a file with these bytes in place of the one at a path comes to: its name may be taken, they are written
--- to the file beside it, then the old file gets a second name and the new one its owner and mode, and then the new one
--- takes its place.
+-- to a private file beside it, the old file gets a second name and the new one its owner and mode, and the new one takes
+-- its place.
 abbrev pub PutsInstead : {S F : Type 0} → SystemGhosts S F → FolderGhosts S → (F → List Call) → S → List ℕ → List ℕ
     → List ℕ → List ℕ → Result (Unit {0}) WholeFault → Type 0
 PutsInstead system folder calls them part path old bytes result = Continues (ChecksFile folder them path)
-    (Continues (WritesPart system calls them part bytes) (SetsAside system folder them part path old result) result)
+    (Continues (WritesPart system calls them part true bytes) (SetsAside system folder them part path old result) result)
     result
 
 -- likewise, with the names that the files beside it get; or there is no memory for them

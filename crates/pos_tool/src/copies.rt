@@ -14,7 +14,7 @@ use crate::fault::Fault;
 use crate::folder::Folder;
 use crate::whole::{WholeFault, put_new, replace};
 use pos_file::BlockFile;
-use pos_program::{FileFault, FileSystem, open_file, open_totals, read_totals};
+use pos_program::{FileFault, FileSystem, lock_totals, open_file, read_totals};
 use pos_report::{Finding, LoadFault, Salvaged, load_totals, salvage_totals};
 use pos_streams::Sink;
 use pos_survey::{Survey, SurveyFault};
@@ -102,7 +102,8 @@ fn at_copy<'a>(path: &'a str, answer: Result<(), WholeFault>) -> Result<Finding,
     }
 }
 
-// Puts a file with these bytes at a path: where none is, or in place of one that no program has open.
+// Puts a file with these bytes at a path: where none is, or in place of one that no program has open. Nothing of that
+// one is read, so that a file on a damaged disk gives way too.
 fn put<'a, S: FileSystem + Folder + AllocGlobal>(
     system: &S,
     path: &'a str,
@@ -115,7 +116,7 @@ fn put<'a, S: FileSystem + Folder + AllocGlobal>(
     if !replaces {
         return at_copy(path, put_new(system.alloc(), system, path, bytes));
     }
-    match open_totals(system, path) {
+    match lock_totals(system, path, false) {
         Ok(_held) => at_copy(path, replace(system.alloc(), system, path, bytes)),
         Err(cause) => Err(Fault::File { path, cause }),
     }

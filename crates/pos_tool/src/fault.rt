@@ -255,7 +255,7 @@ fn hint_of_file(cause: &FileFault) -> &'static str {
             "check the path, and who may read and write it"
         }
         FileFault::Unformatted => {
-            "restore a copy if it had totals; `kijolvar create FILE` makes new ones"
+            "if it had totals, copy it and restore an older copy; `kijolvar create FILE` overwrites it"
         }
         FileFault::Short => "if it was cut off, restore a copy of it, or salvage what is left",
         FileFault::Damaged | FileFault::Broken { .. } => {
@@ -263,6 +263,10 @@ fn hint_of_file(cause: &FileFault) -> &'static str {
         }
         FileFault::Formatted => "`kijolvar files FILE` prints what it holds",
         FileFault::Moved => "nothing is left to do",
+        FileFault::NotSynced => "check the device; if it can't be written, copy the file from it first",
+        FileFault::NotRead => {
+            "copy it by dd if=FILE of=COPY bs=512 conv=noerror,sync, and salvage COPY, or restore an older copy"
+        }
         FileFault::NoMemory | FileFault::NoMemoryToMove => "free memory, and try again",
         FileFault::Move => "restart the machine, check the device, and move it again",
         _ => "check the device that it is on, and the space that is free there",
@@ -289,9 +293,10 @@ fn hint_of_whole(cause: &WholeFault) -> &'static str {
         WholeFault::Part(_) =>
             "check the folder; remove the .part file if no other command is making it",
         WholeFault::NoFile => "give the path of a file, and not of a link to it",
+        WholeFault::NoReport => "give the path of a report, or one that is free",
         WholeFault::Unwritten => "check the device, and the space that is free there",
         WholeFault::Link(_) => {
-            "if a file is there, give another path, or restore with --replace; the disk must have hard links"
+            "if a file is there, give another path; `restore` has --replace; the disk must have hard links"
         }
         WholeFault::Aside(_) => "if a .old file is there: move it away first",
         WholeFault::Rights(_) => "run it as the old file's owner, or as root",

@@ -4,7 +4,7 @@ ghost use Rattle.std.specs.Process.{exit_status};
 ghost use Rattle.pos_tool.specs.Faults.{status_of};
 ghost use Rattle.pos_shell.specs.Outputs.{output_of, streams_of};
 ghost use Rattle.pos_tool.specs.Program.{Completes, DoesAsAsked, DoesTask, EndsAt, Explains, Performs};
-ghost use Rattle.pos_tool.specs.Program.{fault_of_unread};
+ghost use Rattle.pos_tool.specs.Program.{are_both, fault_of_unread};
 
 use crate::answers::{print, print_file, write_difference};
 use crate::commands::{Task, choice};
@@ -55,6 +55,15 @@ pub struct Terminals {
     pub input: bool,
     /// Its output is one.
     pub output: bool,
+}
+
+impl Terminals {
+    // Whether both are terminals.
+    fn are_both(self) -> bool
+        ensures { result ≡ are_both self }
+    {
+        self.input && self.output
+    }
 }
 
 // Prints what a code means.
@@ -153,7 +162,7 @@ fn perform_task<
             files,
             system,
             reader,
-            terminals.input,
+            terminals.are_both(),
             writer,
             pages.codes,
             pages.lines_help,

@@ -9,7 +9,7 @@ ghost use Rattle.pos_tool.specs.Trials.{TestsOver, TestsPainted, TestsProfiled, 
 use crate::fault::Fault;
 use crate::folder::Folder;
 use crate::names::find_scripts;
-use crate::whole::{WholeFault, put_over};
+use crate::whole::{WholeFault, put_report};
 use pos_disk::{Disk, MemDisk};
 use pos_file::BlockFile;
 use pos_profile::Profile;
@@ -42,7 +42,8 @@ fn form_of(json: bool) -> AnswerFormat
     AnswerFormat::Numbered
 }
 
-// Whether the lines of a run are typed: the input is a terminal, no script is named, and a person reads the answers.
+// Whether the lines of a run are typed: input and output are terminals, no script is named, and a person reads the
+// answers.
 fn is_typed(scripts: &[&str], json: bool, is_terminal: bool) -> bool
     ensures { result ≡ is_typed scripts.now json is_terminal }
 {
@@ -80,8 +81,8 @@ fn run_lines<'a, F: NamedFiles, S: FileSystem + AllocGlobal, R: Source, W: Sink>
     )
 }
 
-/// Runs the scripts at paths, and prints what each line is answered. At a terminal it runs what is typed, if no script
-/// is named. docs/reference/tool.md, "run".
+/// Runs the scripts at paths, and prints what each line is answered. Where input and output are terminals it runs what
+/// is typed, if no script is named. docs/reference/tool.md, "run".
 ///
 /// # Errors
 ///
@@ -196,7 +197,7 @@ fn make_report<'a, S: FileSystem + Folder + AllocGlobal>(
     let Ok(text) = junit(system.alloc(), trials) else {
         return Err(Fault::NoMemory);
     };
-    at_report(path, finding, put_over(system.alloc(), system, path, &text))
+    at_report(path, finding, put_report(system.alloc(), system, path, &text))
 }
 
 // Prints what trying scripts found, and then makes a report of it, if a path for one is given.

@@ -1,7 +1,7 @@
 //! Files that appear whole or not at all.
 ghost use Rattle.std.specs.Prelude.{◌≡◌, ◌++◌, IfOk, string_bytes};
-ghost use Rattle.pos_tool.specs.Whole.{ChecksFile, LinksPart, Puts, PutsInstead, PutsOver, RenamesPart, Replaces};
-ghost use Rattle.pos_tool.specs.Whole.{SetsAside, Settles, WritesPart, WritesWhole, to_make};
+ghost use Rattle.pos_tool.specs.Whole.{ChecksFile, ChecksReport, LinksPart, Puts, PutsInstead, PutsReport, RenamesPart};
+ghost use Rattle.pos_tool.specs.Whole.{Replaces, SetsAside, Settles, WritesPart, WritesWhole, is_report, to_make};
 
 use crate::folder::Folder;
 use pos_file::BlockFile;
@@ -23,6 +23,9 @@ pub enum WholeFault {
     /// Its name is that of a link, a folder, a pipe or a device.
     #[error("is no file, but a link, a folder, a pipe or a device")]
     NoFile,
+    /// Its name is that of a file that is no report, and would be lost.
+    #[error("is there, and is no report that may be replaced")]
+    NoReport,
     /// It couldn't be written whole, or not be synced.
     #[error("can't be written and synced whole")]
     Unwritten,
@@ -85,15 +88,17 @@ fn write_whole<F: BlockFile>(file: &mut F, bytes: &[u8]) -> Result<(), WholeFaul
     }
 }
 
-// Makes a new file with these bytes. If that fails after it was made, it is removed again.
+// Makes a new file with these bytes, which may be its owner's alone. If that fails after it was made, it is removed
+// again.
 fn write_part<S: FileSystem + Folder>(
     system: &S,
     part: &str,
+    is_private: bool,
     bytes: &[u8],
 ) -> Result<(), WholeFault>
-    ensures { WritesPart S.FileSystem ⟦<S::File as BlockFile>⟧.calls system.now part.now bytes.now result }
+    ensures { WritesPart S.FileSystem ⟦<S::File as BlockFile>⟧.calls system.now part.now is_private bytes.now result }
 {
-    let mut file = match system.open(&options(), part) {
+    let mut file = match system.open(&options(), is_private, part) {
         Ok(file) => file,
         Err(cause) => return Err(WholeFault::Part(cause)),
     };
@@ -130,8 +135,8 @@ fn link_part<S: FileSystem + Folder>(system: &S, part: &str, path: &str) -> Resu
     settle(system, path)
 }
 
-/// Makes a file with these bytes at a path where none is. They are written to a file beside it and synced, and only
-/// then does it get its name: whatever happens, the whole file is there or none.
+/// Makes a file with these bytes at a path where none is, for its owner alone. They are written to a file beside it and
+/// synced, and only then does it get its name: whatever happens, the whole file is there or none.
 ///
 /// # Errors
 ///
@@ -145,7 +150,7 @@ pub(crate) fn put_new<S: FileSystem + Folder>(
     ensures { Puts S.FileSystem S.Folder ⟦<S::File as BlockFile>⟧.calls system.now path.now bytes.now result }
 {
     let part = beside(alloc, path, ".part")?;
-    write_part(system, &part, bytes)?;
+    write_part(system, &part, true, bytes)?;
     link_part(system, &part, path)
 }
 
@@ -171,23 +176,43 @@ fn rename_part<S: FileSystem + Folder>(system: &S, part: &str, path: &str) -> Re
     settle(system, path)
 }
 
-/// Makes a file with these bytes at a path, in place of one that may be there. They are written to a file beside it and
-/// synced, and only then does it get its name: whatever happens, the whole new file is there or what was there before.
+// Whether bytes are those of a report, or none.
+fn is_report(bytes: &[u8]) -> bool
+    ensures { result ≡ is_report bytes.now }
+{
+    bytes.is_empty() || bytes.starts_with(b"<?xml")
+}
+
+// Checks that a report may take a name: the name is free, or that of a report or of an empty file.
+fn check_report<S: FileSystem>(system: &S, path: &str) -> Result<(), WholeFault>
+    ensures { ChecksReport S.FileSystem system.now path.now result }
+{
+    match system.read(path) {
+        Ok(bytes) if is_report(&bytes) => Ok(()),
+        Ok(_) => Err(WholeFault::NoReport),
+        Err(cause) if cause.kind() == io::ErrorKind::NotFound => Ok(()),
+        Err(cause) => Err(WholeFault::Link(cause)),
+    }
+}
+
+/// Makes a report with these bytes at a path, in place of one that may be there. They are written to a file beside it
+/// and synced, and only then does it get its name: whatever happens, the whole report is there or what was there before.
 ///
 /// # Errors
 ///
 /// Those of [`WholeFault`].
-pub(crate) fn put_over<S: FileSystem + Folder>(
+pub(crate) fn put_report<S: FileSystem + Folder>(
     alloc: Global,
     system: &S,
     path: &str,
     bytes: &[u8],
 ) -> Result<(), WholeFault>
-    ensures { PutsOver S.FileSystem S.Folder ⟦<S::File as BlockFile>⟧.calls system.now path.now bytes.now result }
+    ensures { PutsReport S.FileSystem S.Folder ⟦<S::File as BlockFile>⟧.calls system.now path.now bytes.now result }
 {
     let part = beside(alloc, path, ".part")?;
     check_file(system, path)?;
-    write_part(system, &part, bytes)?;
+    check_report(system, path)?;
+    write_part(system, &part, false, bytes)?;
     rename_part(system, &part, path)
 }
 
@@ -232,7 +257,7 @@ fn put_instead<S: FileSystem + Folder>(
         bytes.now result }
 {
     check_file(system, path)?;
-    write_part(system, part, bytes)?;
+    write_part(system, part, true, bytes)?;
     set_aside(system, part, path, old)
 }
 
