@@ -40,7 +40,7 @@ from emulator import Cut, Display, Line, Printer, PtyCable, Scanner, SilentHost,
 from emulator.scanner import KEYS
 from kijolvar import (Driver, EscPosDrawer, EscPosPrinter, OutputCompleteEvent, PrintedCut, SerialDisplay, SerialPort,
                       StatusUpdateEvent, WedgeScanner, WireSettings)
-from kijolvar._links import PrinterLink, pieces_of
+from kijolvar._links import AskedLink, Job, PrinterLink, pieces_of
 
 SCRIPTS = TOP / "tests/scripts"
 PROFILE = """
@@ -689,6 +689,57 @@ def try_button_behind_a_line():
                 lambda: shop.till.run_devices(0.01) is not None and raised(shop.control.print, TEXT) is None))
             items = shop.till.device("r1").show().items
             told(f"{name}: each line is whole", (4, []), (len(items), not_whole(shop.device, items)))
+
+
+def try_retries_behind_a_line():
+    """An order that is tried again and again at a printer that takes nothing from its line, while the line takes bytes
+    or none either: what waits to go out or to be acknowledged doesn't grow."""
+    for takes in (True, False):
+        name = f"retries behind a line that takes {'bytes' if takes else 'nothing'}"
+        with contextlib.ExitStack() as stack:
+            shop, sizes = Shop(stack, "holds"), []
+            shop.begins()
+            shop.device.ROOM = 8
+            link, held = shop.driver.link, threading.Event()
+            ready = link.port.ready
+
+            def ready_unless_full(is_writing, seconds):
+                is_full = held.is_set() and not takes
+                can_read, can_write = ready(is_writing and not is_full, min(seconds, 0.01) if is_full else seconds)
+                return can_read, can_write and not is_full
+            stack.enter_context(mock.patch.object(link.port, "ready", ready_unless_full))
+            shop.device.after(35, lambda: shop.device.feeds(True), held.set)
+            for _ in range(8):
+                told(f"{name}: the answer", (111, 0), raised(shop.control.print, TEXT))
+                shop.till.run_devices()
+                sizes.append((len(link._due), len(link._outbox)))
+            told(f"{name}: what waits", sizes[3:4] * 5, sizes[3:])
+            held.clear()
+            shop.device.feeds(False)
+            told(f"{name}: again", True, until(
+                lambda: shop.till.run_devices(0.01) is not None and raised(shop.control.print, TEXT) is None))
+            shop.same_paper(f"{name}: the paper")
+            told(f"{name}: nothing else", (4, 0), (len(shop.device.receipt()), shop.driver.late_orders))
+
+
+def try_markers_without_numbers():
+    """A marker asks what is printed. That of a printer whose acknowledgements have no number isn't taken back: its
+    answer comes, and would count for what is sent next. One that is still to go out serves again."""
+    for made in (AskedLink, PrinterLink):
+        link = made(kijolvar.FilePort("/dev/null"), TIMEOUT, PAUSE)
+        link._question = b"\x1d(H\x06\x0000@@@@"
+        job, found = Job(TEXT, True), []
+        link._post(job)
+        pieces = list(link._due)
+        for _ in range(2):
+            link._outbox.clear()
+            link._puts_marker()
+            found.append([*link._due])
+        told(f"the markers of {made.__name__}", ([1, 1], made is AskedLink),
+             ([len(due) - len(pieces) for due in found], found[0] == found[1]))
+        link._puts_marker()
+        told(f"one that is still to go out: {made.__name__}", (found[1], made is PrinterLink),
+             ([*link._due], bool(link._outbox)))
 
 
 def try_long_orders():

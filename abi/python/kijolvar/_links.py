@@ -136,6 +136,11 @@ class _Parcel:
         self.rest, self.number, self.job, self.done = rest, number, job, done
         self.is_begun = False
 
+    @property
+    def is_marker(self) -> bool:
+        """Whether it only asks for an acknowledgement of what was sent before."""
+        return self.number is not None and self.done == 0
+
 
 class PrinterLink:
     """The line to a printer, which acknowledges in order what it has printed.
@@ -312,14 +317,23 @@ class PrinterLink:
     def _catches_up(self, job: Job) -> None:
         """Finds out how far a job has come that failed."""
         if self._is_due(job):
-            # What was sent before is printed or lost once this is acknowledged.
-            self._send(b"", None, 0)
+            self._puts_marker()
             self._pump(lambda: job.is_done or not self._is_due(job) or self.is_stopped)
         if not self._is_due(job):
             if job.sent > job.done:
                 # Some of it was lost, and the printer may have begun a line.
                 self._puts(self._start)
             job.sent, job.is_torn = job.done, False
+
+    def _puts_marker(self) -> None:
+        """Asks for an acknowledgement. Once it comes, all that was sent before is printed or lost. A marker that is
+        still to go out serves again. One that went out and isn't answered may be lost, and is of no use any more."""
+        last = self._due[-1]
+        if last.is_marker and last in self._outbox:
+            return
+        if last.is_marker:
+            self._due.pop()
+        self._send(b"", None, 0)
 
     def _is_due(self, job: Job) -> bool:
         """Whether something of a job may still be acknowledged."""
@@ -672,10 +686,12 @@ class PrinterLink:
         self._asks(_PRINTER)
 
     def _asks(self, question: int) -> None:
-        """Asks a question of DLE EOT."""
+        """Asks a question of DLE EOT, unless it is still to go out."""
         self._asked_last, self._questioned_at = question, time.monotonic()
-        self._unanswered += 1
-        self._puts(_STATUS_NOW + bytes([question]))
+        data = _STATUS_NOW + bytes([question])
+        if not any(parcel.rest == data for parcel in self._outbox):
+            self._unanswered += 1
+            self._puts(data)
 
     def _ask_at_once(self) -> None:
         """Asks whether the printer is there, also if a question is out that may be lost."""
@@ -825,6 +841,11 @@ class AskedLink(PrinterLink):
         what is sent next."""
         for parcel in self._due:
             parcel.job = None
+
+    def _puts_marker(self) -> None:
+        """Answers are counted, so that of a marker that is out comes, and serves again."""
+        if not self._due[-1].is_marker:
+            super()._puts_marker()
 
     def _gives_up(self) -> None:
         """Waits for acknowledgements that are late. They are lost if none comes for the whole time, although the
