@@ -793,6 +793,84 @@ def try_process_that_stands_still():
             shop.same_paper(f"{name}: the paper")
 
 
+def try_power_while_the_process_stands_still():
+    """The process stands still within an order, or the machine is suspended, and the printer goes on meanwhile. On a
+    cable that keeps what is sent it was off first: it prints and acknowledges the end of a line, which isn't printed.
+    On any other cable all counts."""
+    for kind, is_suspended in (("holds", False), ("holds", True), ("asked holds", False), ("asked holds", True),
+                               ("usb", False), ("serial", False), ("asked", False)):
+        with contextlib.ExitStack() as stack:
+            name = f"{'suspended' if is_suspended else 'standing still'}, over {kind}"
+            shop, stood, suspended = Shop(stack, kind, timeout=PATIENCE), [], [0.0]
+            device, port = shop.device, shop.driver.link.port
+            shop.begins()
+            device.ROOM, count, ready = 8, len(device.receipt()), port.ready
+
+            def stands_still(is_writing, seconds):
+                if seconds <= 0 or stood or not device.is_hung:
+                    return ready(is_writing, seconds)
+                if "holds" in kind:
+                    device.pull_plug()
+                    device.plug_in()
+                device.hang(False)
+                stood.append(until(lambda: len(device.receipt()) > count))
+                if is_suspended:
+                    suspended[0] = 2.25
+                else:
+                    time.sleep(2.25)
+                return ready(is_writing, 0)
+            stack.enter_context(mock.patch.object(port, "ready", stands_still))
+            stack.enter_context(mock.patch(
+                "kijolvar._links.clock_gettime", lambda clock: time.clock_gettime(clock) + suspended[0]))
+            device.after_characters(1, device.hang)
+            told(f"{name}: the answer", ((111, 0) if "holds" in kind else None, [True]),
+                 (raised(shop.control.print, TEXT), stood))
+            told(f"{name}: again", True, "holds" not in kind or until(
+                lambda: shop.till.run_devices(0.01) is not None and raised(shop.control.print, TEXT) is None))
+            told(f"{name}: each line is whole", [], not_whole(device, shop.till.device("r1").show().items))
+
+
+def prints_in_child(path):
+    """Prints over a line in a process that was forked. Returns its number, and the file in which it says what became of
+    the order and of the next one that is done."""
+    said, says = os.pipe()
+    child = os.fork()
+    if child == 0:
+        try:
+            with opened() as till:
+                till.drive("r1", EscPosPrinter(SerialPort(path, 115200), timeout=PATIENCE, pause=PAUSE, lines=1000))
+                with till.printer("r1").in_use() as control:
+                    found = raised(control.print, TEXT)
+                    again = until(lambda: till.run_devices(0.01) is not None and raised(control.print, TEXT) is None)
+            os.write(says, repr((found, again)).encode())
+        finally:
+            os._exit(0)
+    os.close(says)
+    return child, said
+
+
+def try_stopped_process():
+    """A process that is stopped (SIGSTOP) within an order while the printer loses its power and has it again: what the
+    line has kept of the order is printed and acknowledged, and isn't the whole."""
+    with Printer(cable("holds")) as device:
+        device.ROOM = 8
+        device.after_characters(1, device.hang)
+        child, said = prints_in_child(device.path)
+        told("the printer is in a line", True, until(lambda: device.is_hung))
+        os.kill(child, signal.SIGSTOP)
+        os.waitpid(child, os.WUNTRACED)
+        device.pull_plug()
+        device.plug_in()
+        device.hang(False)
+        told("the end of the line is printed", True, until(device.receipt))
+        time.sleep(2.25)
+        os.kill(child, signal.SIGCONT)
+        with open(said) as text:
+            told("the order, and again", repr(((111, 0), True)), text.read())
+        os.waitpid(child, 0)
+        told("each line is whole", True, {b"First line", b"Second line", b"Third line"} <= set(characters_of(device)))
+
+
 def try_silence_that_nobody_heard():
     """A printer that has said nothing while nobody looked, on a cable that keeps what is sent: it has time to answer
     before what is due counts as lost. The loop looks at its line twice, for it and for its drawer."""

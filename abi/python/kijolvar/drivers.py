@@ -144,8 +144,8 @@ class EscPosPrinter(Driver):
     seconds, or for the timeout if that is shorter, the order has failed, and what isn't acknowledged of it is printed
     again: parts of lines may be on the paper beside the whole ones. So is what it acknowledges of an order that failed
     for no reason (FailureError) while the till doesn't look for 2 seconds, as `run_devices` does: it may have been off.
-    One that has said by itself that it is offline may be silent, as while its feed button is held: it says that it goes
-    on.
+    The same counts for an order during which the process stands still for 2 seconds, or the machine is suspended. One
+    that has said by itself that it is offline may be silent, as while its feed button is held: it says that it goes on.
 
     Args:
         port: The port, or its name as `port_of` takes it: /dev/usb/lp0, /dev/ttyUSB0, tcp:192.168.1.9:9100.
