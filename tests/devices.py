@@ -14,6 +14,7 @@ import errno
 import fcntl
 import gc
 import io
+import math
 import os
 import pathlib
 import random
@@ -3199,10 +3200,10 @@ def late(*_):
     raise InterruptedError("it takes too long")
 
 
-def in_time(call, *words):
+def in_time(call, *words, patience=PATIENCE):
     """The name of what a call raises, or None. One that takes too long is interrupted."""
     signal.signal(signal.SIGALRM, late)
-    signal.setitimer(signal.ITIMER_REAL, PATIENCE)
+    signal.setitimer(signal.ITIMER_REAL, patience)
     try:
         return name_of(call, *words)
     finally:
@@ -3268,8 +3269,16 @@ def try_refusals():
     told("no such pin", "ValueError", name_of(EscPosPrinter, "/dev/null", pin=3))
     told("no such roll", "ValueError", name_of(EscPosPrinter, "/dev/null", lines=MOST_LINES + 1))
     told("no such protocol", "ValueError", name_of(SerialDisplay, "/dev/null", "morse"))
-    told("no such timeout", ["ValueError"] * 8, [name_of(made, "/dev/null", timeout=timeout) for timeout in (
-        0, 0.0, -1.0, float("nan")) for made in (EscPosPrinter, SerialDisplay)])
+    told("no such timeout", ["ValueError"] * 14, [name_of(made, "/dev/null", timeout=timeout) for timeout in (
+        0, 0.0, -1.0, math.nan, math.inf, -math.inf, 1e10) for made in (EscPosPrinter, SerialDisplay)])
+    told("no such pause", ["ValueError"] * 15, [name_of(made, "/dev/null", pause=pause) for pause in (
+        -1.0, math.nan, math.inf, -math.inf, 1e10) for made in (EscPosPrinter, SerialDisplay, WedgeScanner)])
+    told("no drawer takes so long", ["ValueError"] * 5, [name_of(
+        EscPosDrawer, EscPosPrinter("/dev/null"), settle) for settle in (-1.0, math.nan, math.inf, -math.inf, 1e10)])
+    told("a refusal says what to do", "the timeout is above 0 and at most 2,147,483 seconds, such as 5.0: not inf",
+         text_of(EscPosPrinter, "/dev/null", timeout=math.inf))
+    told("that of a pause too", "the pause is 0 to 2,147,483 seconds, such as 1.0: not nan",
+         text_of(WedgeScanner, "/dev/null", pause=math.nan))
     told("no such speed", "ValueError", name_of(SerialPort, "/dev/ttyS0", 9601))
     told("no such parity", "ValueError", name_of(SerialPort, "/dev/ttyS0", parity="odder"))
     told("ports", ["FilePort", "SerialPort", "TcpPort tcp://a:1", "TcpPort tcp://a:1", "TcpPort tcp://a:9100",
@@ -3280,6 +3289,81 @@ def try_refusals():
     told("no such ports", ["ValueError"] * 7, [name_of(kijolvar.port_of, f"tcp:{name}") for name in (
         "", ":1", "::1", "a:b", "a:0", "a:65536", "[a:b]")])
     told("a name that no host has", "PortError", name_of(kijolvar.port_of("tcp:.a").open))
+
+
+def text_of(call, *words, **named):
+    """The text of the ValueError that a call raises."""
+    try:
+        call(*words, **named)
+    except ValueError as fault:
+        return str(fault)
+    return None
+
+
+def try_longest_times():
+    """The longest times that a driver takes, and the shortest: they overflow nothing."""
+    with contextlib.ExitStack() as stack:
+        printer = stack.enter_context(Printer(cable("tcp")))
+        display, scanner = (stack.enter_context(made) for made in (Display(cable(), 2, 20, "cd5220"), Scanner(cable())))
+        till, most = stack.enter_context(opened()), 2_147_483
+        silent = stack.enter_context(SilentHost())
+        driver = EscPosPrinter(printer.path, timeout=most, pause=most, lines=1000)
+        till.drive("r1", driver)
+        till.drive("d1", EscPosDrawer(driver, settle=most))
+        till.drive("p1", SerialDisplay(display.path, timeout=most, pause=most))
+        till.drive("s1", WedgeScanner(scanner.path, keys=True, pause=most))
+        with till.printer("r1").in_use() as control, till.display("p1").in_use() as shown:
+            told("a printer with time", None, in_time(control.print, TEXT))
+            told("a drawer with time", None, in_time(till.drawer("d1").open_drawer))
+            told("a display with time", None, in_time(shown.display_text, b"Hi"))
+        told("a round of all", None, in_time(till.run_devices))
+        port = kijolvar.port_of(silent.path)
+        told("a port of a silent host", "InterruptedError", in_time(port.open, most, patience=0.5))
+        port.close()
+    with opened() as till:
+        till.drive("s1", WedgeScanner("/dev/no-such-device", pause=0))
+        told("a scanner that isn't there, tried all the time", None, in_time(till.run_devices))
+
+
+def try_endless_waits():
+    """Calls that wait without an end do so until something comes. NaN is no time, and less than 0 is none."""
+    with contextlib.ExitStack() as stack:
+        till, device = stack.enter_context(opened()), stack.enter_context(Scanner(cable()))
+        till.drive("s1", WedgeScanner(device.path, pause=PAUSE))
+        scanner = stack.enter_context(till.scanner("s1").in_use())
+        scanner.data_event_enabled = True
+        until(lambda: not till.run_devices())
+        typing = threading.Timer(0.3, device.scan, [b"7"])
+        typing.start()
+        told("the loop waits until something is there", (None, 1),
+             (in_time(till.run_devices, math.inf), scanner.data_count))
+        typing.join()
+        told("less than no time", [False] * 2, [till.run_devices(seconds) for seconds in (-1.0, -math.inf)])
+        told("no time", "the timeout is a number of seconds, or math.inf to wait without an end: not nan",
+             text_of(till.run_devices, math.nan))
+    with contextlib.ExitStack() as stack:
+        device = stack.enter_context(Scanner(cable()))
+        server = stack.enter_context(socket.create_server(("127.0.0.1", 0)))
+        port = kijolvar.TcpPort("127.0.0.1", server.getsockname()[1])
+        told("a port that is opened without an end", (None, True), (in_time(port.open, math.inf), port.is_open))
+        told("what is written so", [True, True], [port.write(b"A", seconds) for seconds in (math.inf, 1e300)])
+        told("what can be done", (False, True), port.ready(True, math.inf))
+        told("no more than no time", (b"", False), (port.read(-1.0), port.write(b"A", -math.inf)))
+        told("NaN", ["ValueError"] * 4, [name_of(call, *words) for call, *words in (
+            (port.open, math.nan), (port.ready, False, math.nan), (port.read, math.nan), (port.write, b"", math.nan))])
+        port.close()
+        line = kijolvar.FilePort(device.path)
+        line.open(math.inf)
+        typing = threading.Timer(0.3, device.scan, [b"7"])
+        typing.start()
+        told("what comes later", b"7\r", line.read(math.inf))
+        typing.join()
+        typing = threading.Timer(0.3, device.scan, [b"8"])
+        typing.start()
+        with mock.patch.object(kijolvar.ports.BESIDE, "keyboards", [WedgeScanner("/dev/null", keys=True)]):
+            told("beside a keyboard", b"8\r", line.read(math.inf))
+        typing.join()
+        line.close()
 
 
 def try_silent_host():

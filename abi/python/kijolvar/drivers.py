@@ -43,13 +43,21 @@ _MOST_FEEDS, _LONG = 4096, 100
 _QUICKLY = 0.02
 # After how long without an order nobody knows what a display shows, in seconds.
 _UNSEEN = 10.0
+# The longest timeout or pause, in seconds: that of the drivers of C, whose milliseconds have 31 bits.
+_MOST_SECONDS = 2_147_483
 
 
 def _check_timeout(timeout: float) -> None:
-    """Refuses a timeout in which no order can succeed."""
-    # Not even NaN is more than 0.
-    if not timeout > 0:
-        raise ValueError(f"the timeout is more than 0 seconds: {timeout!r}")
+    """Refuses a timeout in which no order can succeed, or after which none would end."""
+    # NaN is no more than 0, and no less than anything.
+    if not 0 < timeout <= _MOST_SECONDS:
+        raise ValueError(f"the timeout is above 0 and at most {_MOST_SECONDS:,} seconds, such as 5.0: not {timeout!r}")
+
+
+def _check_pause(name: str, seconds: float) -> None:
+    """Refuses a pause that no clock can tell, or that would never end."""
+    if not 0 <= seconds <= _MOST_SECONDS:
+        raise ValueError(f"{name} is 0 to {_MOST_SECONDS:,} seconds, such as 1.0: not {seconds!r}")
 
 
 class Driver:
@@ -162,11 +170,12 @@ class EscPosPrinter(Driver):
             counts with the device's `near` lines after each order: that is the longest request that may be taken then.
         is_asked: Whether the printer says nothing by itself, and doesn't know GS ( H, as simpler ones. Then it is asked
             for its status (DLE EOT), and after each line whether that is printed (GS r).
-        timeout: How long the printer may go on without acknowledging a line, in seconds; more than 0.
-        pause: How long to wait before a lost port is tried again, in seconds.
+        timeout: How long the printer may go on without acknowledging a line, in seconds; more than 0, and at most
+            2,147,483. An order has to end, so math.inf is refused.
+        pause: How long to wait before a lost port is tried again, in seconds; 0 to 2,147,483.
 
     Raises:
-        ValueError: No printer has such a setting, or the timeout isn't more than 0.
+        ValueError: No printer has such a setting, or the timeout or the pause is out of its range.
     """
 
     category = "POSPrinter"
@@ -183,6 +192,7 @@ class EscPosPrinter(Driver):
         if not 1 <= lines <= _MOST_LINES:
             raise ValueError(f"a roll has 1 to {_MOST_LINES} lines")
         _check_timeout(timeout)
+        _check_pause("the pause", pause)
         # As it is given, and as it is for a device.
         self._given_width, self._width = width, width
         self._lines = lines
@@ -298,13 +308,18 @@ class EscPosDrawer(Driver):
 
     Args:
         printer: The driver of the printer, whether or not the till drives that too.
-        settle: How long the drawer may take to open, in seconds. If its sensor still says closed then, it is.
+        settle: How long the drawer may take to open, in seconds; 0 to 2,147,483. If its sensor still says closed then,
+            it is.
+
+    Raises:
+        ValueError: `settle` is out of its range.
     """
 
     category = "CashDrawer"
     reads_orders = False
 
     def __init__(self, printer: EscPosPrinter, settle: float = 1.0) -> None:
+        _check_pause("settle", settle)
         self._printer, self._settle = printer, settle
         self._wire: Wire | None = None
         self._kicked_at: float | None = None
@@ -386,11 +401,12 @@ class SerialDisplay(Driver):
     Args:
         port: The port, or its name as `port_of` takes it. A serial line of that name has no flow control.
         protocol: "cd5220" or "escpos".
-        timeout: How long an order may take, in seconds; more than 0.
-        pause: How long to wait before a lost port is tried again, in seconds.
+        timeout: How long an order may take, in seconds; more than 0, and at most 2,147,483. An order has to end, so
+            math.inf is refused.
+        pause: How long to wait before a lost port is tried again, in seconds; 0 to 2,147,483.
 
     Raises:
-        ValueError: There is no such protocol, or the timeout isn't more than 0.
+        ValueError: There is no such protocol, or the timeout or the pause is out of its range.
     """
 
     category = "LineDisplay"
@@ -401,6 +417,7 @@ class SerialDisplay(Driver):
         if protocol not in _PROTOCOLS:
             raise ValueError(f"no such protocol: {protocol!r}")
         _check_timeout(timeout)
+        _check_pause("the pause", pause)
         self.port, self._timeout, self._pause = port_of(port, flow="none"), timeout, pause
         self.port.keeps_faults = False
         self._settings = WireSettings(protocol=_PROTOCOLS.index(protocol))
@@ -636,10 +653,10 @@ class WedgeScanner(Driver):
             looked at again when the port is opened.
         kind: The type of a code without an identifier, 0 to 999; 0 is SCAN_SDT_UNKNOWN.
         keys: Whether the device sends key events. If it is None, those of /dev/input do.
-        pause: How long to wait before a lost port is tried again, in seconds.
+        pause: How long to wait before a lost port is tried again, in seconds; 0 to 2,147,483.
 
     Raises:
-        ValueError: There is no such type or port.
+        ValueError: There is no such type or port, or the pause is out of its range.
     """
 
     category = "Scanner"
@@ -648,6 +665,7 @@ class WedgeScanner(Driver):
                  pause: float = 1.0) -> None:
         if not 0 <= kind <= _HIGHEST_KIND:
             raise ValueError(f"the type of a code is 0 to {_HIGHEST_KIND}, not {kind}")
+        _check_pause("the pause", pause)
         self._device, self._given_keys = device, keys
         self._take(_is_keyboard(device) if keys is None else keys)
         self._reader = self._new_reader()

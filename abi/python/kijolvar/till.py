@@ -29,6 +29,7 @@ from ._questions import Profile, ProfileDevice, devices, explain, library_of, te
 from ._session import Session
 from ._wire import Reply, WireSettings, behind, expected
 from .drivers import Driver
+from .ports import check_wait
 from .totals import Totals
 
 C = TypeVar("C", bound=Control)
@@ -398,11 +399,16 @@ class Till:
         with an ErrorEvent.
 
         Args:
-            timeout: How long to wait for something to happen, in seconds. Printing may take longer.
+            timeout: How long to wait for something to happen, in seconds. Printing may take longer. With 0 or less it
+                doesn't wait, and with math.inf until something happens.
 
         Returns:
             Whether anything was done.
+
+        Raises:
+            ValueError: The timeout is NaN.
         """
+        check_wait("the timeout", timeout)
         return self._drives.run(timeout)
 
     # The text layer.
