@@ -2639,6 +2639,81 @@ def try_typed_meanwhile():
             shows("whose line sends slowly")
 
 
+def heard_of(shop, count):
+    """What comes from a shop's keyboard, until so much has come: codes, and names of other events."""
+    found = []
+
+    def is_heard():
+        shop.till.run_devices(0.01)
+        shop.scanner.data_event_enabled = True
+        for event in shop.scanner.events():
+            found.append(shop.scanner.scan_data if type(event).__name__ == "DataEvent" else type(event).__name__)
+            shop.scanner.data_event_enabled = True
+        return len(found) >= count
+    until(is_heard)
+    return found
+
+
+def types_apart(keyboard, seconds, *parts):
+    """Types parts of codes, each so long after the one before, and returns whether each was read at once."""
+    is_read = True
+    for place, part in enumerate(parts):
+        time.sleep(seconds if place else 0)
+        keyboard.garbage(part)
+        is_read &= keyboard.wait(lambda: not keyboard._sends, PATIENCE) and until(lambda: not keyboard.cable.unread())
+    return is_read
+
+
+def try_typed_apart():
+    """Codes that are typed while an order waits: half of one that is followed by nothing for longer than a second is a
+    failed scan, and what comes then is a code of its own: an error comes before the codes and one behind them. A shorter
+    pause is none."""
+    half, rest, whole = typed("40063")[:-48], typed("81"), typed("4006381")
+    cases = (("two codes", 0, (whole, typed("12")), [b"4006381", b"12"]),
+             ("two codes after each other", 1.5, (whole, typed("12")), [b"4006381", b"12"]),
+             ("half a code and another one", 1.5, (half, rest), ["ErrorEvent", b"81", "ErrorEvent"]),
+             ("half a code twice, and one", 1.5, (half, half, rest), ["ErrorEvent", b"81", "ErrorEvent"]),
+             ("a code with a short pause", 0.3, (half, rest), [b"4006381"]))
+    for name, seconds, parts, wanted in cases:
+        with contextlib.ExitStack() as stack:
+            shop, found = Typing(stack), []
+            shop.device.after_characters(2, lambda: found.append(types_apart(shop.keyboard, seconds, *parts)))
+            told(f"an order beside {name}", (None, [True]), (raised(shop.control.print, TEXT), found))
+            told(name, wanted, heard_of(shop, len(wanted)))
+            shop.keyboard.types(b"7")
+            told(f"a code behind {name}", [b"7"], heard_of(shop, 1))
+    with contextlib.ExitStack() as stack:
+        shop, found = Typing(stack), []
+        shop.keyboard.garbage(half)
+        told("half a code before an order", True, until(
+            lambda: not shop.till.run_devices(0.01) and shop.reader._reader.has_begun))
+        shop.device.after_characters(2, lambda: found.append(
+            (time.sleep(1.5), types_apart(shop.keyboard, 0, rest))[1]))
+        told("the order", (None, [True]), (raised(shop.control.print, TEXT), found))
+        told("another code in it", ["ErrorEvent", b"81", "ErrorEvent"], heard_of(shop, 3))
+    with contextlib.ExitStack() as stack:
+        shop, found = Typing(stack), []
+        line, end = os.openpty()
+        stack.callback(os.close, line)
+        stack.callback(os.close, end)
+        port = SerialPort(os.ttyname(end), flow="none")
+        shop.till.drive("p1", SerialDisplay(port, timeout=4 * PATIENCE))
+        display = stack.enter_context(shop.till.display("p1").in_use())
+        while port.ready(True, 0.5)[1]:
+            port.write_some(bytes(1000))
+
+        def types_first():
+            found.append(types_apart(shop.keyboard, 1.5, half, rest))
+            while select.select([line], [], [], 0.5)[0]:
+                os.read(line, 10_000)
+        typing = threading.Thread(target=types_first)
+        typing.start()
+        told("a display whose line takes nothing yet", None, raised(display.display_text, b"Bread"))
+        typing.join()
+        told("half a code and another one beside it", ([True], ["ErrorEvent", b"81", "ErrorEvent"]),
+             (found, heard_of(shop, 3)))
+
+
 def try_typed_within_the_loop():
     """An order while the loop reads a keyboard, as a signal's handler makes one: the codes stay in their order."""
     with contextlib.ExitStack() as stack:

@@ -645,7 +645,8 @@ class WedgeScanner(Driver):
     any other key is a failed scan: the scanner gets an ErrorEvent. So is one of which the system drops key events: it
     keeps about 16 characters that nobody reads. While a call waits for a printer or a display, the till reads about
     170 more. A code from a serial line with a byte of 0 is a failed scan, too: the line has disturbed it. So is a code
-    that has begun when its port is lost, or of which `run_devices` finds nothing more a second later.
+    that has begun when its port is lost, or of which `run_devices` finds nothing more a second later; of a keyboard
+    also a call that waits.
 
     Args:
         device: /dev/input/.. for a keyboard wedge, or a link to one: no other program gets its keys meanwhile. Any
@@ -670,7 +671,7 @@ class WedgeScanner(Driver):
         self._take(_is_keyboard(device) if keys is None else keys)
         self._reader = self._new_reader()
         self._kind, self._pause, self._tried_at = kind, pause, -1e9
-        # When something was read last.
+        # When something came last, as far as anybody looked.
         self._read_at = -1e9
         # The codes that have come whole, and whether another one hasn't.
         self._found: deque[bytes] = deque()
@@ -680,7 +681,8 @@ class WedgeScanner(Driver):
         """Takes the device as one that sends key events, or as one that sends lines."""
         device = self._device
         port: Port = _KeyPort(device) if has_keys and not isinstance(device, Port) else port_of(device)
-        self.port, self._has_keys, self._typed = port, has_keys, bytearray()
+        # What was typed while an order waited. Between two parts nothing came for so long that a code has ended.
+        self.port, self._has_keys, self._typed = port, has_keys, [bytearray()]
 
     def __repr__(self) -> str:
         return f"<kijolvar.WedgeScanner {self.port.name!r}, {'online' if self.is_online else 'offline'}>"
@@ -701,11 +703,11 @@ class WedgeScanner(Driver):
                 # It is a link that led nowhere, or to another device.
                 self._take(not self._has_keys)
             self._reader = self._new_reader()
-        typed, self._typed = bytes(self._typed), bytearray()
-        self._read(typed)
+        self._read_typed()
         with contextlib.suppress(PortError):
             self._open()
             for data in self.port.waiting():
+                self._read_at = time.monotonic()
                 self._read(data)
         self._minds_rest()
 
@@ -713,28 +715,58 @@ class WedgeScanner(Driver):
         """A code that has begun has failed if its port is lost, or if a look after some time finds no more of it. If
         nobody has looked before, what is found then may have come in time."""
         is_late = time.monotonic() - self._read_at >= _REST
-        if self._reader.has_begun and (is_late or not self.port.is_open):
+        if is_late or not self.port.is_open:
+            self._ends_code()
+
+    def _ends_code(self) -> None:
+        """A code that has begun has failed: its rest doesn't come any more."""
+        if self._reader.has_begun:
             self._has_failed, self._reader = True, self._new_reader()
+
+    def _read_typed(self) -> None:
+        """Finds the codes in what was typed while an order waited. An interrupt leaves the parts behind the one that is
+        read."""
+        self._read_part()
+        while len(self._typed) > 1:
+            self._ends_code()
+            del self._typed[0]
+            self._read_part()
+
+    def _read_part(self) -> None:
+        """Finds the codes in the first part, which is empty then."""
+        part, self._typed[0] = bytes(self._typed[0]), bytearray()
+        self._read(part)
 
     def _read(self, data: bytes) -> None:
         """Finds the codes in what has come."""
-        if data:
-            self._read_at = time.monotonic()
         for code in self._reader.take(data):
             if code is None or self._is_disturbed(code):
                 self._has_failed = True
             else:
                 self._found.append(code)
 
+    def _count_room(self) -> int:
+        """How many bytes of key events may still be kept."""
+        return _MOST_TYPED - sum(len(part) for part in self._typed)
+
     def _has_room(self) -> bool:
         """Whether one more key event is kept."""
-        return len(self._typed) + _EVENT.size <= _MOST_TYPED
+        return self._count_room() >= _EVENT.size
 
     def read_ahead(self) -> int | None:
         if self._has_keys and self.port.files() and self._has_room():
-            self._typed += self.port.glance(_MOST_TYPED - len(self._typed))
+            self._glance()
         files = self.port.files() if self._has_keys and self._has_room() else []
         return files[0] if files else None
+
+    def _glance(self) -> None:
+        """Keeps what has come. If nothing has for some time, what comes next is another code (`_minds_rest`)."""
+        data, now = self.port.glance(self._count_room()), time.monotonic()
+        if data:
+            self._typed[-1] += data
+            self._read_at = now
+        elif now - self._read_at >= _REST and (self._typed[-1] or len(self._typed) == 1):
+            self._typed.append(bytearray())
 
     def _is_disturbed(self, code: bytes) -> bool:
         """Whether a serial line has disturbed a code: the system gives a 0 byte in place of one that came wrong."""
@@ -773,4 +805,4 @@ class WedgeScanner(Driver):
 
     def close(self) -> None:
         self.port.close()
-        self._typed.clear()
+        self._typed = [bytearray()]

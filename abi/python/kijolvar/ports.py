@@ -54,6 +54,8 @@ _send.argtypes, _send.restype = [ctypes.c_int, ctypes.c_char_p, ctypes.c_size_t,
 _READABLE = select.POLLIN | select.POLLHUP | select.POLLERR | select.POLLNVAL
 # The longest wait that the system takes, in milliseconds: 24 days.
 _LONGEST = 2**31 - 1
+# How often keyboards are read while a call waits, in seconds.
+_OFTEN = 0.1
 
 
 class PortError(OSError):
@@ -375,7 +377,8 @@ class Port:
 
 
 def _wait_beside(seconds: float, file: int | None = None, events: int = 0) -> int:
-    """Waits for a file, if there is one, and has keyboards read meanwhile. Returns what the file is ready for."""
+    """Waits for a file, if there is one, and has keyboards read meanwhile, also while nothing comes: that ends a code.
+    Returns what the file is ready for."""
     end = time.monotonic() + seconds
     while True:
         waits = select.poll()
@@ -386,7 +389,7 @@ def _wait_beside(seconds: float, file: int | None = None, events: int = 0) -> in
                     waits.register(typing, select.POLLIN)
         if file is not None:
             waits.register(file, events)
-        found = dict(waits.poll(_milliseconds(end - time.monotonic())))
+        found = dict(waits.poll(_milliseconds(min(end - time.monotonic(), _OFTEN))))
         flags = 0 if file is None else found.get(file, 0)
         left = end - time.monotonic()
         if flags or left <= 0:
