@@ -1558,6 +1558,22 @@ def try_lines_without_memory():
     told("lines that were carried out, and that nothing was done is said", [], wrong)
 
 
+def try_controls_without_memory():
+    """Want of memory at each allocation of a till's first control. Its call has no answer then, and the control was
+    made or not: one that was is used next."""
+    heap = ctypes.CDLL(os.fspath(LIBRARY))
+    if not hasattr(heap, "heap_refuses"):
+        return
+    found = set()
+    for number in range(1, 60):
+        with opened() as till:
+            code = code_without_memory(heap, number, till.new_control, kijolvar.CashDrawer)
+            if code == kijolvar.KIJOLVAR_CUT:
+                is_made = till.carry_out("get control-1 State\n") == f"ok {kijolvar.S_CLOSED}\n"
+                found.add((is_made, till.new_control(kijolvar.CashDrawer).name))
+    told("new controls without an answer", {(False, "control-2"), (True, "control-1")}, found)
+
+
 def code_without_memory(heap, number, call, *words):
     """The code of a call during which the allocation of this number and all behind it are refused; None if it is
     done."""
