@@ -14,6 +14,7 @@ import errno
 import fcntl
 import gc
 import io
+import math
 import os
 import pathlib
 import random
@@ -40,7 +41,7 @@ from emulator import Cut, Display, Line, Printer, PtyCable, Scanner, SilentHost,
 from emulator.scanner import KEYS
 from kijolvar import (Driver, EscPosDrawer, EscPosPrinter, OutputCompleteEvent, PrintedCut, SerialDisplay, SerialPort,
                       StatusUpdateEvent, WedgeScanner, WireSettings)
-from kijolvar._links import PrinterLink, pieces_of
+from kijolvar._links import AskedLink, Job, PrinterLink, pieces_of
 
 SCRIPTS = TOP / "tests/scripts"
 PROFILE = """
@@ -691,6 +692,57 @@ def try_button_behind_a_line():
             told(f"{name}: each line is whole", (4, []), (len(items), not_whole(shop.device, items)))
 
 
+def try_retries_behind_a_line():
+    """An order that is tried again and again at a printer that takes nothing from its line, while the line takes bytes
+    or none either: what waits to go out or to be acknowledged doesn't grow."""
+    for takes in (True, False):
+        name = f"retries behind a line that takes {'bytes' if takes else 'nothing'}"
+        with contextlib.ExitStack() as stack:
+            shop, sizes = Shop(stack, "holds"), []
+            shop.begins()
+            shop.device.ROOM = 8
+            link, held = shop.driver.link, threading.Event()
+            ready = link.port.ready
+
+            def ready_unless_full(is_writing, seconds):
+                is_full = held.is_set() and not takes
+                can_read, can_write = ready(is_writing and not is_full, min(seconds, 0.01) if is_full else seconds)
+                return can_read, can_write and not is_full
+            stack.enter_context(mock.patch.object(link.port, "ready", ready_unless_full))
+            shop.device.after(35, lambda: shop.device.feeds(True), held.set)
+            for _ in range(8):
+                told(f"{name}: the answer", (111, 0), raised(shop.control.print, TEXT))
+                shop.till.run_devices()
+                sizes.append((len(link._due), len(link._outbox)))
+            told(f"{name}: what waits", sizes[3:4] * 5, sizes[3:])
+            held.clear()
+            shop.device.feeds(False)
+            told(f"{name}: again", True, until(
+                lambda: shop.till.run_devices(0.01) is not None and raised(shop.control.print, TEXT) is None))
+            shop.same_paper(f"{name}: the paper")
+            told(f"{name}: nothing else", (4, 0), (len(shop.device.receipt()), shop.driver.late_orders))
+
+
+def try_markers_without_numbers():
+    """A marker asks what is printed. That of a printer whose acknowledgements have no number isn't taken back: its
+    answer comes, and would count for what is sent next. One that is still to go out serves again."""
+    for made in (AskedLink, PrinterLink):
+        link = made(kijolvar.FilePort("/dev/null"), TIMEOUT, PAUSE)
+        link._question = b"\x1d(H\x06\x0000@@@@"
+        job, found = Job(TEXT, True), []
+        link._post(job)
+        pieces = list(link._due)
+        for _ in range(2):
+            link._outbox.clear()
+            link._puts_marker()
+            found.append([*link._due])
+        told(f"the markers of {made.__name__}", ([1, 1], made is AskedLink),
+             ([len(due) - len(pieces) for due in found], found[0] == found[1]))
+        link._puts_marker()
+        told(f"one that is still to go out: {made.__name__}", (found[1], made is PrinterLink),
+             ([*link._due], bool(link._outbox)))
+
+
 def try_long_orders():
     """An order that is longer than what the printer and its line keep. Only a little of it is out at once, so that the
     printer gets questions meanwhile."""
@@ -740,6 +792,84 @@ def try_process_that_stands_still():
             with mock.patch.object(port, "ready", stands_still):
                 told(f"{name}: the order", (None, [True]), (raised(shop.control.print, TEXT), stood))
             shop.same_paper(f"{name}: the paper")
+
+
+def try_power_while_the_process_stands_still():
+    """The process stands still within an order, or the machine is suspended, and the printer goes on meanwhile. On a
+    cable that keeps what is sent it was off first: it prints and acknowledges the end of a line, which isn't printed.
+    On any other cable all counts."""
+    for kind, is_suspended in (("holds", False), ("holds", True), ("asked holds", False), ("asked holds", True),
+                               ("usb", False), ("serial", False), ("asked", False)):
+        with contextlib.ExitStack() as stack:
+            name = f"{'suspended' if is_suspended else 'standing still'}, over {kind}"
+            shop, stood, suspended = Shop(stack, kind, timeout=PATIENCE), [], [0.0]
+            device, port = shop.device, shop.driver.link.port
+            shop.begins()
+            device.ROOM, count, ready = 8, len(device.receipt()), port.ready
+
+            def stands_still(is_writing, seconds):
+                if seconds <= 0 or stood or not device.is_hung:
+                    return ready(is_writing, seconds)
+                if "holds" in kind:
+                    device.pull_plug()
+                    device.plug_in()
+                device.hang(False)
+                stood.append(until(lambda: len(device.receipt()) > count))
+                if is_suspended:
+                    suspended[0] = 2.25
+                else:
+                    time.sleep(2.25)
+                return ready(is_writing, 0)
+            stack.enter_context(mock.patch.object(port, "ready", stands_still))
+            stack.enter_context(mock.patch(
+                "kijolvar._links.clock_gettime", lambda clock: time.clock_gettime(clock) + suspended[0]))
+            device.after_characters(1, device.hang)
+            told(f"{name}: the answer", ((111, 0) if "holds" in kind else None, [True]),
+                 (raised(shop.control.print, TEXT), stood))
+            told(f"{name}: again", True, "holds" not in kind or until(
+                lambda: shop.till.run_devices(0.01) is not None and raised(shop.control.print, TEXT) is None))
+            told(f"{name}: each line is whole", [], not_whole(device, shop.till.device("r1").show().items))
+
+
+def prints_in_child(path):
+    """Prints over a line in a process that was forked. Returns its number, and the file in which it says what became of
+    the order and of the next one that is done."""
+    said, says = os.pipe()
+    child = os.fork()
+    if child == 0:
+        try:
+            with opened() as till:
+                till.drive("r1", EscPosPrinter(SerialPort(path, 115200), timeout=PATIENCE, pause=PAUSE, lines=1000))
+                with till.printer("r1").in_use() as control:
+                    found = raised(control.print, TEXT)
+                    again = until(lambda: till.run_devices(0.01) is not None and raised(control.print, TEXT) is None)
+            os.write(says, repr((found, again)).encode())
+        finally:
+            os._exit(0)
+    os.close(says)
+    return child, said
+
+
+def try_stopped_process():
+    """A process that is stopped (SIGSTOP) within an order while the printer loses its power and has it again: what the
+    line has kept of the order is printed and acknowledged, and isn't the whole."""
+    with Printer(cable("holds")) as device:
+        device.ROOM = 8
+        device.after_characters(1, device.hang)
+        child, said = prints_in_child(device.path)
+        told("the printer is in a line", True, until(lambda: device.is_hung))
+        os.kill(child, signal.SIGSTOP)
+        os.waitpid(child, os.WUNTRACED)
+        device.pull_plug()
+        device.plug_in()
+        device.hang(False)
+        told("the end of the line is printed", True, until(device.receipt))
+        time.sleep(2.25)
+        os.kill(child, signal.SIGCONT)
+        with open(said) as text:
+            told("the order, and again", repr(((111, 0), True)), text.read())
+        os.waitpid(child, 0)
+        told("each line is whole", True, {b"First line", b"Second line", b"Third line"} <= set(characters_of(device)))
 
 
 def try_silence_that_nobody_heard():
@@ -1426,6 +1556,22 @@ def try_lines_without_memory():
                 wrong.append(number)
     told("what calls say without memory", {None, kijolvar.KIJOLVAR_NO_MEMORY, kijolvar.KIJOLVAR_CUT}, codes)
     told("lines that were carried out, and that nothing was done is said", [], wrong)
+
+
+def try_controls_without_memory():
+    """Want of memory at each allocation of a till's first control. Its call has no answer then, and the control was
+    made or not: one that was is used next."""
+    heap = ctypes.CDLL(os.fspath(LIBRARY))
+    if not hasattr(heap, "heap_refuses"):
+        return
+    found = set()
+    for number in range(1, 60):
+        with opened() as till:
+            code = code_without_memory(heap, number, till.new_control, kijolvar.CashDrawer)
+            if code == kijolvar.KIJOLVAR_CUT:
+                is_made = till.carry_out("get control-1 State\n") == f"ok {kijolvar.S_CLOSED}\n"
+                found.add((is_made, till.new_control(kijolvar.CashDrawer).name))
+    told("new controls without an answer", {(False, "control-2"), (True, "control-1")}, found)
 
 
 def code_without_memory(heap, number, call, *words):
@@ -2509,6 +2655,81 @@ def try_typed_meanwhile():
             shows("whose line sends slowly")
 
 
+def heard_of(shop, count):
+    """What comes from a shop's keyboard, until so much has come: codes, and names of other events."""
+    found = []
+
+    def is_heard():
+        shop.till.run_devices(0.01)
+        shop.scanner.data_event_enabled = True
+        for event in shop.scanner.events():
+            found.append(shop.scanner.scan_data if type(event).__name__ == "DataEvent" else type(event).__name__)
+            shop.scanner.data_event_enabled = True
+        return len(found) >= count
+    until(is_heard)
+    return found
+
+
+def types_apart(keyboard, seconds, *parts):
+    """Types parts of codes, each so long after the one before, and returns whether each was read at once."""
+    is_read = True
+    for place, part in enumerate(parts):
+        time.sleep(seconds if place else 0)
+        keyboard.garbage(part)
+        is_read &= keyboard.wait(lambda: not keyboard._sends, PATIENCE) and until(lambda: not keyboard.cable.unread())
+    return is_read
+
+
+def try_typed_apart():
+    """Codes that are typed while an order waits: half of one that is followed by nothing for longer than a second is a
+    failed scan, and what comes then is a code of its own: an error comes before the codes and one behind them. A shorter
+    pause is none."""
+    half, rest, whole = typed("40063")[:-48], typed("81"), typed("4006381")
+    cases = (("two codes", 0, (whole, typed("12")), [b"4006381", b"12"]),
+             ("two codes after each other", 1.5, (whole, typed("12")), [b"4006381", b"12"]),
+             ("half a code and another one", 1.5, (half, rest), ["ErrorEvent", b"81", "ErrorEvent"]),
+             ("half a code twice, and one", 1.5, (half, half, rest), ["ErrorEvent", b"81", "ErrorEvent"]),
+             ("a code with a short pause", 0.3, (half, rest), [b"4006381"]))
+    for name, seconds, parts, wanted in cases:
+        with contextlib.ExitStack() as stack:
+            shop, found = Typing(stack), []
+            shop.device.after_characters(2, lambda: found.append(types_apart(shop.keyboard, seconds, *parts)))
+            told(f"an order beside {name}", (None, [True]), (raised(shop.control.print, TEXT), found))
+            told(name, wanted, heard_of(shop, len(wanted)))
+            shop.keyboard.types(b"7")
+            told(f"a code behind {name}", [b"7"], heard_of(shop, 1))
+    with contextlib.ExitStack() as stack:
+        shop, found = Typing(stack), []
+        shop.keyboard.garbage(half)
+        told("half a code before an order", True, until(
+            lambda: not shop.till.run_devices(0.01) and shop.reader._reader.has_begun))
+        shop.device.after_characters(2, lambda: found.append(
+            (time.sleep(1.5), types_apart(shop.keyboard, 0, rest))[1]))
+        told("the order", (None, [True]), (raised(shop.control.print, TEXT), found))
+        told("another code in it", ["ErrorEvent", b"81", "ErrorEvent"], heard_of(shop, 3))
+    with contextlib.ExitStack() as stack:
+        shop, found = Typing(stack), []
+        line, end = os.openpty()
+        stack.callback(os.close, line)
+        stack.callback(os.close, end)
+        port = SerialPort(os.ttyname(end), flow="none")
+        shop.till.drive("p1", SerialDisplay(port, timeout=4 * PATIENCE))
+        display = stack.enter_context(shop.till.display("p1").in_use())
+        while port.ready(True, 0.5)[1]:
+            port.write_some(bytes(1000))
+
+        def types_first():
+            found.append(types_apart(shop.keyboard, 1.5, half, rest))
+            while select.select([line], [], [], 0.5)[0]:
+                os.read(line, 10_000)
+        typing = threading.Thread(target=types_first)
+        typing.start()
+        told("a display whose line takes nothing yet", None, raised(display.display_text, b"Bread"))
+        typing.join()
+        told("half a code and another one beside it", ([True], ["ErrorEvent", b"81", "ErrorEvent"]),
+             (found, heard_of(shop, 3)))
+
+
 def try_typed_within_the_loop():
     """An order while the loop reads a keyboard, as a signal's handler makes one: the codes stay in their order."""
     with contextlib.ExitStack() as stack:
@@ -3070,10 +3291,10 @@ def late(*_):
     raise InterruptedError("it takes too long")
 
 
-def in_time(call, *words):
+def in_time(call, *words, patience=PATIENCE):
     """The name of what a call raises, or None. One that takes too long is interrupted."""
     signal.signal(signal.SIGALRM, late)
-    signal.setitimer(signal.ITIMER_REAL, PATIENCE)
+    signal.setitimer(signal.ITIMER_REAL, patience)
     try:
         return name_of(call, *words)
     finally:
@@ -3139,8 +3360,16 @@ def try_refusals():
     told("no such pin", "ValueError", name_of(EscPosPrinter, "/dev/null", pin=3))
     told("no such roll", "ValueError", name_of(EscPosPrinter, "/dev/null", lines=MOST_LINES + 1))
     told("no such protocol", "ValueError", name_of(SerialDisplay, "/dev/null", "morse"))
-    told("no such timeout", ["ValueError"] * 8, [name_of(made, "/dev/null", timeout=timeout) for timeout in (
-        0, 0.0, -1.0, float("nan")) for made in (EscPosPrinter, SerialDisplay)])
+    told("no such timeout", ["ValueError"] * 14, [name_of(made, "/dev/null", timeout=timeout) for timeout in (
+        0, 0.0, -1.0, math.nan, math.inf, -math.inf, 1e10) for made in (EscPosPrinter, SerialDisplay)])
+    told("no such pause", ["ValueError"] * 15, [name_of(made, "/dev/null", pause=pause) for pause in (
+        -1.0, math.nan, math.inf, -math.inf, 1e10) for made in (EscPosPrinter, SerialDisplay, WedgeScanner)])
+    told("no drawer takes so long", ["ValueError"] * 5, [name_of(
+        EscPosDrawer, EscPosPrinter("/dev/null"), settle) for settle in (-1.0, math.nan, math.inf, -math.inf, 1e10)])
+    told("a refusal says what to do", "the timeout is above 0 and at most 2,147,483 seconds, such as 5.0: not inf",
+         text_of(EscPosPrinter, "/dev/null", timeout=math.inf))
+    told("that of a pause too", "the pause is 0 to 2,147,483 seconds, such as 1.0: not nan",
+         text_of(WedgeScanner, "/dev/null", pause=math.nan))
     told("no such speed", "ValueError", name_of(SerialPort, "/dev/ttyS0", 9601))
     told("no such parity", "ValueError", name_of(SerialPort, "/dev/ttyS0", parity="odder"))
     told("ports", ["FilePort", "SerialPort", "TcpPort tcp://a:1", "TcpPort tcp://a:1", "TcpPort tcp://a:9100",
@@ -3151,6 +3380,81 @@ def try_refusals():
     told("no such ports", ["ValueError"] * 7, [name_of(kijolvar.port_of, f"tcp:{name}") for name in (
         "", ":1", "::1", "a:b", "a:0", "a:65536", "[a:b]")])
     told("a name that no host has", "PortError", name_of(kijolvar.port_of("tcp:.a").open))
+
+
+def text_of(call, *words, **named):
+    """The text of the ValueError that a call raises."""
+    try:
+        call(*words, **named)
+    except ValueError as fault:
+        return str(fault)
+    return None
+
+
+def try_longest_times():
+    """The longest times that a driver takes, and the shortest: they overflow nothing."""
+    with contextlib.ExitStack() as stack:
+        printer = stack.enter_context(Printer(cable("tcp")))
+        display, scanner = (stack.enter_context(made) for made in (Display(cable(), 2, 20, "cd5220"), Scanner(cable())))
+        till, most = stack.enter_context(opened()), 2_147_483
+        silent = stack.enter_context(SilentHost())
+        driver = EscPosPrinter(printer.path, timeout=most, pause=most, lines=1000)
+        till.drive("r1", driver)
+        till.drive("d1", EscPosDrawer(driver, settle=most))
+        till.drive("p1", SerialDisplay(display.path, timeout=most, pause=most))
+        till.drive("s1", WedgeScanner(scanner.path, keys=True, pause=most))
+        with till.printer("r1").in_use() as control, till.display("p1").in_use() as shown:
+            told("a printer with time", None, in_time(control.print, TEXT))
+            told("a drawer with time", None, in_time(till.drawer("d1").open_drawer))
+            told("a display with time", None, in_time(shown.display_text, b"Hi"))
+        told("a round of all", None, in_time(till.run_devices))
+        port = kijolvar.port_of(silent.path)
+        told("a port of a silent host", "InterruptedError", in_time(port.open, most, patience=0.5))
+        port.close()
+    with opened() as till:
+        till.drive("s1", WedgeScanner("/dev/no-such-device", pause=0))
+        told("a scanner that isn't there, tried all the time", None, in_time(till.run_devices))
+
+
+def try_endless_waits():
+    """Calls that wait without an end do so until something comes. NaN is no time, and less than 0 is none."""
+    with contextlib.ExitStack() as stack:
+        till, device = stack.enter_context(opened()), stack.enter_context(Scanner(cable()))
+        till.drive("s1", WedgeScanner(device.path, pause=PAUSE))
+        scanner = stack.enter_context(till.scanner("s1").in_use())
+        scanner.data_event_enabled = True
+        until(lambda: not till.run_devices())
+        typing = threading.Timer(0.3, device.scan, [b"7"])
+        typing.start()
+        told("the loop waits until something is there", (None, 1),
+             (in_time(till.run_devices, math.inf), scanner.data_count))
+        typing.join()
+        told("less than no time", [False] * 2, [till.run_devices(seconds) for seconds in (-1.0, -math.inf)])
+        told("no time", "the timeout is a number of seconds, or math.inf to wait without an end: not nan",
+             text_of(till.run_devices, math.nan))
+    with contextlib.ExitStack() as stack:
+        device = stack.enter_context(Scanner(cable()))
+        server = stack.enter_context(socket.create_server(("127.0.0.1", 0)))
+        port = kijolvar.TcpPort("127.0.0.1", server.getsockname()[1])
+        told("a port that is opened without an end", (None, True), (in_time(port.open, math.inf), port.is_open))
+        told("what is written so", [True, True], [port.write(b"A", seconds) for seconds in (math.inf, 1e300)])
+        told("what can be done", (False, True), port.ready(True, math.inf))
+        told("no more than no time", (b"", False), (port.read(-1.0), port.write(b"A", -math.inf)))
+        told("NaN", ["ValueError"] * 4, [name_of(call, *words) for call, *words in (
+            (port.open, math.nan), (port.ready, False, math.nan), (port.read, math.nan), (port.write, b"", math.nan))])
+        port.close()
+        line = kijolvar.FilePort(device.path)
+        line.open(math.inf)
+        typing = threading.Timer(0.3, device.scan, [b"7"])
+        typing.start()
+        told("what comes later", b"7\r", line.read(math.inf))
+        typing.join()
+        typing = threading.Timer(0.3, device.scan, [b"8"])
+        typing.start()
+        with mock.patch.object(kijolvar.ports.BESIDE, "keyboards", [WedgeScanner("/dev/null", keys=True)]):
+            told("beside a keyboard", b"8\r", line.read(math.inf))
+        typing.join()
+        line.close()
 
 
 def try_silent_host():

@@ -1447,6 +1447,124 @@ def try_lost_openings():
         told("whose end closes it", S_CLOSED, drawer.state)
 
 
+class Losing:
+    """Carries out lines, but raises something once a line that has a word is carried out, or in place of that."""
+
+    def __init__(self, carry_out, word, fault, is_done=True):
+        self.carry_out, self.word, self.fault, self.is_done = carry_out, word, fault, is_done
+
+    def __call__(self, line):
+        if self.word not in line:
+            return self.carry_out(line)
+        if self.is_done:
+            self.carry_out(line)
+        raise self.fault()
+
+
+def cut():
+    return kijolvar.NoMemoryError(kijolvar.KIJOLVAR_CUT)
+
+
+def no_memory():
+    return kijolvar.NoMemoryError(kijolvar.KIJOLVAR_NO_MEMORY)
+
+
+def ended_by(call, *words):
+    """The name of the class of what ends a call, be it an interrupt, or None."""
+    try:
+        call(*words)
+    except BaseException as fault:
+        return type(fault).__name__
+    return None
+
+
+def try_lost_renames():
+    """A file whose renaming has no answer has the name that the totals say, as soon as they can be asked."""
+    with opened() as till:
+        totals = till.totals("t1")
+        totals.create("A", 1)
+        totals.create("B", 1)
+        file = totals["A"]
+
+        def loses(word, fault, is_done=True):
+            return mock.patch.object(totals, "_carry_out", Losing(totals._carry_out, word, fault, is_done))
+
+        def renamed(name, fault=cut, is_done=True):
+            with loses(b" rename ", fault, is_done):
+                return ended_by(file.rename, name)
+        told("a lost answer of a rename", "NoMemoryError", renamed("C"))
+        told("its name", (b"C", [b"C", b"B"]), (file.name, list(totals)))
+        told("of one that is refused", "NoMemoryError", renamed("B"))
+        told("its name stays", (b"C", [b"C", b"B"]), (file.name, list(totals)))
+        told("no memory for a rename", "NoMemoryError", renamed("D", no_memory, False))
+        with mock.patch.object(totals, "_carry_out", side_effect=AssertionError("a line")):
+            told("isn't asked for", b"C", file.name)
+        told("an interrupt once it is done", "KeyboardInterrupt", renamed("D", KeyboardInterrupt))
+        told("its name then", b"D", file.name)
+        told("what a handler raises", "LookupError", renamed("E", LookupError))
+        told("its name after that", b"E", file.name)
+        for fault in (no_memory, cut):
+            told("another lost answer", "NoMemoryError", renamed("F"))
+            with loses(b" find ", fault):
+                told("nobody can be asked", (b"E", f"<kijolvar.TotalsFile b'E': 1 bytes, handle {file.handle}>"),
+                     (file.name, repr(file)))
+                told("and another", "NoMemoryError", renamed("G"))
+                told("and one that is refused", "ExistsError", name_of(file.rename, "B"))
+                told("nobody can be asked still", b"E", file.name)
+            told("the last name that it got", (b"G", [b"G", b"B"]), (file.name, list(totals)))
+            told("a rename with an answer", (None, b"E"), (raised(file.rename, "E"), file.name))
+        told("what is no name", ["TypeError", "UnicodeEncodeError", "OverflowError", "IllegalError"],
+             [name_of(file.rename, name) for name in (5, "K\u00e4se", b"A" * 70_000, "A" * 11)])
+        with mock.patch.object(totals, "_carry_out", side_effect=AssertionError("a line")):
+            told("isn't asked for either", b"E", file.name)
+        told("a last lost answer", "NoMemoryError", renamed("H"))
+        told("the file is deleted by its name", (None, [b"B"]), (raised(file.delete), list(totals)))
+
+
+def try_lost_constructors():
+    """A control that was made, though there is no memory for the answer, is the next one of its category, or the one of
+    its name. A name that lines have used stays theirs."""
+    with opened() as till:
+        made, drawer_of = till.new_control, kijolvar.CashDrawer
+
+        def lost(word, call, *words, fault=cut):
+            with mock.patch.object(till, "_carry_out", Losing(till._carry_out, word, fault)):
+                return ended_by(call, *words)
+        told("a lost answer of a new control", "NoMemoryError", lost(b"new ", made, drawer_of))
+        told("no list has it", [], till.controls())
+        drawer = made(drawer_of)
+        told("the next one has its name", "control-1", drawer.name)
+        drawer.open("d1")
+        drawer.device_enabled = True
+        till.device("d1").drawer(is_open=True)
+        told("and its events", drawer, getattr(till.next_event(), "control", None))
+        told("an interrupt once a control is made", "KeyboardInterrupt",
+             lost(b"new ", made, drawer_of, fault=KeyboardInterrupt))
+        second = made(drawer_of)
+        told("the next one has that name", "control-2", second.name)
+        for word in (b"new ", b"open ", b"DeviceEnabled"):
+            told(f"a lost answer of {word}", "NoMemoryError", lost(word, till.drawer, "d1"))
+            gc.collect()
+            told(f"{word}: nothing is left open", [drawer], till.controls())
+            other = till.drawer("d1")
+            told(f"{word}: its control is used again", ("control-3", None), (other.name, raised(other.open_drawer)))
+            del other
+            gc.collect()
+        told("a lost answer of a name", "NoMemoryError", lost(b"new ", made, drawer_of, "mine"))
+        told("the name is one of its category", "NameInUseError", name_of(made, kijolvar.Scanner, "mine"))
+        told("a control without a name doesn't get it", "control-3", made(drawer_of).name)
+        mine = made(drawer_of, "mine")
+        told("one with it does", ("mine", "NameInUseError"), (mine.name, name_of(made, drawer_of, "mine")))
+        told("a lost refusal", "NoMemoryError", lost(b"new ", made, drawer_of, "mine"))
+        told("changes nothing", "NameInUseError", name_of(made, drawer_of, "mine"))
+        till.carry_out("new yours CashDrawer\n")
+        told("a lost refusal of a name of lines", "NoMemoryError", lost(b"new ", made, drawer_of, "yours"))
+        told("leaves it theirs", "NameInUseError", name_of(made, drawer_of, "yours"))
+        with mock.patch.object(till, "_carry_out", side_effect=no_memory()):
+            told("no memory for a control", "NoMemoryError", name_of(made, drawer_of, "ours"))
+        told("makes none", "ours", made(kijolvar.Scanner, "ours").name)
+
+
 class Replaced:
     """An export, in whose place a function answers while there is one: it gets the export and its words."""
 
@@ -2129,7 +2247,8 @@ def main():
                        try_misuse, try_many_controls, try_totals, try_disabled_transactions, try_files,
                        try_replaced_totals, try_handlers, try_closing_handlers, try_forking_handlers, try_any_event,
                        try_lines_without_memory, try_orders_without_memory, try_order_without_memory,
-                       try_scan_before_power, try_lost_answers, try_lost_openings, try_given_up_by_a_closed_control,
+                       try_scan_before_power, try_lost_answers, try_lost_openings, try_lost_renames,
+                       try_lost_constructors, try_given_up_by_a_closed_control,
                        try_held_orders, try_words_of_drivers, try_faults_of_drivers, try_orders_in_polls,
                        try_closed_drivers, try_closed_in_a_round,
                        try_profiles, try_library,

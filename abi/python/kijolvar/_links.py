@@ -9,6 +9,7 @@ import time
 from collections import deque
 from collections.abc import Callable
 from dataclasses import dataclass
+from time import CLOCK_BOOTTIME, clock_gettime
 from typing import TYPE_CHECKING
 
 from ._control import device_word
@@ -48,6 +49,11 @@ _APART = 0.5
 _SILENT, _SHORTLY = 2.0, 1.0
 # What ends a piece: a line feed, a pulse, a feed, or a cut.
 _PIECE = re.compile(rb"(?:\x1b[^pd].|[^\n\x1b\x1d]++)*+(?:\n|\x1bp...|\x1bd.|\x1dV(?:[AB].|[^AB])|\Z)", re.S)
+
+
+def _now() -> tuple[float, float]:
+    """The time in seconds, by a clock that stands still while the machine is suspended, and by one that goes on."""
+    return time.monotonic(), clock_gettime(CLOCK_BOOTTIME)
 
 
 def pieces_of(data: bytes) -> list[bytes]:
@@ -136,6 +142,11 @@ class _Parcel:
         self.rest, self.number, self.job, self.done = rest, number, job, done
         self.is_begun = False
 
+    @property
+    def is_marker(self) -> bool:
+        """Whether it only asks for an acknowledgement of what was sent before."""
+        return self.number is not None and self.done == 0
+
 
 class PrinterLink:
     """The line to a printer, which acknowledges in order what it has printed.
@@ -195,7 +206,9 @@ class PrinterLink:
         self._is_there = self._was_silent = self._is_refreshing = False
         # Whether bytes of the outbox may have gone out that are still in it.
         self._is_unsure = False
-        self._tried_at = self._refreshed_at = self._heard_at = self._offline_at = self._looked_at = -1e9
+        self._tried_at = self._refreshed_at = self._heard_at = self._offline_at = -1e9
+        # When what has come was read last, by both clocks.
+        self._looked_at = -1e9, -1e9
         self._asked_at: float | None = None
         # The last question of DLE EOT, how many aren't answered, and when it was asked or a late answer came.
         self._asked_last, self._unanswered, self._questioned_at = _PRINTER, 0, -1e9
@@ -248,7 +261,7 @@ class PrinterLink:
             # A signal's handler orders something by another driver of the line.
             raise InCallError("the devices' loop is at this printer")
         self._takes_as_sent()
-        self._minds_absence()
+        self._minds_absence(_now())
         self._began_at = time.monotonic()
         self._ends_at = self._began_at + self.timeout
         if not self.is_online:
@@ -312,14 +325,23 @@ class PrinterLink:
     def _catches_up(self, job: Job) -> None:
         """Finds out how far a job has come that failed."""
         if self._is_due(job):
-            # What was sent before is printed or lost once this is acknowledged.
-            self._send(b"", None, 0)
+            self._puts_marker()
             self._pump(lambda: job.is_done or not self._is_due(job) or self.is_stopped)
         if not self._is_due(job):
             if job.sent > job.done:
                 # Some of it was lost, and the printer may have begun a line.
                 self._puts(self._start)
             job.sent, job.is_torn = job.done, False
+
+    def _puts_marker(self) -> None:
+        """Asks for an acknowledgement. Once it comes, all that was sent before is printed or lost. A marker that is
+        still to go out serves again. One that went out and isn't answered may be lost, and is of no use any more."""
+        last = self._due[-1]
+        if last.is_marker and last in self._outbox:
+            return
+        if last.is_marker:
+            self._due.pop()
+        self._send(b"", None, 0)
 
     def _is_due(self, job: Job) -> bool:
         """Whether something of a job may still be acknowledged."""
@@ -351,13 +373,23 @@ class PrinterLink:
         elif self._asked_at is None:
             self._ask()
 
-    def _minds_absence(self) -> None:
+    def _minds_absence(self, now: tuple[float, float]) -> None:
         """If nobody has looked for long, a printer whose line keeps a part of what is due may have been off meanwhile:
-        what it has acknowledged since is no whole line."""
-        now, unseen = time.monotonic(), min(self.timeout, _SILENT) / 2
-        is_silent = now - max(self._heard_at, self._began_at) >= _SILENT
-        if self.is_online and self._is_held() and is_silent and now - self._looked_at >= unseen:
+        what it has acknowledged since is no whole line. Nobody looks while this process stands still, also within an
+        order, or the machine is suspended."""
+        if not (self.is_online and self._is_held()):
+            return
+        silence = now[0] - max(self._heard_at, self._began_at)
+        unseen, unseen_in_all = (clock - looked_at for clock, looked_at in zip(now, self._looked_at))
+        is_long = silence >= _SILENT and unseen >= min(self.timeout, _SILENT) / 2
+        if is_long or unseen_in_all >= _SILENT:
             self._tears()
+
+    def _looks(self) -> None:
+        """Is called once what has come was read, before it counts."""
+        now = _now()
+        self._minds_absence(now)
+        self._looked_at = now
 
     def _is_held(self) -> bool:
         """Whether something of a job is due of which the line may keep a part. One that is offline says that it goes
@@ -545,12 +577,12 @@ class PrinterLink:
 
     def _receive(self, until: Callable[[], bool] = lambda: False) -> None:
         """Reads what has come since the last time, until something is so."""
-        self._minds_absence()
+        self._looks()
         for data in self.port.waiting():
+            self._looks()
             self._takes(data)
             if until():
                 break
-        self._looked_at = time.monotonic()
 
     def _pump(self, until: Callable[[], bool], posting: Job | None = None) -> bool:
         """Sends and reads until something is so, and returns whether it was so in time. It sends on with the job that
@@ -568,9 +600,9 @@ class PrinterLink:
                 self._post(posting)
             can_read, can_write = self.port.ready(bool(self._outbox), min(left, _OFTEN))
             data = self.port.read_some() if can_read else b""
+            self._looks()
             if data:
                 self._takes(data)
-            self._looked_at = time.monotonic()
             self._minds_silence()
             if can_write:
                 self._writes()
@@ -672,10 +704,12 @@ class PrinterLink:
         self._asks(_PRINTER)
 
     def _asks(self, question: int) -> None:
-        """Asks a question of DLE EOT."""
+        """Asks a question of DLE EOT, unless it is still to go out."""
         self._asked_last, self._questioned_at = question, time.monotonic()
-        self._unanswered += 1
-        self._puts(_STATUS_NOW + bytes([question]))
+        data = _STATUS_NOW + bytes([question])
+        if not any(parcel.rest == data for parcel in self._outbox):
+            self._unanswered += 1
+            self._puts(data)
 
     def _ask_at_once(self) -> None:
         """Asks whether the printer is there, also if a question is out that may be lost."""
@@ -825,6 +859,11 @@ class AskedLink(PrinterLink):
         what is sent next."""
         for parcel in self._due:
             parcel.job = None
+
+    def _puts_marker(self) -> None:
+        """Answers are counted, so that of a marker that is out comes, and serves again."""
+        if not self._due[-1].is_marker:
+            super()._puts_marker()
 
     def _gives_up(self) -> None:
         """Waits for acknowledgements that are late. They are lost if none comes for the whole time, although the

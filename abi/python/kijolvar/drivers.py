@@ -43,13 +43,21 @@ _MOST_FEEDS, _LONG = 4096, 100
 _QUICKLY = 0.02
 # After how long without an order nobody knows what a display shows, in seconds.
 _UNSEEN = 10.0
+# The longest timeout or pause, in seconds: that of the drivers of C, whose milliseconds have 31 bits.
+_MOST_SECONDS = 2_147_483
 
 
 def _check_timeout(timeout: float) -> None:
-    """Refuses a timeout in which no order can succeed."""
-    # Not even NaN is more than 0.
-    if not timeout > 0:
-        raise ValueError(f"the timeout is more than 0 seconds: {timeout!r}")
+    """Refuses a timeout in which no order can succeed, or after which none would end."""
+    # NaN is no more than 0, and no less than anything.
+    if not 0 < timeout <= _MOST_SECONDS:
+        raise ValueError(f"the timeout is above 0 and at most {_MOST_SECONDS:,} seconds, such as 5.0: not {timeout!r}")
+
+
+def _check_pause(name: str, seconds: float) -> None:
+    """Refuses a pause that no clock can tell, or that would never end."""
+    if not 0 <= seconds <= _MOST_SECONDS:
+        raise ValueError(f"{name} is 0 to {_MOST_SECONDS:,} seconds, such as 1.0: not {seconds!r}")
 
 
 class Driver:
@@ -144,8 +152,8 @@ class EscPosPrinter(Driver):
     seconds, or for the timeout if that is shorter, the order has failed, and what isn't acknowledged of it is printed
     again: parts of lines may be on the paper beside the whole ones. So is what it acknowledges of an order that failed
     for no reason (FailureError) while the till doesn't look for 2 seconds, as `run_devices` does: it may have been off.
-    One that has said by itself that it is offline may be silent, as while its feed button is held: it says that it goes
-    on.
+    The same counts for an order during which the process stands still for 2 seconds, or the machine is suspended. One
+    that has said by itself that it is offline may be silent, as while its feed button is held: it says that it goes on.
 
     Args:
         port: The port, or its name as `port_of` takes it: /dev/usb/lp0, /dev/ttyUSB0, tcp:192.168.1.9:9100.
@@ -162,11 +170,12 @@ class EscPosPrinter(Driver):
             counts with the device's `near` lines after each order: that is the longest request that may be taken then.
         is_asked: Whether the printer says nothing by itself, and doesn't know GS ( H, as simpler ones. Then it is asked
             for its status (DLE EOT), and after each line whether that is printed (GS r).
-        timeout: How long the printer may go on without acknowledging a line, in seconds; more than 0.
-        pause: How long to wait before a lost port is tried again, in seconds.
+        timeout: How long the printer may go on without acknowledging a line, in seconds; more than 0, and at most
+            2,147,483. An order has to end, so math.inf is refused.
+        pause: How long to wait before a lost port is tried again, in seconds; 0 to 2,147,483.
 
     Raises:
-        ValueError: No printer has such a setting, or the timeout isn't more than 0.
+        ValueError: No printer has such a setting, or the timeout or the pause is out of its range.
     """
 
     category = "POSPrinter"
@@ -183,6 +192,7 @@ class EscPosPrinter(Driver):
         if not 1 <= lines <= _MOST_LINES:
             raise ValueError(f"a roll has 1 to {_MOST_LINES} lines")
         _check_timeout(timeout)
+        _check_pause("the pause", pause)
         # As it is given, and as it is for a device.
         self._given_width, self._width = width, width
         self._lines = lines
@@ -298,13 +308,18 @@ class EscPosDrawer(Driver):
 
     Args:
         printer: The driver of the printer, whether or not the till drives that too.
-        settle: How long the drawer may take to open, in seconds. If its sensor still says closed then, it is.
+        settle: How long the drawer may take to open, in seconds; 0 to 2,147,483. If its sensor still says closed then,
+            it is.
+
+    Raises:
+        ValueError: `settle` is out of its range.
     """
 
     category = "CashDrawer"
     reads_orders = False
 
     def __init__(self, printer: EscPosPrinter, settle: float = 1.0) -> None:
+        _check_pause("settle", settle)
         self._printer, self._settle = printer, settle
         self._wire: Wire | None = None
         self._kicked_at: float | None = None
@@ -386,11 +401,12 @@ class SerialDisplay(Driver):
     Args:
         port: The port, or its name as `port_of` takes it. A serial line of that name has no flow control.
         protocol: "cd5220" or "escpos".
-        timeout: How long an order may take, in seconds; more than 0.
-        pause: How long to wait before a lost port is tried again, in seconds.
+        timeout: How long an order may take, in seconds; more than 0, and at most 2,147,483. An order has to end, so
+            math.inf is refused.
+        pause: How long to wait before a lost port is tried again, in seconds; 0 to 2,147,483.
 
     Raises:
-        ValueError: There is no such protocol, or the timeout isn't more than 0.
+        ValueError: There is no such protocol, or the timeout or the pause is out of its range.
     """
 
     category = "LineDisplay"
@@ -401,6 +417,7 @@ class SerialDisplay(Driver):
         if protocol not in _PROTOCOLS:
             raise ValueError(f"no such protocol: {protocol!r}")
         _check_timeout(timeout)
+        _check_pause("the pause", pause)
         self.port, self._timeout, self._pause = port_of(port, flow="none"), timeout, pause
         self.port.keeps_faults = False
         self._settings = WireSettings(protocol=_PROTOCOLS.index(protocol))
@@ -628,7 +645,8 @@ class WedgeScanner(Driver):
     any other key is a failed scan: the scanner gets an ErrorEvent. So is one of which the system drops key events: it
     keeps about 16 characters that nobody reads. While a call waits for a printer or a display, the till reads about
     170 more. A code from a serial line with a byte of 0 is a failed scan, too: the line has disturbed it. So is a code
-    that has begun when its port is lost, or of which `run_devices` finds nothing more a second later.
+    that has begun when its port is lost, or of which `run_devices` finds nothing more a second later; of a keyboard
+    also a call that waits.
 
     Args:
         device: /dev/input/.. for a keyboard wedge, or a link to one: no other program gets its keys meanwhile. Any
@@ -636,10 +654,10 @@ class WedgeScanner(Driver):
             looked at again when the port is opened.
         kind: The type of a code without an identifier, 0 to 999; 0 is SCAN_SDT_UNKNOWN.
         keys: Whether the device sends key events. If it is None, those of /dev/input do.
-        pause: How long to wait before a lost port is tried again, in seconds.
+        pause: How long to wait before a lost port is tried again, in seconds; 0 to 2,147,483.
 
     Raises:
-        ValueError: There is no such type or port.
+        ValueError: There is no such type or port, or the pause is out of its range.
     """
 
     category = "Scanner"
@@ -648,11 +666,12 @@ class WedgeScanner(Driver):
                  pause: float = 1.0) -> None:
         if not 0 <= kind <= _HIGHEST_KIND:
             raise ValueError(f"the type of a code is 0 to {_HIGHEST_KIND}, not {kind}")
+        _check_pause("the pause", pause)
         self._device, self._given_keys = device, keys
         self._take(_is_keyboard(device) if keys is None else keys)
         self._reader = self._new_reader()
         self._kind, self._pause, self._tried_at = kind, pause, -1e9
-        # When something was read last.
+        # When something came last, as far as anybody looked.
         self._read_at = -1e9
         # The codes that have come whole, and whether another one hasn't.
         self._found: deque[bytes] = deque()
@@ -662,7 +681,8 @@ class WedgeScanner(Driver):
         """Takes the device as one that sends key events, or as one that sends lines."""
         device = self._device
         port: Port = _KeyPort(device) if has_keys and not isinstance(device, Port) else port_of(device)
-        self.port, self._has_keys, self._typed = port, has_keys, bytearray()
+        # What was typed while an order waited. Between two parts nothing came for so long that a code has ended.
+        self.port, self._has_keys, self._typed = port, has_keys, [bytearray()]
 
     def __repr__(self) -> str:
         return f"<kijolvar.WedgeScanner {self.port.name!r}, {'online' if self.is_online else 'offline'}>"
@@ -683,11 +703,11 @@ class WedgeScanner(Driver):
                 # It is a link that led nowhere, or to another device.
                 self._take(not self._has_keys)
             self._reader = self._new_reader()
-        typed, self._typed = bytes(self._typed), bytearray()
-        self._read(typed)
+        self._read_typed()
         with contextlib.suppress(PortError):
             self._open()
             for data in self.port.waiting():
+                self._read_at = time.monotonic()
                 self._read(data)
         self._minds_rest()
 
@@ -695,28 +715,58 @@ class WedgeScanner(Driver):
         """A code that has begun has failed if its port is lost, or if a look after some time finds no more of it. If
         nobody has looked before, what is found then may have come in time."""
         is_late = time.monotonic() - self._read_at >= _REST
-        if self._reader.has_begun and (is_late or not self.port.is_open):
+        if is_late or not self.port.is_open:
+            self._ends_code()
+
+    def _ends_code(self) -> None:
+        """A code that has begun has failed: its rest doesn't come any more."""
+        if self._reader.has_begun:
             self._has_failed, self._reader = True, self._new_reader()
+
+    def _read_typed(self) -> None:
+        """Finds the codes in what was typed while an order waited. An interrupt leaves the parts behind the one that is
+        read."""
+        self._read_part()
+        while len(self._typed) > 1:
+            self._ends_code()
+            del self._typed[0]
+            self._read_part()
+
+    def _read_part(self) -> None:
+        """Finds the codes in the first part, which is empty then."""
+        part, self._typed[0] = bytes(self._typed[0]), bytearray()
+        self._read(part)
 
     def _read(self, data: bytes) -> None:
         """Finds the codes in what has come."""
-        if data:
-            self._read_at = time.monotonic()
         for code in self._reader.take(data):
             if code is None or self._is_disturbed(code):
                 self._has_failed = True
             else:
                 self._found.append(code)
 
+    def _count_room(self) -> int:
+        """How many bytes of key events may still be kept."""
+        return _MOST_TYPED - sum(len(part) for part in self._typed)
+
     def _has_room(self) -> bool:
         """Whether one more key event is kept."""
-        return len(self._typed) + _EVENT.size <= _MOST_TYPED
+        return self._count_room() >= _EVENT.size
 
     def read_ahead(self) -> int | None:
         if self._has_keys and self.port.files() and self._has_room():
-            self._typed += self.port.glance(_MOST_TYPED - len(self._typed))
+            self._glance()
         files = self.port.files() if self._has_keys and self._has_room() else []
         return files[0] if files else None
+
+    def _glance(self) -> None:
+        """Keeps what has come. If nothing has for some time, what comes next is another code (`_minds_rest`)."""
+        data, now = self.port.glance(self._count_room()), time.monotonic()
+        if data:
+            self._typed[-1] += data
+            self._read_at = now
+        elif now - self._read_at >= _REST and (self._typed[-1] or len(self._typed) == 1):
+            self._typed.append(bytearray())
 
     def _is_disturbed(self, code: bytes) -> bool:
         """Whether a serial line has disturbed a code: the system gives a 0 byte in place of one that came wrong."""
@@ -755,4 +805,4 @@ class WedgeScanner(Driver):
 
     def close(self) -> None:
         self.port.close()
-        self._typed.clear()
+        self._typed = [bytearray()]

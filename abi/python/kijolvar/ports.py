@@ -1,7 +1,7 @@
 """The ports of devices: a file such as /dev/usb/lp0, a serial line such as /dev/ttyUSB0, or a TCP port.
 
 A driver opens its port when it needs it, and opens it again after it was lost. No call waits longer than it is told,
-unless a name has to be looked up.
+unless a name has to be looked up. With 0 seconds or less it doesn't wait, and with math.inf without an end.
 """
 from __future__ import annotations
 
@@ -10,6 +10,7 @@ import ctypes
 import errno
 import fcntl
 import ipaddress
+import math
 import os
 import re
 import select
@@ -51,6 +52,10 @@ _TCP = re.compile(r"tcp:(?://)?(?:\[(?P<address>.+)\]|(?P<name>[^:\[\]]*))(?::(?
 _send = ctypes.CDLL(None, use_errno=True).send
 _send.argtypes, _send.restype = [ctypes.c_int, ctypes.c_char_p, ctypes.c_size_t, ctypes.c_int], ctypes.c_ssize_t
 _READABLE = select.POLLIN | select.POLLHUP | select.POLLERR | select.POLLNVAL
+# The longest wait that the system takes, in milliseconds: 24 days.
+_LONGEST = 2**31 - 1
+# How often keyboards are read while a call waits, in seconds.
+_OFTEN = 0.1
 
 
 class PortError(OSError):
@@ -75,6 +80,20 @@ class _Beside(threading.local):
 
 
 BESIDE = _Beside()
+
+
+def check_wait(name: str, seconds: float) -> None:
+    """Refuses NaN as the time for which a call waits."""
+    if math.isnan(seconds):
+        raise ValueError(f"{name} is a number of seconds, or math.inf to wait without an end: not {seconds!r}")
+
+
+def _milliseconds(seconds: float) -> float | None:
+    """A time for `select.poll`, which waits for 24 days at most, or without an end."""
+    if seconds > 0:
+        return None if seconds == math.inf else min(seconds * 1000, _LONGEST)
+    check_wait("seconds", seconds)
+    return 0
 
 
 class Port:
@@ -160,11 +179,13 @@ class Port:
         """Opens the port, unless it is open.
 
         Args:
-            seconds: How long the call may take.
+            seconds: How long the call may take. With math.inf a TCP port has as long as the system tries.
 
         Raises:
+            ValueError: The time is NaN.
             PortError: It can't be opened in that time. A TCP port may still be opened (`is_opening`).
         """
+        check_wait("seconds", seconds)
         if self._file is not None:
             return
         file = None
@@ -206,6 +227,7 @@ class Port:
         """Waits until bytes can be read, or written if that is asked. Returns which of both is possible.
 
         Raises:
+            ValueError: The time is NaN.
             PortError: The port isn't open.
         """
         if self._file is None:
@@ -213,7 +235,7 @@ class Port:
         if seconds > 0 and BESIDE.keyboards:
             flags = _wait_beside(seconds, self._file, select.POLLIN | (select.POLLOUT if is_writing else 0))
         else:
-            found = self._waits[is_writing].poll(seconds * 1000 if seconds > 0 else 0)
+            found = self._waits[is_writing].poll(_milliseconds(seconds))
             flags = found[0][1] if found else 0
         return flags & _READABLE != 0, flags & select.POLLOUT != 0
 
@@ -282,8 +304,10 @@ class Port:
         there is no room for them is dropped.
 
         Raises:
+            ValueError: The time is NaN.
             PortError: The port was lost. It is closed then.
         """
+        check_wait("seconds", seconds)
         end, sent = time.monotonic() + seconds, 0
         while sent < len(data):
             left = end - time.monotonic()
@@ -300,6 +324,7 @@ class Port:
         """Returns what comes, as soon as anything does, or no bytes if nothing comes in that time.
 
         Raises:
+            ValueError: The time is NaN.
             PortError: The port was lost. It is closed then.
         """
         return self.read_some() if self.ready(False, seconds)[0] else b""
@@ -352,7 +377,8 @@ class Port:
 
 
 def _wait_beside(seconds: float, file: int | None = None, events: int = 0) -> int:
-    """Waits for a file, if there is one, and has keyboards read meanwhile. Returns what the file is ready for."""
+    """Waits for a file, if there is one, and has keyboards read meanwhile, also while nothing comes: that ends a code.
+    Returns what the file is ready for."""
     end = time.monotonic() + seconds
     while True:
         waits = select.poll()
@@ -363,7 +389,7 @@ def _wait_beside(seconds: float, file: int | None = None, events: int = 0) -> in
                     waits.register(typing, select.POLLIN)
         if file is not None:
             waits.register(file, events)
-        found = dict(waits.poll(max(end - time.monotonic(), 0) * 1000))
+        found = dict(waits.poll(_milliseconds(min(end - time.monotonic(), _OFTEN))))
         flags = 0 if file is None else found.get(file, 0)
         left = end - time.monotonic()
         if flags or left <= 0:
@@ -713,7 +739,7 @@ class _Joining:
         assert self._made is not None
         waits = select.poll()
         waits.register(self._made, select.POLLOUT)
-        if not waits.poll(max(end - time.monotonic(), 0) * 1000):
+        if not waits.poll(_milliseconds(end - time.monotonic())):
             return False
         _check(self._made.getsockopt(socket.SOL_SOCKET, socket.SO_ERROR), 0)
         return True

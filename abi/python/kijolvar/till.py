@@ -16,19 +16,20 @@ from types import TracebackType
 from typing import BinaryIO, TypeVar
 
 from . import _files
-from ._constants import KIJOLVAR_CUT, KIJOLVAR_NO_DEVICE, KIJOLVAR_NO_MEMORY, PTR_S_RECEIPT
+from ._constants import KIJOLVAR_CUT, KIJOLVAR_NO_CONTROL, KIJOLVAR_NO_DEVICE, KIJOLVAR_NO_MEMORY, PTR_S_RECEIPT
 from ._control import Control, Text, device_word, is_true, undoing
 from ._controls import CashDrawer, LineDisplay, POSPrinter, Scanner
 from ._devices import Device, Order, read_order
 from ._drives import Drives
 from ._events import Event
-from ._faults import (Error, LineError, NameInUseError, NoDeviceError, NoMemoryError, ProfileError,
+from ._faults import (Error, LibraryFault, LineError, NameInUseError, NoDeviceError, NoMemoryError, ProfileError,
                       TooManyControlsError, library_fault)
 from ._library import Path
 from ._questions import Profile, ProfileDevice, devices, explain, library_of, text_of
 from ._session import Session
 from ._wire import Reply, WireSettings, behind, expected
 from .drivers import Driver
+from .ports import check_wait
 from .totals import Totals
 
 C = TypeVar("C", bound=Control)
@@ -138,6 +139,8 @@ class Till:
         Raises:
             TooManyControlsError: There are 4,096 controls.
             NameInUseError: A control has the name, or one of another category had it.
+            NoMemoryError: There was no memory. With KIJOLVAR_CUT the control may have been made: then the next call for
+                its category returns it, or the next one with its name.
         """
         self._session.check()
         free = self._free.setdefault(kind.category, deque())
@@ -153,9 +156,8 @@ class Till:
                 self._count += 1
                 word = f"control-{self._count}"
             assert word is not None
-            answer = self._carry_out(b"new %b %b" % (device_word(word), kind.category.encode()))
+            answer = self._make(word, kind.category, name is not None)
             if answer == b"ok\n":
-                self._names[self._session.number_of(word.encode())] = word
                 return self._adopt(kind(self, word), is_chosen=name is not None)
             if answer == b"refused Full\n":
                 raise TooManyControlsError("there are as many controls as there may be")
@@ -165,6 +167,38 @@ class Till:
                 raise LineError(answer.decode().strip())
             if name is not None:
                 raise NameInUseError(name)
+
+    def _make(self, name: str, category: str, is_chosen: bool) -> bytes:
+        """Carries out the line that makes a control, and returns the answer. A control that was made, though the answer
+        is lost, is the next one of its category, or of its name if that was chosen."""
+        word = device_word(name)
+        was_there = self._number_of(word) is not None
+        try:
+            answer = self._carry_out(b"new %b %b" % (word, category.encode()))
+        except BaseException as fault:
+            with undoing(fault):
+                if not was_there and self._notes_made(name, word):
+                    self._give_back(category, name, is_chosen)
+            raise
+        if answer == b"ok\n":
+            self._notes_made(name, word)
+        return answer
+
+    def _notes_made(self, name: str, word: bytes) -> bool:
+        """Notes the number of a control, and returns whether there is one of the name."""
+        number = self._number_of(word)
+        if number is not None:
+            self._names[number] = name
+        return number is not None
+
+    def _number_of(self, word: bytes) -> int | None:
+        """The library's number of the control of a name, or None if there is none."""
+        try:
+            return self._session.number_of(word)
+        except LibraryFault as fault:
+            if fault.library_code != KIJOLVAR_NO_CONTROL:
+                raise
+            return None
 
     def _adopt(self, control: C, is_chosen: bool = False) -> C:
         """Keeps the control's name, so that another control takes its place once nothing refers to it."""
@@ -398,11 +432,16 @@ class Till:
         with an ErrorEvent.
 
         Args:
-            timeout: How long to wait for something to happen, in seconds. Printing may take longer.
+            timeout: How long to wait for something to happen, in seconds. Printing may take longer. With 0 or less it
+                doesn't wait, and with math.inf until something happens.
 
         Returns:
             Whether anything was done.
+
+        Raises:
+            ValueError: The timeout is NaN.
         """
+        check_wait("the timeout", timeout)
         return self._drives.run(timeout)
 
     # The text layer.

@@ -7,8 +7,9 @@ from types import TracebackType
 from typing import SupportsIndex
 
 from ._constants import E_NOEXIST
-from ._control import Text, undoing
+from ._control import Text, is_answer_lost, undoing
 from ._controls import HardTotals
+from ._faults import Error
 from .errors import DisabledError, IllegalError, NoExistError
 
 
@@ -108,11 +109,30 @@ class TotalsFile:
     Attributes:
         handle: The file's handle.
         size: How many bytes it has; that never changes.
-        name: Its name.
     """
 
     def __init__(self, totals: Totals, handle: int, size: int, name: bytes) -> None:
-        self._totals, self.handle, self.size, self.name = totals, handle, size, name
+        self._totals, self.handle, self.size, self._name = totals, handle, size, name
+        # The names that it may have instead, by renames that nobody knows the outcome of.
+        self._others: list[bytes] = []
+
+    @property
+    def name(self) -> bytes:
+        """Its name. After a `rename` whose answer was lost, the totals are asked for it; until they can be, as without
+        memory, it is the last one that is known."""
+        if self._others:
+            with contextlib.suppress(Error):
+                self._find_name()
+        return self._name
+
+    def _find_name(self) -> None:
+        """Finds out which of some names the file has."""
+        for name in reversed(self._others):
+            with contextlib.suppress(NoExistError):
+                if self._totals.find(name)[0] == self.handle:
+                    self._name = name
+                    break
+        self._others.clear()
 
     def __repr__(self) -> str:
         return f"<kijolvar.TotalsFile {self.name!r}: {self.size} bytes, handle {self.handle}>"
@@ -147,9 +167,21 @@ class TotalsFile:
         self._totals.set_all(self.handle, value)
 
     def rename(self, name: Text) -> None:
-        """Gives the file another name."""
-        self._totals.rename(self.handle, name)
-        self.name = _name(name)
+        """Gives the file another name.
+
+        Raises:
+            NoMemoryError: There was no memory. With KIJOLVAR_CUT the file may have its new name: `name` says it.
+        """
+        # What a signal's handler raises may come once the file is renamed.
+        self._others.append(_name(name))
+        try:
+            self._totals.rename(self.handle, name)
+        except (Error, TypeError, OverflowError) as fault:
+            if not is_answer_lost(fault):
+                self._others.pop()
+            raise
+        self._name = self._others[-1]
+        self._others.clear()
 
     def delete(self) -> None:
         """Deletes the file.
