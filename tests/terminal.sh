@@ -105,6 +105,10 @@ typed 'open a d1' C-d C-d
 screen 'a line without an end is answered too' '> open a d1=> bad control' 'status 0' 'ready>'
 typed 'clear; echo "new a CashDrawer" | kijolvar run' Enter
 screen 'a pipe has no prompt' '-:1: ok' 'ready>'
+typed 'clear; echo begun; kijolvar run > answers; cat answers' Enter
+shows 'a run into a file' 'begun'
+typed 'new a CashDrawer' Enter C-d
+screen 'a file has no prompt' 'begun' 'new a CashDrawer' '-:1: ok' 'ready>'
 typed 'clear; echo begun; kijolvar run --json' Enter
 shows 'a run without a prompt' 'begun'
 typed 'new a CashDrawer' Enter C-d

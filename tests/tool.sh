@@ -79,7 +79,7 @@ script() {
 hint_words='hint: `kijolvar help` lists the commands'
 hint_path='hint: check the path, and who may read and write it'
 hint_rights="hint: run it as the old file's owner, or as root"
-hint_link='hint: if a file is there, give another path, or restore with --replace; the disk must have hard links'
+hint_link='hint: if a file is there, give another path; `restore` has --replace; the disk must have hard links'
 hint_create='hint: is it the right file? Restore a copy if it had totals'
 hint_salvage='hint: `kijolvar salvage FILE TO` makes a sound file of what can be had'
 hint_stop='hint: a till that runs locks its totals file: stop it first'
@@ -149,7 +149,7 @@ ends 'check counts' 0 '' 'sound: layout 1, sequence 1, records 3, files 2' check
 ends 'check of no file' 4 "kijolvar: none.totals: $unread: $none"$'\n'"$hint_path" '' check none.totals
 ends 'a path with a line feed' 4 "kijolvar: a\\nb: $unread: $none"$'\n'"$hint_path" '' check "$(printf 'a\nb')"
 head -c 327680 /dev/zero > zero.totals
-unformatted='no totals: not formatted'$'\n''to do: restore a copy if it had any; `kijolvar create FILE` makes new ones'
+unformatted='no totals: not formatted'$'\n''to do: if it had any, copy it and restore an older copy; `kijolvar create FILE` overwrites it'
 ends 'check of bytes without totals' 1 '' "$unformatted" check zero.totals
 ends 'the same, quiet' 1 '' '' check --quiet zero.totals
 head -c 100000 till.totals > short.totals
@@ -268,7 +268,7 @@ cp moved.totals kept
 ends 'a second move' 4 'kijolvar: moved.totals: has layout 2 already: there is nothing to do'$'\n''hint: nothing is left to do' '' migrate moved.totals
 same 'a second move keeps the bytes' moved.totals kept
 ends 'migrate of bytes without totals' 1 \
-  "kijolvar: zero.totals: isn't formatted: format it first, which makes totals without files"$'\n''hint: restore a copy if it had totals; `kijolvar create FILE` makes new ones' \
+  "kijolvar: zero.totals: isn't formatted: format it first, which makes totals without files"$'\n''hint: if it had totals, copy it and restore an older copy; `kijolvar create FILE` overwrites it' \
   '' migrate zero.totals
 ends 'migrate of no file' 4 "kijolvar: none.totals: $unopened: $none"$'\n'"$hint_path" '' migrate none.totals
 { for at in $(seq 250); do printf 'call a create %s 3 false\n' "$(printf 'f%03d' "$at" | od -An -tx1 | tr -d ' \n')"; done; } |
@@ -452,6 +452,47 @@ ends 'restore, replacing a link' 4 "kijolvar: link.totals: $no_file"$'\n'"$hint_
 told 'restore, replacing a link, leaves the link' other.totals "$(readlink link.totals)"
 same 'restore, replacing a link, keeps the file' other.totals kept
 told 'restore, replacing a link, leaves nothing' '' "$(ls link.totals.* other.totals.* 2> /dev/null)"
+
+# --- a file that can't be read: one that can be gives way to a copy all the same
+strace -o trace -P other.totals -e inject=pread64:error=EIO "$tool" check other.totals > out 2> err
+told 'check of a file that is not read: status' 4 $?
+told 'check of a file that is not read: message' \
+  "kijolvar: other.totals: can't be read whole: check the device that it is on"$'\n''hint: copy it by dd if=FILE of=COPY bs=512 conv=noerror,sync, and salvage COPY, or restore an older copy' \
+  "$(cat err)"
+strace -o trace -P other.totals -e inject=pread64:error=EIO "$tool" restore copy.totals other.totals --replace > out 2> err
+told 'restore, replacing a file that is not read' '0 ' "$? $(cat err)"
+same 'restore, replacing a file that is not read, copies the bytes' copy.totals other.totals
+same 'restore, replacing a file that is not read, keeps it' other.totals.old kept
+mv other.totals.old other.totals
+
+# --- totals files are their owner's alone, whatever the umask lets
+umask 022
+"$tool" dump till.totals > dumped
+"$tool" create private.create
+"$tool" load dumped private.load
+strace -e trace=openat -o trace "$tool" backup till.totals private.backup
+"$tool" restore copy.totals private.restore
+"$tool" salvage till.totals private.salvage > /dev/null
+"$program" format --disk private.format
+told 'totals files are private' '600 600 600 600 600 600' "$(stat -c %a private.* | tr '\n' ' ' | sed 's/ $//')"
+told 'also before they are whole' 1 "$(grep -c '"private.backup.part".*, 0600)' trace)"
+rm private.*
+
+# --- what is no file
+no_totals='is no file, but a folder, a pipe or a device'
+mkfifo pipe.totals
+mkdir folder.totals
+for there in pipe.totals folder.totals /dev/null; do
+  for words in "check $there" "files $there" "diff till.totals $there" "backup $there new" "restore $there new" "salvage $there new"; do
+    ends "$words" 4 "kijolvar: $there: $unread: $no_totals"$'\n'"$hint_path" '' $words
+  done
+  for words in "create $there" "migrate $there" "restore copy.totals $there --replace"; do
+    ends "$words" 4 "kijolvar: $there: $unopened: $no_totals"$'\n'"$hint_path" '' $words
+  done
+done
+told 'they are as they were' 'p d' "$(stat -c %A pipe.totals folder.totals | cut -c1 | tr '\n' ' ' | sed 's/ $//')"
+rm pipe.totals
+rmdir folder.totals
 
 # --- streams that are closed: no file is opened in their place
 cp till.totals closed.totals
@@ -834,6 +875,16 @@ done
 told 'they are as they were' 'p l d' "$(stat -c %A pipe.xml link.xml folder.xml | cut -c1 | tr '\n' ' ' | sed 's/ $//')"
 rm pipe.xml link.xml
 rmdir folder.xml
+cp sale.script kept.script
+ends 'a report in place of a script' 4 \
+  'kijolvar: kept.script: is there, and is no report that may be replaced'$'\n''hint: give the path of a report, or one that is free' \
+  $'ok sale.script\n1 passed, 0 failed' test sale.script --junit kept.script
+same 'the script stays' sale.script kept.script
+: > empty.xml
+ends 'a report in place of an empty file' 0 '' $'ok sale.script\n1 passed, 0 failed' test sale.script --junit empty.xml
+told 'it is a report' 'testsuite kijolvar 1 0' "$(suite empty.xml | head -n 1)"
+told 'its mode is what the umask lets' 644 "$(stat -c %a empty.xml)"
+rm kept.script empty.xml
 "$tool" test sale.script --junit report.xml > out 2> err
 told 'a report beside a part of one' "4 ok sale.script" "$? $(head -n 1 out)"
 same 'the old report stays' before.xml report.xml
