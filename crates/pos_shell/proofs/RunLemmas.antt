@@ -10,9 +10,13 @@ use Rattle.pos_shell.specs.Runs.{AreRead, ReadsPath}
 use Rattle.std.proofs.lemmas.Grind.{flat_map-append}
 use Rattle.pos_counter.specs.Steps.{Request, Response}
 use Rattle.pos_run.proofs.Common.{Appends-trans}
-use Rattle.pos_run.specs.Transcript.{LinesPrint, Session}
+use Rattle.pos_run.proofs.LineLemmas.{prints_join}
+use Rattle.pos_run.specs.Runs.{Stops}
+use Rattle.pos_run.specs.Transcript.{Leads, LinesPrint, Session}
+use Rattle.pos_script.specs.Text.{printed}
+use Rattle.pos_streams.specs.Streams.{Given}
 use Rattle.pos_shell.specs.Outputs.{IsWritten, Output}
-use Rattle.pos_shell.specs.Scripts.{AreTurns, PrintsTurns, Turn, TurnsPrint, script_of, script_run, turn_lines}
+use Rattle.pos_shell.specs.Scripts.{AreTurns, PrintsTurns, RunsFront, Turn, TurnsPrint, script_of, script_run, turn_lines}
 use Rattle.pos_shell.specs.Scripts.{turn_text}
 use Rattle.pos_shell.specs.declared.scripts.Script.{Script}
 use Rattle.pos_shell.specs.declared.answer_texts.AnswerStyle.{AnswerStyle}
@@ -61,6 +65,38 @@ reads_next system them paths i d scripts script old between new lt are named rea
 pub one_more : {A : Type 0} (f : Turn → List A) (turns : List Turn) (turn : Turn)
     → flat_map f (turns ++ turn ∷ []) ≡ flat_map f turns ++ f turn
 one_more f turns turn = flat_map-append f turns (turn ∷ []) ∙ ap (λ xs. flat_map f turns ++ xs) (append-nil (f turn))
+
+-- no line was run
+pub front_none : (session : Session) (lines : List (List ℕ)) → RunsFront session lines [] session
+front_none session lines =
+    record { front = []; back = lines; answers = []; split = refl; prints = (refl, refl, refl) }
+
+-- all lines were run
+pub front_whole : {session : Session} (lines : List (List ℕ)) (steps : List (Request × Response)) (answers : List ℕ)
+    {left : Session} → LinesPrint session lines steps answers left → RunsFront session lines steps left
+front_whole lines steps answers prints =
+    record { front = lines; back = []; answers = answers; split = sym (append-nil lines); prints = prints }
+
+-- lines were run up to one at which a write failed, and that one too
+pub front_stopped : {C : Type 0} {Runs : Leads C} {old : C} {session : Session} {lines : List (List ℕ)}
+    {before after : Given} {left : Session} {new : C} (stops : Stops Runs old session lines before after left new)
+    → RunsFront session lines (stops.done.transcript.steps ++ stops.failed.carried.steps) left
+front_stopped {session = session} {left = left} stops = record {
+  front = stops.earlier ++ stops.line ∷ [];
+  back = stops.later;
+  answers = stops.done.text ++ printed stops.failed.reply;
+  split = stops.split ∙ sym (append_assoc stops.earlier (stops.line ∷ []) stops.later);
+  prints = prints_join session stops.earlier stops.done.transcript.steps stops.done.text stops.between
+      (stops.line ∷ []) stops.failed.carried.steps (printed stops.failed.reply) left stops.done.transcript.prints (
+        record { reply = stops.failed.reply; steps = stops.failed.carried.steps; session = left },
+        [],
+        [],
+        stops.failed.carried.becomes,
+        (refl, refl, refl),
+        sym (append-nil stops.failed.carried.steps),
+        sym (append-nil (printed stops.failed.reply)),
+      );
+}
 
 -- the answers of turns, and then of one more
 pub turns_more : (turns : List Turn) (turn : Turn) (session middle left : Session)

@@ -44,13 +44,14 @@ abbrev pub IsEndedLine : List ℕ → Type 0
 IsEndedLine text = (line : List ℕ) × HasNoFeed line × (text ≡ line ++ 10 ∷ [])
 
 -- What taking a line comes to: a line feed ended it, or the end was found after it. Or a read failed, or the line was
--- too long.
+-- too long. Or there was no memory for one more byte of it, which was taken and is lost.
 abbrev pub TakesLine : Taken → Taken → Result (List ℕ × Bool) ScriptsFault → Type 0
 TakesLine old new (Ok (text, true)) = IsEndedLine text × (new ≡ taken_after old text)
 TakesLine old new (Ok (text, false)) = HasNoFeed text × (new ≡ end_after (taken_after old text))
 TakesLine old new (Err fault.Read) = (text : List ℕ) × HasNoFeed text
     × ((new ≡ read_fault_after (taken_after old text)) ⊎ ((new ≡ taken_after old text) × (most ≤ length text)))
-TakesLine old new (Err fault.NoMemory) = (text : List ℕ) × (new ≡ taken_after old text)
+TakesLine old new (Err fault.NoMemory) =
+    (text : List ℕ) × (byte : ℕ) × HasNoFeed text × (new ≡ taken_after old (text ++ byte ∷ []))
 TakesLine old new (Err fault.Write) = ⊥
 
 -- what an exchange gives: the prompt, and then what is told of the line that was typed

@@ -16,7 +16,7 @@ use Rattle.pos_run.specs.Transcript.{Session, begun_session}
 use Rattle.pos_run.specs.declared.spares.Spares.{Spares}
 use Rattle.pos_run.specs.declared.wrapped.Wrapped.{Wrapped}
 use Rattle.pos_store.specs.Standing.{LeavesOneOf, Standing}
-use Rattle.pos_shell.specs.Conversation.{Converses}
+use Rattle.pos_shell.specs.Conversation.{AsksNothing, Converses}
 use Rattle.pos_shell.specs.Outputs.{Streams}
 use Rattle.pos_shell.specs.Scripts.{PrintsScripts}
 use Rattle.pos_shell.specs.declared.scripts.Script.{Script}
@@ -38,15 +38,17 @@ PrintsLines style (Some scripts) session steps old new result left = (new.taken 
     × PrintsScripts style scripts session steps old.output new.output result left
 PrintsLines style None session steps old new result left = Converses style session steps old new result left
 
--- there was no memory to begin
-abbrev pub BeginsNothing : List (Request × Response) → Streams → Streams → Result (Unit {0}) ScriptsFault → Type 0
-BeginsNothing steps old new result = (steps ≡ []) × (result ≡ Err fault.NoMemory) × (new ≡ old)
+-- there was no memory to begin, and no line was run
+abbrev pub BeginsNothing : Session → List (Request × Response) → Streams → Streams → Result (Unit {0}) ScriptsFault
+    → Session → Type 0
+BeginsNothing session steps old new result left =
+    AsksNothing session steps left × (result ≡ Err fault.NoMemory) × (new ≡ old)
 
 -- likewise, or the lines were run
 abbrev pub PrintsAll : AnswerStyle → Lines → Session → List (Request × Response) → Streams → Streams
     → Result (Unit {0}) ScriptsFault → Session → Type 0
 PrintsAll style lines session steps old new result left =
-    BeginsNothing steps old new result ⊎ PrintsLines style lines session steps old new result left
+    BeginsNothing session steps old new result left ⊎ PrintsLines style lines session steps old new result left
 
 -- A run of lines over a counter that is simulated for a profile, over a disk. What all lines asked is one run, of
 -- which a crash at any moment is in one of its steps. The disk that is left is that counter's.

@@ -37,9 +37,19 @@ script_run turn = (turn.name, turn.script)
 abbrev pub AreTurns : List Script → List Turn → Type 0
 AreTurns scripts turns = map script_run turns ≡ map script_of scripts
 
+-- Of some lines a front was run, each line once and in order, from one session to another. These steps are all that was
+-- asked of the machine: none is of a line in the back.
+pub record RunsFront (session : Session) (lines : List (List ℕ)) (steps : List (Request × Response)) (left : Session)
+    : Type 0 where
+  pub front : List (List ℕ)
+  pub back : List (List ℕ)
+  pub answers : List ℕ
+  pub split : lines ≡ front ++ back
+  pub prints : LinesPrint session front steps answers left
+
 -- What running one script and telling its answers comes to, from one session to another, by the steps of the machine
--- that its lines asked: the steps print the answers, and these are told as far as they can be written. Without memory
--- nothing is told.
+-- that its lines asked: the steps print the answers, and these are told as far as they can be written. If memory ran
+-- out, a front of the lines was run, and nothing is told.
 abbrev pub PrintsText : AnswerStyle → List ℕ → List ℕ → Session → List (Request × Response) → Output → Output
     → Result (Unit {0}) ScriptsFault → Session → Type 0
 PrintsText style name text session steps old new (Ok u) left =
@@ -48,7 +58,8 @@ PrintsText style name text session steps old new (Ok u) left =
 PrintsText style name text session steps old new (Err fault.Write) left =
     (answers : List ℕ) × LinesPrint session (lines_of text) steps answers left
     × IsCutOff old new (told style name 1 (lines_of text) (lines_of answers))
-PrintsText style name text session steps old new (Err fault.NoMemory) left = new ≡ old
+PrintsText style name text session steps old new (Err fault.NoMemory) left =
+    RunsFront session (lines_of text) steps left × (new ≡ old)
 PrintsText style name text session steps old new (Err fault.Read) left = ⊥
 
 -- from one session to another, the lines of each turn print its answers, one turn after another

@@ -73,12 +73,14 @@ AreTried system them bound contents (path ∷ paths) (trial ∷ trials) = (trial
     × AreTried system them bound contents paths trials
 AreTried system them bound contents paths trials = ⊥
 
--- What trying the scripts at paths comes to: what was found of all; or why one of them can't be tried.
+-- What trying the scripts at paths comes to: what was found of all; or why one of them can't be tried, after all those
+-- before it were.
 abbrev pub TriesEach : {S F : Type 0} → SystemGhosts S F → S → DiskGhosts Memory → Contents → List (List ℕ)
     → Result (List Trial) TrialFault → Type 0
 TriesEach system them bound contents paths (Ok trials) = AreTried system them bound contents paths trials
 TriesEach system them bound contents paths (Err why) = (earlier : List (List ℕ)) × (path : List ℕ)
     × (later : List (List ℕ)) × (paths ≡ earlier ++ path ∷ later)
+    × ((trials : List Trial) × AreTried system them bound contents earlier trials)
     × TriesScript system them bound contents path (Err why)
 
 -- trials that were made, as a list

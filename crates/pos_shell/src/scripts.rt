@@ -44,7 +44,7 @@ pub struct Script<'a> {
 ///
 /// # Errors
 ///
-/// `NoMemory` and `Write`.
+/// `NoMemory`: a front of its lines was run, and nothing is told. `Write`: all of its lines were run.
 pub(crate) fn print_text<W: Sink, D: Disk, P: Peripheral + Ends>(
     alloc: Global,
     style: &AnswerStyle<'_>,

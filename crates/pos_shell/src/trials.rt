@@ -1,5 +1,5 @@
 //! Scripts that are tried: what they print is compared with what they should print.
-ghost use Rattle.std.specs.Prelude.{◌≡◌, ◌≤◌, ◌++◌, IfOk, List, OnOk, codes, flat_map, length, map, string_bytes};
+ghost use Rattle.std.specs.Prelude.{◌≡◌, ◌≤◌, ◌++◌, IfErr, IfOk, List, OnOk, codes, flat_map, length, map, string_bytes};
 ghost use Rattle.pos_counter.specs.Counters.{IsCounterSound, IsRun};
 ghost use Rattle.pos_counter.specs.Steps.{Request, Response};
 ghost use Rattle.pos_program.specs.Answers.{bytes_of};
@@ -8,6 +8,7 @@ ghost use Rattle.pos_run.specs.Spares.{AreSparesSound, spares_in};
 ghost use Rattle.pos_run.specs.Transcript.{LinesPrint, begun_session, session_with};
 ghost use Rattle.pos_script.specs.Lines.{lines_of};
 ghost use Rattle.pos_streams.specs.Transfers.{given_to};
+ghost use Rattle.pos_shell.specs.Scripts.{RunsFront};
 ghost use Rattle.pos_shell.specs.Trials.{Compares, IsAnswered, ReadsText, ReadsWanted, TriesEach, TriesScript, failures};
 ghost use Rattle.pos_shell.specs.Trials.{tally, trial_text, trials_of};
 
@@ -64,7 +65,8 @@ pub trait ProgressReport {
     fn end(&mut self);
 }
 
-// What the lines of a script are answered, over a counter whose controls have no names yet.
+// What the lines of a script are answered, over a counter whose controls have no names yet. If memory ran out, a front
+// of them was run.
 fn answer_all<D: Disk, P: Peripheral + Ends>(
     alloc: Global,
     script: &[u8],
@@ -77,6 +79,10 @@ fn answer_all<D: Disk, P: Peripheral + Ends>(
         × IsRun D.Disk P.Peripheral counter.old steps counter.new
         × LinesPrint (begun_session (spares_in P.Peripheral spares.old)) (lines_of script.now) steps
         (given_to answers).bytes (session_with names (spares_in P.Peripheral spares.new))) }
+    ensures stopped { IfErr result (λ _. (steps : List (Request × Response)) × (names : ControlNames)
+        × IsRun D.Disk P.Peripheral counter.old steps counter.new
+        × RunsFront (begun_session (spares_in P.Peripheral spares.old)) (lines_of script.now) steps
+        (session_with names (spares_in P.Peripheral spares.new))) }
     ensures sound { IsCounterSound P.Peripheral counter.new }
     ensures spares { AreSparesSound P.Peripheral spares.new }
 {

@@ -8,7 +8,7 @@ use Rattle.pos_shell.specs.ProfileRun.{Lines, PrintsAll, PrintsLines, lines_in}
 use Rattle.pos_shell.proofs.profile_run.print_all.Goals as goal
 
 pub returns-in_default-clause-told : goal.returns-in_default-clause-told
-returns-in_default-clause-told g c = ([], [], refl, inl (refl, refl, refl))
+returns-in_default-clause-told g c = ([], [], refl, inl ((refl, refl), refl, refl))
 
 pub returns-in-Some-clause-told : goal.returns-in-Some-clause-told
 returns-in-Some-clause-told g c =

@@ -14,6 +14,7 @@ returns-in-Err g c =
       string_bytes name,
       map (λ name. string_bytes name) (drop (i + 1) names),
       mapped_parts (λ name. string_bytes name) names i name c.loop-name-test.true c.name-item.is,
+      (c.loop-name.trials.items, c.loop-name.invariant),
       subst (λ (path : List ℕ). TriesScript g.S.FileSystem c.args.system.now in_memory c.args.profile.now path
           (Err c.in-Err.fault)) c.as_str-path.ensures.value c.in-Err.ensures,
     )
@@ -27,6 +28,7 @@ returns-in_default g c =
       string_bytes name,
       map (λ name. string_bytes name) (drop (i + 1) names),
       mapped_parts (λ name. string_bytes name) names i name c.loop-name-test.true c.name-item.is,
+      (c.loop-name.trials.items, c.loop-name.invariant),
       tt,
     )
 
