@@ -466,6 +466,30 @@ def try_reset_with_open_cover():
             told(f"{name}: each line is whole", [], missing(shop))
 
 
+def try_reset_behind_another_status():
+    """A printer is off and on again while its cover is open, shortly after it has said something else: it was offline
+    for longer, so what its line held back is only the end of what it had."""
+    for place in (10, 60, 150):
+        name = f"it is reset after {place} bytes and another status"
+        with contextlib.ExitStack() as stack:
+            shop = Shop(stack, "holds")
+            device = shop.device
+            device.ROOM = 8
+            device.after(place, lambda device=device: device.cover(True))
+            told(f"{name}: the answer", "err 114 201", print_receipt(shop))
+            # What it acknowledges soon after it has stopped was printed before.
+            end = time.monotonic() + 1.2
+            until(lambda: shop.host.ask("run 10") and time.monotonic() > end)
+            device.drawer(True)
+            told(f"{name}: that is heard", True, until(
+                lambda: shop.host.ask("run 10") and not (device._sends or device.cable.unread())))
+            device.pull_plug()
+            device.plug_in()
+            device.cover(False)
+            told(f"{name}: again", True, is_done_after_all(shop))
+            told(f"{name}: each line is whole", [], missing(shop))
+
+
 def try_off_with_open_cover():
     """A printer on a line with XON/XOFF is switched off while its cover is open, and on when it is closed: what it was
     asked meanwhile is lost, and it is asked again."""

@@ -352,7 +352,7 @@ static void acknowledge(kij_link *link, size_t last) {
 /* Whether a printer that acknowledges something has lost its power since it was offline. Otherwise it would have said
    first that it goes on. */
 static bool was_reset(const kij_link *link) {
-    return may_be_silent(link) && kij_internal_now() - link->told_at > shortly;
+    return may_be_silent(link) && kij_internal_now() - link->offline_at > shortly;
 }
 
 /* A job is acknowledged, if one of the number is due. */
@@ -452,15 +452,19 @@ static const char *last_line(const char *text) {
     return line;
 }
 
+/* The printer is as these replies tell. While it is offline, another status doesn't make it so again. */
+static void take_signs(kij_link *link, const kij_signs *signs, const kij_told *told, size_t count) {
+    if (!is_offline(link)) link->offline_at = kij_internal_now();
+    memcpy(&link->signs, signs, sizeof link->signs);
+    memcpy(link->told, told, count * sizeof *told);
+    link->told_count = count;
+    link->statuses++;
+}
+
 /* Puts the replies to the three questions together to what an automatic status would say. */
 static void compose(kij_link *link) {
-    if (link->told_count == 0 || memcmp(&link->hearing, &link->signs, sizeof link->signs) != 0) {
-        memcpy(&link->signs, &link->hearing, sizeof link->signs);
-        memcpy(link->told, link->heard, sizeof link->told);
-        link->told_count = 3;
-        link->told_at = kij_internal_now();
-        link->statuses++;
-    }
+    if (link->told_count == 0 || memcmp(&link->hearing, &link->signs, sizeof link->signs) != 0)
+        take_signs(link, &link->hearing, link->heard, 3);
 }
 
 /* The answer to a question of DLE EOT. A printer that says by itself how it is gets the other two questions while it is
@@ -502,12 +506,10 @@ static void take_reply(kij_link *link, const char *text, const kij_told *told) {
     if (strncmp(line, "job ", 4) == 0) {
         acknowledge_number(link, (uint32_t)strtoul(line + 4, NULL, 10));
     } else if (told->size > 1) {
-        hear(&link->signs, line);
-        link->told[0] = *told;
-        link->told_count = 1;
-        link->told_at = kij_internal_now();
+        kij_signs signs = link->signs;
+        hear(&signs, line);
+        take_signs(link, &signs, told, 1);
         link->is_refreshing = false;
-        link->statuses++;
     } else {
         take_part(link, line, told);
     }

@@ -163,7 +163,8 @@ pub(crate) struct Link {
     /// What has come.
     got: Vec<u8>,
     pub(crate) told: Vec<Told>,
-    told_at: Option<Instant>,
+    /// When it said that it is offline, and was online before.
+    offline_at: Option<Instant>,
     signs: Signs,
     pub(crate) statuses: u64,
     pub(crate) late: u64,
@@ -226,7 +227,7 @@ impl Link {
             control: Vec::new(),
             got: Vec::new(),
             told: Vec::new(),
-            told_at: None,
+            offline_at: None,
             signs: Signs::default(),
             statuses: 0,
             late: 0,
@@ -483,6 +484,15 @@ impl Link {
         }
     }
 
+    /// The printer is as these replies tell. While it is offline, another status doesn't make it so again.
+    fn take_signs(&mut self, signs: Signs, told: Vec<Told>) {
+        if !self.is_offline() {
+            self.offline_at = Some(Instant::now());
+        }
+        (self.signs, self.told) = (signs, told);
+        self.statuses += 1;
+    }
+
     /// A reply of a printer that says by itself how it is. Its automatic status alone tells of pin and cover at once.
     fn take_reply(&mut self, line: &str, told: Told) {
         self.answered(line);
@@ -496,10 +506,10 @@ impl Link {
                 }
             }
         } else if line.contains(" pin ") && line.contains(" cover ") {
-            self.signs.hear(line);
-            (self.told, self.told_at) = (vec![told], Some(Instant::now()));
+            let mut signs = self.signs;
+            signs.hear(line);
+            self.take_signs(signs, vec![told]);
             self.is_refreshing = false;
-            self.statuses += 1;
             self.heard.clear();
         } else {
             self.take_part(line, told);
@@ -544,9 +554,7 @@ impl Link {
         }
         self.rounds += 1;
         if self.told.is_empty() || self.hearing != self.signs {
-            (self.signs, self.told) = (self.hearing, self.heard.clone());
-            self.told_at = Some(Instant::now());
-            self.statuses += 1;
+            self.take_signs(self.hearing, self.heard.clone());
         }
     }
 
@@ -763,7 +771,7 @@ impl Link {
     /// Whether the printer was switched off and on again since it said that it is offline: it would have said by itself
     /// that it goes on before it acknowledged anything.
     fn was_reset(&self) -> bool {
-        self.may_be_silent() && is_over(self.told_at, STOPPING)
+        self.may_be_silent() && is_over(self.offline_at, STOPPING)
     }
 
     /// The printer may have lost its power, and a line holds back the rest of what is due, which the printer may still
