@@ -1791,6 +1791,38 @@ def try_late_causes():
             told(f"its paper over {kind}", PRINTED, shop.paper())
 
 
+def is_asked_over_another(device):
+    """Whether another connection has begun of which everything is held back, and the printer was asked over it."""
+    _, start, rest = device.held.rpartition(b"\x1b@")
+    return start and b"\x10\x04\1" in rest
+
+
+def try_answers_to_another_connection():
+    """A print server passes the answers to questions of an earlier connection on to the next one: none is taken for the
+    answer to another question."""
+    for kind in ("tcp stays", "asked tcp stays"):
+        with contextlib.ExitStack() as stack:
+            name, shop = f"earlier answers over {kind}", Shop(stack, kind, made=HeldPrinter)
+            device, ask = shop.device, shop.host.ask
+            told(f"{name}: it is well", True, shop.settle())
+            device.hold(True)
+            told(f"{name}: it is connected to again", True,
+                 until(lambda: ask("run 10") and is_asked_over_another(device)))
+            with device.lock:
+                # It says nothing by itself. The bit of the drawer's pin is that of an open cover in another answer.
+                device._is_automatic, device.is_drawer_open = False, True
+                device.lines_left, device.is_short = 0, True
+            device.hold(False)
+            told(f"{name}: it has no paper", True,
+                 until(lambda: ask("run 10") and shop.host.line("get r RecEmpty") == "ok true"))
+            told(f"{name}: its cover is closed", "ok false", shop.host.line("get r CoverOpen"))
+            events = iter(lambda: shop.host.line("deliver r"), "none")
+            told(f"{name}: it was never open", False, "event StatusUpdateEvent 11" in events)
+            device.load(1000)
+            told(f"{name}: it prints with paper", True, until(lambda: ask("run 10") and shop.print(TEXT) == "ok"))
+            told(f"{name}: the paper", PRINTED, shop.paper())
+
+
 def try_late_line():
     """A link to a serial line that is made after its driver was opened is set up as a serial line. /dev/tty is the line
     here, which is the terminal of the host's session."""

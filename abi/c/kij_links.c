@@ -706,7 +706,9 @@ static void forget(kij_link *link) {
     link->is_there = link->is_started = link->was_silent = link->is_refreshing = link->was_asked = false;
     link->has_late_answers = false;
     link->told_count = 0;
-    link->unanswered = link->status_left = 0;
+    /* A print server may pass the answers to an earlier connection on to this one. */
+    if (link->port.kind != KIJ_PORT_TCP) link->unanswered = 0;
+    link->status_left = 0;
     link->questioned_at = KIJ_NEVER;
     memset(&link->signs, 0, sizeof link->signs);
     /* Acknowledgements without a number can't be told from those of another connection. */

@@ -806,7 +806,11 @@ impl Link {
         self.asked_at = None;
         self.told.clear();
         (self.signs, self.hearing) = (Signs::default(), Signs::default());
-        (self.unanswered, self.is_late, self.questioned_at) = (0, false, None);
+        (self.is_late, self.questioned_at) = (false, None);
+        if !matches!(self.cable.port, Port::Tcp(..)) {
+            // A print server may pass the answers to an earlier connection on to this one.
+            self.unanswered = 0;
+        }
         self.status_left = 0;
         if self.is_asked {
             // Acknowledgements without a number can't be told from those of another connection.
