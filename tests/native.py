@@ -737,7 +737,7 @@ def try_stopped_program():
     acknowledged the order meanwhile, so it is done."""
     if WORDS.preloaded is None:
         return
-    for kind in ("usb", "tcp", "asked"):
+    for kind in ("usb", "tcp", "serial", "asked"):
         with contextlib.ExitStack() as stack:
             stops = CHECKS.work / "stops"
             shop = Shop(stack, kind, timeout=2000, LD_PRELOAD=WORDS.preloaded, STOPS=str(stops))
@@ -757,6 +757,46 @@ def try_stopped_program():
             told(f"it is done over {kind}", "ok", shop.print(b"Once\n"))
             thread.join()
             told(f"the paper over {kind}", [("left", b"Once")], shop.paper())
+
+
+def try_off_while_stopped():
+    """The program is stopped while it waits for a printer whose line holds bytes back, and which is off and on again
+    meanwhile: the end of the line that it gets and acknowledges isn't told as the whole."""
+    if WORDS.preloaded is None:
+        return
+    for kind, place in itertools.product(("holds", "asked holds"), (10, 60)):
+        name = f"off after {place} bytes while the program is stopped, over {kind}"
+        with contextlib.ExitStack() as stack:
+            stops, is_off = CHECKS.work / "stops", threading.Event()
+            shop = Shop(stack, kind, timeout=AMPLE, LD_PRELOAD=WORDS.preloaded, STOPS=str(stops))
+            device, process = shop.device, shop.host.program.pid
+            device.ROOM = 8
+            device.after(place, device.pull_plug, is_off.set)
+
+            def stops_it():
+                is_off.wait(PATIENCE)
+                stops.touch()
+                told(f"{name}: it is stopped", True, until(lambda: is_still(process)))
+                device.plug_in()
+                told(f"{name}: the printer goes on", True, device.wait(lambda: device.is_idle and not device._sends))
+                time.sleep(2.5)
+                os.kill(process, signal.SIGCONT)
+            thread = threading.Thread(target=stops_it)
+            thread.start()
+            told(f"{name}: the answer", "err 111", print_receipt(shop))
+            thread.join()
+            told(f"{name}: again", True, is_done_after_all(shop))
+            told(f"{name}: each line is whole", [], missing(shop))
+
+
+def try_pause_in_a_line():
+    """A printer takes long for a line, while the program runs: it isn't taken for one that was off."""
+    for kind in ("holds", "asked holds", "serial"):
+        with contextlib.ExitStack() as stack:
+            shop = Shop(stack, kind, timeout=AMPLE)
+            shop.device.after_characters(30, lambda: shop.device.pauses(2.5))
+            told(f"a pause in a line over {kind}", "ok", print_receipt(shop))
+            told(f"its paper over {kind}", RECEIPT, [item[1] for item in shop.paper()])
 
 
 def try_tear_off():

@@ -654,7 +654,8 @@ typedef struct kij_scanner_settings {
  * seconds, or for the timeout if that is shorter, an order over such a line fails. What it hasn't acknowledged by then
  * is sent again by a retry, once the printer answers, so that each line is whole on the paper; some may be there twice.
  * So is what it acknowledges of an order that failed for no reason (KIJ_E_FAILURE) while the till doesn't look for 2
- * seconds (kij_run_devices): it may have been off. A printer that has said by itself that it is offline, as while its
+ * seconds (kij_run_devices): it may have been off. An order in which the program stands still for so long, as on a
+ * machine that is suspended, fails for that reason. A printer that has said by itself that it is offline, as while its
  * paper feed button is held down, may be silent for longer, since it says that it goes on.
  * With `is_asked` the next order waits first for an answer to what was sent before. If none comes for the timeout, it
  * fails, and the one after it is sent.

@@ -611,11 +611,17 @@ static bool may_have_been_off(const kij_link *link) {
     return kij_internal_link_is_online(link) && is_held(link) && was_long;
 }
 
+/* Somebody looks what has come. If nobody has for long, as while this process stood still, the printer may have been
+   off meanwhile. */
+static void begin_look(kij_link *link) {
+    if (may_have_been_off(link)) lose_sent(link);
+    link->looked_at = kij_internal_now();
+}
+
 /* Reads what has come: false if the port was lost. */
 static bool receive(kij_link *link) {
     bool can_read, can_write, is_any = true;
-    if (may_have_been_off(link)) lose_sent(link);
-    link->looked_at = kij_internal_now();
+    begin_look(link);
     for (int part = 0; part < KIJ_MOST_PARTS && is_any; part++) {
         is_any = false;
         kij_internal_port_wait(&link->port, false, 0, &can_read, &can_write);
@@ -688,9 +694,9 @@ static bool pump(kij_link *link, is_reached reached, const kij_job *job) {
         fill(link);
         kij_internal_wait_typing(link->till, &link->port, link->out_sent < link->out.size, least(left, often),
                                  &can_read, &can_write);
+        begin_look(link);
         if (can_read && !read_some(link, &is_any)) return false;
         if (can_write && !write_some(link)) return false;
-        link->looked_at = kij_internal_now();
         /* What has come was read before. */
         watch(link, false);
         if (can_read && !is_any && !can_write) kij_internal_rest_typing(link->till, least(left, often));

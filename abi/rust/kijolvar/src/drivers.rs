@@ -366,9 +366,9 @@ fn check(till: &mut DriverTill<'_>, device: &str, settings: &WireSettings, port:
 /// printer says nothing for 2 seconds, or for the timeout if that is shorter, the lines that it hasn't acknowledged are
 /// sent again once it answers. It may print some of them twice. So are lines of an order that failed for no reason
 /// (E_FAILURE), if it acknowledges them while the till doesn't look for 2 seconds
-/// ([`Till::run_devices`](crate::Till::run_devices)), since it may have been off. A printer that has said by itself
-/// that it is offline, as while its paper feed button is held down, may be silent for longer, since it says that it
-/// goes on.
+/// ([`Till::run_devices`](crate::Till::run_devices)), since it may have been off. An order in which the program stands
+/// still for so long, as on a machine that is suspended, fails for that reason. A printer that has said by itself that
+/// it is offline, as while its paper feed button is held down, may be silent for longer, since it says that it goes on.
 ///
 /// ```no_run
 /// use kijolvar::{EscPosPrinter, EscPosSettings, Till, Totals, BUILT_PROFILE};

@@ -647,10 +647,7 @@ impl Link {
 
     /// Reads what has come.
     fn receive(&mut self, till: &mut DriverTill<'_>) -> Result<(), Lost> {
-        if self.may_have_been_off() {
-            self.lose_held();
-        }
-        self.looked_at = Some(Instant::now());
+        self.begin_look();
         for _ in 0..MOST_READS {
             if !(self.cable.wait(false, Duration::ZERO).reading && self.read_some(till)?) {
                 break;
@@ -711,8 +708,8 @@ impl Link {
             self.ask_on();
             self.fill(posting);
             let ready = till.wait(&self.cable, self.out_sent < self.out.len(), left.min(OFTEN));
+            self.begin_look();
             let is_any = ready.reading && self.read_some(till)?;
-            self.looked_at = Some(Instant::now());
             self.watch(false);
             if ready.writing {
                 self.write_some()?;
@@ -766,6 +763,15 @@ impl Link {
     fn may_have_been_off(&self) -> bool {
         let was_long = self.is_quiet(SILENT) && is_over(self.looked_at, self.timeout.min(SILENT) / 2);
         self.is_online() && self.is_held() && was_long
+    }
+
+    /// Somebody looks what has come. If nobody has for long, as while this process stood still, the printer may have
+    /// been off meanwhile.
+    fn begin_look(&mut self) {
+        if self.may_have_been_off() {
+            self.lose_held();
+        }
+        self.looked_at = Some(Instant::now());
     }
 
     /// Whether the printer was switched off and on again since it said that it is offline: it would have said by itself
