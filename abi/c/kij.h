@@ -312,6 +312,10 @@ kij_category kij_category_of(const kij_control *control);
 /** Returns the control's till. */
 kij_till *kij_till_of(const kij_control *control);
 
+/** Returns the name of the device on which the control is open, or null if it is closed. It doesn't see lines that open
+ * or close the control (kij_carry_out). The text stays until the control is opened again. */
+const char *kij_device_of(const kij_control *control);
+
 /* ---- Events ---- */
 
 /** The kinds of events. */

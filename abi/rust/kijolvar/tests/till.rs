@@ -432,6 +432,34 @@ fn controls_are_handed_out_again() {
     a_control_is_handed_out_only_when_it_is_closed();
 }
 
+#[test]
+fn a_control_knows_on_which_device_it_is_open() {
+    let till = till();
+    let drawer = CashDrawer::new(&till).unwrap();
+    assert_eq!(drawer.device(), None);
+    assert!(drawer.open("d9").is_err() && drawer.device().is_none());
+    drawer.open("d1").unwrap();
+    assert_eq!(drawer.device().as_deref(), Some("d1"));
+    assert!(drawer.open("d9").is_err());
+    assert_eq!(drawer.device().as_deref(), Some("d1"));
+    drawer.close().unwrap();
+    assert_eq!(drawer.device(), None);
+    drawer.open("d1").unwrap();
+    till.carry_out(format!("close {}", drawer.name())).unwrap();
+    assert!(drawer.close().is_err() && drawer.device().is_none());
+    drawer.open("d1").unwrap();
+    let key = drawer.into_key();
+    let kept = CashDrawer::of(&till, &key).unwrap();
+    assert_eq!(kept.device().as_deref(), Some("d1"));
+    key.discard(&till).unwrap();
+    assert_eq!(kept.device(), None);
+    let again = CashDrawer::new(&till).unwrap();
+    assert_eq!((again.name(), again.device()), (kept.name(), None));
+    again.open("d1").unwrap();
+    // It isn't the one that was discarded.
+    assert_eq!((again.device().as_deref(), kept.device()), (Some("d1"), None));
+}
+
 fn a_control_is_handed_out_only_when_it_is_closed() {
     let till = till();
     // Without memory, lines of a till with a driver aren't carried out.
