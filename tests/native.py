@@ -2352,6 +2352,8 @@ def try_refusals():
         told("a short roll", "KIJ_BAD_SETTINGS", host.ask(f"printer r1 {port} lines 20"))
         told("too long a roll", "KIJ_BAD_SETTINGS", host.ask(f"printer r1 {port} lines 100001"))
         told("no speed of a line", "KIJ_BAD_SETTINGS", host.ask(f"printer r1 {port} serial 9601"))
+        told("no time for an order", ["KIJ_BAD_SETTINGS"] * 2,
+             [host.ask(f"printer r1 {port} timeout 0"), host.ask(f"display p1 {port} timeout 0")])
         for name in ("tcp:", "tcp:h:", "tcp:h:91OO", "tcp:h:0", "tcp:h:99999", "tcp:[::1", "tcp:[::1]9101",
                      "tcp:[::1]x:9100", "tcp:a:b:9100"):
             told(f"no port: {name}", ["KIJ_BAD_SETTINGS"] * 3,

@@ -3,6 +3,7 @@
    ErrorEvents; and what is said of profiles and of files of totals. It is C99 and C++17. Usage: misuse FILE */
 #include "kij.h"
 #include <errno.h>
+#include <limits.h>
 #include <pthread.h>
 #include <stdio.h>
 #include <stdlib.h>
@@ -185,6 +186,27 @@ static void opened_on(kij_till *till) {
     succeeds("another drawer", kij_new(till, KIJ_CASH_DRAWER, NULL, &again));
     wants("it is that one, on no device", again == drawer && is_on(again, NULL));
     kij_discard(again);
+}
+
+/* No order succeeds in no time, and no call waits for less. */
+static void times(kij_till *till) {
+    static const int refused[] = {0, -1, INT_MIN};
+    for (size_t place = 0; place < sizeof refused / sizeof refused[0]; place++) {
+        int time = refused[place];
+        kij_escpos_settings printer = KIJ_ESCPOS_SETTINGS;
+        kij_display_settings display = KIJ_DISPLAY_SETTINGS;
+        kij_scanner_settings scanner = KIJ_SCANNER_SETTINGS;
+        printer.timeout = display.timeout = time;
+        gives("a printer's timeout", KIJ_BAD_SETTINGS, kij_escpos_printer_open(till, "r1", "/dev/none", &printer));
+        gives("a display's timeout", KIJ_BAD_SETTINGS, kij_serial_display_open(till, "p1", "/dev/none", &display));
+        if (time == 0) continue;
+        printer.timeout = display.timeout = 1;
+        printer.pause = display.pause = scanner.pause = time;
+        gives("a printer's pause", KIJ_BAD_SETTINGS, kij_escpos_printer_open(till, "r1", "/dev/none", &printer));
+        gives("a display's pause", KIJ_BAD_SETTINGS, kij_serial_display_open(till, "p1", "/dev/none", &display));
+        gives("a scanner's pause", KIJ_BAD_SETTINGS, kij_wedge_scanner_open(till, "s1", "/dev/none", &scanner));
+        gives("a time to run", KIJ_BAD_ARGUMENT, kij_run_devices(till, time, NULL));
+    }
 }
 
 /* Bytes of any length: the whole is printed, or the control says no. */
@@ -517,6 +539,7 @@ int main(int count, char **words) {
     succeeds("a till", kij_open("", NULL, KIJ_EXISTING, &till));
     arguments(till);
     opened_on(till);
+    times(till);
     lengths(till);
     replies(till);
     renewed(till);

@@ -281,9 +281,10 @@ pub struct EscPosSettings {
     /// Whether the printer says nothing by itself, and doesn't know GS ( H. Then it is asked for its status (DLE
     /// EOT), and whether an order is printed (GS r).
     pub is_asked: bool,
-    /// How long the printer may go on without acknowledging a line of an order.
+    /// How long the printer may go on without acknowledging a line of an order; more than zero. [`Duration::MAX`] is as
+    /// long as it takes.
     pub timeout: Duration,
-    /// How long to wait before a lost port is tried again.
+    /// How long to wait before a lost port is tried again; with [`Duration::MAX`] it never is.
     pub pause: Duration,
 }
 
@@ -344,8 +345,8 @@ fn words_of(told: &[Told], till: &mut DriverTill<'_>, device: &str, settings: &W
 }
 
 /// Checks that the settings fit a printer or a drawer, and its line.
-fn check(till: &mut DriverTill<'_>, device: &str, settings: &WireSettings, port: &Port) -> Result<(), Error> {
-    if !port.is_sound() || settings.lines > MOST_LINES {
+fn check(till: &mut DriverTill<'_>, device: &str, settings: &WireSettings, link: &SharedLink) -> Result<(), Error> {
+    if !lock(link).is_sound() || settings.lines > MOST_LINES {
         return Err(Error::new("drive", Cause::BadSettings));
     }
     till.reply(device, settings, Asked::Nothing, &[]).map(|_| ())
@@ -442,7 +443,7 @@ impl Driver for EscPosPrinter {
 
     fn start(&mut self, till: &mut DriverTill<'_>, device: &str) -> Result<(), Error> {
         self.device = device.to_string();
-        check(till, device, &self.settings, &lock(&self.link).cable.port)
+        check(till, device, &self.settings, &self.link)
     }
 
     fn connect(&mut self, till: &mut DriverTill<'_>) {
@@ -518,7 +519,7 @@ impl Driver for EscPosDrawer {
 
     fn start(&mut self, till: &mut DriverTill<'_>, device: &str) -> Result<(), Error> {
         self.device = device.to_string();
-        check(till, device, &self.settings, &lock(&self.link).cable.port)
+        check(till, device, &self.settings, &self.link)
     }
 
     fn connect(&mut self, till: &mut DriverTill<'_>) {
@@ -581,9 +582,9 @@ pub enum Protocol {
 pub struct DisplaySettings {
     /// What it understands.
     pub protocol: Protocol,
-    /// How long an order may take.
+    /// How long an order may take; more than zero. [`Duration::MAX`] is as long as it takes.
     pub timeout: Duration,
-    /// How long to wait before a lost port is tried again.
+    /// How long to wait before a lost port is tried again; with [`Duration::MAX`] it never is.
     pub pause: Duration,
 }
 
@@ -700,7 +701,7 @@ impl Driver for SerialDisplay {
     }
 
     fn start(&mut self, _: &mut DriverTill<'_>, _: &str) -> Result<(), Error> {
-        if !self.port.cable.port.is_sound() {
+        if !self.port.cable.port.is_sound() || self.timeout.is_zero() {
             return Err(Error::new("drive", Cause::BadSettings));
         }
         Ok(())
@@ -806,7 +807,7 @@ impl WedgeScanner {
         WedgeScanner { kind, ..self }
     }
 
-    /// Makes this how long to wait before a lost port is tried again.
+    /// Makes this how long to wait before a lost port is tried again; with [`Duration::MAX`] it never is.
     pub fn with_pause(mut self, pause: Duration) -> WedgeScanner {
         self.port.pause = pause;
         self

@@ -251,6 +251,11 @@ impl Link {
         }
     }
 
+    /// Whether its settings can work: the port may be one, and the timeout leaves time for an order.
+    pub(crate) fn is_sound(&self) -> bool {
+        self.cable.port.is_sound() && !self.timeout.is_zero()
+    }
+
     /// Whether the port is open and the printer answers.
     pub(crate) fn is_online(&self) -> bool {
         self.cable.is_open() && self.is_there

@@ -941,6 +941,13 @@ fn what_no_device_can_have_is_refused() {
     let refused = |driven: Result<(), Error>| assert!(matches!(driven.unwrap_err().cause(), Cause::BadSettings));
     refused(till.drive("s1", WedgeScanner::open("/dev/input/none").with_kind(1000)));
     refused(till.drive("p1", SerialDisplay::open("tcp:192.168.1.9:91OO", DisplaySettings::default())));
+    // No order succeeds in no time.
+    let timeout = Duration::ZERO;
+    let printer = EscPosPrinter::open("/dev/none", EscPosSettings { timeout, ..EscPosSettings::default() });
+    refused(till.drive("d1", printer.drawer()));
+    refused(till.drive("r1", printer));
+    let settings = DisplaySettings { timeout, ..DisplaySettings::default() };
+    refused(till.drive("p1", SerialDisplay::open("/dev/none", settings)));
     till.drive("s1", WedgeScanner::open("/dev/input/none").with_kind(999)).unwrap();
     let state = till.driver_state("s1").unwrap();
     assert_eq!((state.is_online, state.port_error), (false, Some(2)));
@@ -948,7 +955,7 @@ fn what_no_device_can_have_is_refused() {
 
 #[test]
 fn a_display_that_takes_too_long_is_lost() {
-    let (till, timeout) = (till(), Duration::ZERO);
+    let (till, timeout) = (till(), Duration::from_nanos(1));
     let settings = DisplaySettings { timeout, ..DisplaySettings::default() };
     till.drive("p1", SerialDisplay::open("/dev/null", settings)).unwrap();
     let display = till.line_display("p1").unwrap().enabled().unwrap();
@@ -1319,7 +1326,8 @@ fn a_port_that_opens_late_is_found() {
     let listener = TcpListener::bind("127.0.0.1:0").unwrap();
     let (till, port) = (till(), format!("tcp:{}", listener.local_addr().unwrap()));
     // It isn't waited for at first, nor tried a second time.
-    let settings = DisplaySettings { timeout: Duration::ZERO, pause: Duration::MAX, ..Default::default() };
+    let timeout = Duration::from_nanos(1);
+    let settings = DisplaySettings { timeout, pause: Duration::MAX, ..Default::default() };
     till.drive("p1", SerialDisplay::open(port, settings)).unwrap();
     let end = Instant::now() + Duration::from_secs(10);
     while !till.driver_state("p1").unwrap().is_online && Instant::now() < end {
@@ -1413,8 +1421,8 @@ fn a_timeout_may_be_any() {
     let (till, timeout) = (till(), Duration::MAX);
     till.drive("s1", Codes::of(&["4006381"])).unwrap();
     // Nothing listens at this port.
-    let printer = EscPosPrinter::open("tcp:127.0.0.1:1", EscPosSettings { timeout, ..EscPosSettings::default() });
-    till.drive("r1", printer).unwrap();
+    let settings = EscPosSettings { timeout, pause: timeout, ..EscPosSettings::default() };
+    till.drive("r1", EscPosPrinter::open("tcp:127.0.0.1:1", settings)).unwrap();
     let settings = DisplaySettings { timeout, pause: timeout, ..DisplaySettings::default() };
     till.drive("p1", SerialDisplay::open("/dev/null", settings)).unwrap();
     let display = till.line_display("p1").unwrap().enabled().unwrap();
