@@ -396,6 +396,8 @@ def method(about):
     asked = f"self.ask(\"{about['name']}\", &line)?.{reader}()"
     if about["name"] == "open":
         asked = "self.open_on(device, &line)"
+    elif about["name"] == "close":
+        asked = "self.close_by(&line)"
     return f"""{doc(lines, 4)}    pub fn {about['snake']}(&self{given}) -> Result<{kind}, Error> {{
         let line = {line};
         {asked}

@@ -466,6 +466,30 @@ def try_reset_with_open_cover():
             told(f"{name}: each line is whole", [], missing(shop))
 
 
+def try_reset_behind_another_status():
+    """A printer is off and on again while its cover is open, shortly after it has said something else: it was offline
+    for longer, so what its line held back is only the end of what it had."""
+    for place in (10, 60, 150):
+        name = f"it is reset after {place} bytes and another status"
+        with contextlib.ExitStack() as stack:
+            shop = Shop(stack, "holds")
+            device = shop.device
+            device.ROOM = 8
+            device.after(place, lambda device=device: device.cover(True))
+            told(f"{name}: the answer", "err 114 201", print_receipt(shop))
+            # What it acknowledges soon after it has stopped was printed before.
+            end = time.monotonic() + 1.2
+            until(lambda: shop.host.ask("run 10") and time.monotonic() > end)
+            device.drawer(True)
+            told(f"{name}: that is heard", True, until(
+                lambda: shop.host.ask("run 10") and not (device._sends or device.cable.unread())))
+            device.pull_plug()
+            device.plug_in()
+            device.cover(False)
+            told(f"{name}: again", True, is_done_after_all(shop))
+            told(f"{name}: each line is whole", [], missing(shop))
+
+
 def try_off_with_open_cover():
     """A printer on a line with XON/XOFF is switched off while its cover is open, and on when it is closed: what it was
     asked meanwhile is lost, and it is asked again."""
@@ -713,7 +737,7 @@ def try_stopped_program():
     acknowledged the order meanwhile, so it is done."""
     if WORDS.preloaded is None:
         return
-    for kind in ("usb", "tcp", "asked"):
+    for kind in ("usb", "tcp", "serial", "asked"):
         with contextlib.ExitStack() as stack:
             stops = CHECKS.work / "stops"
             shop = Shop(stack, kind, timeout=2000, LD_PRELOAD=WORDS.preloaded, STOPS=str(stops))
@@ -733,6 +757,46 @@ def try_stopped_program():
             told(f"it is done over {kind}", "ok", shop.print(b"Once\n"))
             thread.join()
             told(f"the paper over {kind}", [("left", b"Once")], shop.paper())
+
+
+def try_off_while_stopped():
+    """The program is stopped while it waits for a printer whose line holds bytes back, and which is off and on again
+    meanwhile: the end of the line that it gets and acknowledges isn't told as the whole."""
+    if WORDS.preloaded is None:
+        return
+    for kind, place in itertools.product(("holds", "asked holds"), (10, 60)):
+        name = f"off after {place} bytes while the program is stopped, over {kind}"
+        with contextlib.ExitStack() as stack:
+            stops, is_off = CHECKS.work / "stops", threading.Event()
+            shop = Shop(stack, kind, timeout=AMPLE, LD_PRELOAD=WORDS.preloaded, STOPS=str(stops))
+            device, process = shop.device, shop.host.program.pid
+            device.ROOM = 8
+            device.after(place, device.pull_plug, is_off.set)
+
+            def stops_it():
+                is_off.wait(PATIENCE)
+                stops.touch()
+                told(f"{name}: it is stopped", True, until(lambda: is_still(process)))
+                device.plug_in()
+                told(f"{name}: the printer goes on", True, device.wait(lambda: device.is_idle and not device._sends))
+                time.sleep(2.5)
+                os.kill(process, signal.SIGCONT)
+            thread = threading.Thread(target=stops_it)
+            thread.start()
+            told(f"{name}: the answer", "err 111", print_receipt(shop))
+            thread.join()
+            told(f"{name}: again", True, is_done_after_all(shop))
+            told(f"{name}: each line is whole", [], missing(shop))
+
+
+def try_pause_in_a_line():
+    """A printer takes long for a line, while the program runs: it isn't taken for one that was off."""
+    for kind in ("holds", "asked holds", "serial"):
+        with contextlib.ExitStack() as stack:
+            shop = Shop(stack, kind, timeout=AMPLE)
+            shop.device.after_characters(30, lambda: shop.device.pauses(2.5))
+            told(f"a pause in a line over {kind}", "ok", print_receipt(shop))
+            told(f"its paper over {kind}", RECEIPT, [item[1] for item in shop.paper()])
 
 
 def try_tear_off():
@@ -1767,6 +1831,38 @@ def try_late_causes():
             told(f"its paper over {kind}", PRINTED, shop.paper())
 
 
+def is_asked_over_another(device):
+    """Whether another connection has begun of which everything is held back, and the printer was asked over it."""
+    _, start, rest = device.held.rpartition(b"\x1b@")
+    return start and b"\x10\x04\1" in rest
+
+
+def try_answers_to_another_connection():
+    """A print server passes the answers to questions of an earlier connection on to the next one: none is taken for the
+    answer to another question."""
+    for kind in ("tcp stays", "asked tcp stays"):
+        with contextlib.ExitStack() as stack:
+            name, shop = f"earlier answers over {kind}", Shop(stack, kind, made=HeldPrinter)
+            device, ask = shop.device, shop.host.ask
+            told(f"{name}: it is well", True, shop.settle())
+            device.hold(True)
+            told(f"{name}: it is connected to again", True,
+                 until(lambda: ask("run 10") and is_asked_over_another(device)))
+            with device.lock:
+                # It says nothing by itself. The bit of the drawer's pin is that of an open cover in another answer.
+                device._is_automatic, device.is_drawer_open = False, True
+                device.lines_left, device.is_short = 0, True
+            device.hold(False)
+            told(f"{name}: it has no paper", True,
+                 until(lambda: ask("run 10") and shop.host.line("get r RecEmpty") == "ok true"))
+            told(f"{name}: its cover is closed", "ok false", shop.host.line("get r CoverOpen"))
+            events = iter(lambda: shop.host.line("deliver r"), "none")
+            told(f"{name}: it was never open", False, "event StatusUpdateEvent 11" in events)
+            device.load(1000)
+            told(f"{name}: it prints with paper", True, until(lambda: ask("run 10") and shop.print(TEXT) == "ok"))
+            told(f"{name}: the paper", PRINTED, shop.paper())
+
+
 def try_late_line():
     """A link to a serial line that is made after its driver was opened is set up as a serial line. /dev/tty is the line
     here, which is the terminal of the host's session."""
@@ -2256,6 +2352,8 @@ def try_refusals():
         told("a short roll", "KIJ_BAD_SETTINGS", host.ask(f"printer r1 {port} lines 20"))
         told("too long a roll", "KIJ_BAD_SETTINGS", host.ask(f"printer r1 {port} lines 100001"))
         told("no speed of a line", "KIJ_BAD_SETTINGS", host.ask(f"printer r1 {port} serial 9601"))
+        told("no time for an order", ["KIJ_BAD_SETTINGS"] * 2,
+             [host.ask(f"printer r1 {port} timeout 0"), host.ask(f"display p1 {port} timeout 0")])
         for name in ("tcp:", "tcp:h:", "tcp:h:91OO", "tcp:h:0", "tcp:h:99999", "tcp:[::1", "tcp:[::1]9101",
                      "tcp:[::1]x:9100", "tcp:a:b:9100"):
             told(f"no port: {name}", ["KIJ_BAD_SETTINGS"] * 3,

@@ -312,6 +312,10 @@ kij_category kij_category_of(const kij_control *control);
 /** Returns the control's till. */
 kij_till *kij_till_of(const kij_control *control);
 
+/** Returns the name of the device on which the control is open, or null if it is closed. It doesn't see lines that open
+ * or close the control (kij_carry_out). The text stays until the control is opened again. */
+const char *kij_device_of(const kij_control *control);
+
 /* ---- Events ---- */
 
 /** The kinds of events. */
@@ -588,8 +592,8 @@ typedef struct kij_escpos_settings {
     /** Whether the printer says nothing by itself, and doesn't know GS ( H. Then it is asked for its status (DLE EOT),
      * and whether an order is printed (GS r). */
     bool is_asked;
-    /** How long the printer may go on without acknowledging a line, and how long to wait before a lost port is tried
-     * again, in milliseconds. */
+    /** How long the printer may go on without acknowledging a line, 1 or more; and how long to wait before a lost port
+     * is tried again, 0 or more; in milliseconds. */
     int timeout;
     int pause;
     kij_serial_settings serial;
@@ -605,7 +609,8 @@ typedef enum kij_protocol { KIJ_CD5220 = 0, KIJ_ESCPOS = 1 } kij_protocol;
 /** A customer display. Begin with KIJ_DISPLAY_SETTINGS. */
 typedef struct kij_display_settings {
     kij_protocol protocol;
-    /** How long an order may take, and how long to wait before a lost port is tried again, in milliseconds. */
+    /** How long an order may take, 1 or more; and how long to wait before a lost port is tried again, 0 or more; in
+     * milliseconds. */
     int timeout;
     int pause;
     kij_serial_settings serial;
@@ -622,7 +627,7 @@ typedef struct kij_scanner_settings {
     int type;
     /** Whether the device sends key events, whatever its name. A path of /dev/input/.. always does. */
     bool has_keys;
-    /** How long to wait before a lost port is tried again, in milliseconds. */
+    /** How long to wait before a lost port is tried again, in milliseconds, 0 or more. */
     int pause;
     kij_serial_settings serial;
 } kij_scanner_settings;
@@ -654,7 +659,8 @@ typedef struct kij_scanner_settings {
  * seconds, or for the timeout if that is shorter, an order over such a line fails. What it hasn't acknowledged by then
  * is sent again by a retry, once the printer answers, so that each line is whole on the paper; some may be there twice.
  * So is what it acknowledges of an order that failed for no reason (KIJ_E_FAILURE) while the till doesn't look for 2
- * seconds (kij_run_devices): it may have been off. A printer that has said by itself that it is offline, as while its
+ * seconds (kij_run_devices): it may have been off. An order in which the program stands still for so long, as on a
+ * machine that is suspended, fails for that reason. A printer that has said by itself that it is offline, as while its
  * paper feed button is held down, may be silent for longer, since it says that it goes on.
  * With `is_asked` the next order waits first for an answer to what was sent before. If none comes for the timeout, it
  * fails, and the one after it is sent.
@@ -765,8 +771,8 @@ kij_result kij_driver_open(kij_till *till, const char *device, const kij_driver 
  * again, and prints output that waits (AsyncMode), at most one request of each printer. Call it regularly, and then
  * deliver events. Output that failed is tried again at the earliest 100 ms later, each time with an ErrorEvent.
  *
- * @param timeout how long to wait until there is something to do, in milliseconds. Printing may take longer. Without
- * driven devices the call waits the whole time. A signal doesn't end it.
+ * @param timeout how long to wait until there is something to do, in milliseconds, 0 or more. Printing may take longer.
+ * Without driven devices the call waits the whole time. A signal doesn't end it.
  * @param is_any  where it is written whether anything was done; may be null
  * @return KIJ_BAD_INPUT if the device can't be as its hardware says, KIJ_NO_MEMORY, KIJ_NO_ANSWER, KIJ_DISK_FAILED or
  * KIJ_BAD_ARGUMENT on failure

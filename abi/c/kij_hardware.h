@@ -157,7 +157,8 @@ typedef struct kij_link {
     size_t got_size;
     kij_told told[3];
     size_t told_count;
-    int64_t told_at;
+    /* When it said that it is offline, and was online before. */
+    int64_t offline_at;
     kij_signs signs;
     uint64_t statuses;
     uint64_t late;

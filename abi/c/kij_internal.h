@@ -83,8 +83,9 @@ struct kij_control {
     /* How often it was given back. */
     unsigned long turn;
     kij_word name;
-    /* The device on which it was opened last, but for lines; without a size there is none. */
+    /* The device on which it was opened last, but for lines; without a size there is none. Whether it is open there. */
     kij_word device;
+    bool is_open;
 };
 
 /* What a call is given, and what it returns. */
@@ -171,6 +172,11 @@ int kij_internal_settled(kij_till *till, uint32_t code, size_t *needed);
 /* Ends lines of an earlier call that are held: their orders failed, and nobody wants the answer. Without memory some
    are held still. */
 void kij_internal_give_up(kij_till *till);
+
+/* Whether a control is closed, by what closing it came to. */
+static inline bool kij_internal_is_closed(int code) {
+    return code == KIJ_OK || code == KIJ_E_CLOSED || code == KIJ_NO_ANSWER;
+}
 
 /* Closes the controls that were given back and couldn't be closed, in a call that has begun. */
 void kij_internal_close_given_back(kij_till *till);

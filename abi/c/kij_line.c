@@ -317,7 +317,11 @@ kij_result kij_internal_call(kij_control *control, kij_verb verb, const kij_word
     }
     /* What has no answer was done. */
     bool is_done = result.code == KIJ_OK || result.code == KIJ_NO_ANSWER;
-    if (is_done && verb == KIJ_VERB_OPEN) control->device = *method;
+    if (is_done && verb == KIJ_VERB_OPEN) {
+        control->device = *method;
+        control->is_open = true;
+    }
+    if (verb == KIJ_VERB_CLOSE && kij_internal_is_closed(result.code)) control->is_open = false;
     if (till->drives != NULL && is_done && gives_up(control, verb, method)) kij_internal_forget_orders(till, control);
     kij_internal_leave(till);
     return result;

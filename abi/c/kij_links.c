@@ -352,7 +352,7 @@ static void acknowledge(kij_link *link, size_t last) {
 /* Whether a printer that acknowledges something has lost its power since it was offline. Otherwise it would have said
    first that it goes on. */
 static bool was_reset(const kij_link *link) {
-    return may_be_silent(link) && kij_internal_now() - link->told_at > shortly;
+    return may_be_silent(link) && kij_internal_now() - link->offline_at > shortly;
 }
 
 /* A job is acknowledged, if one of the number is due. */
@@ -452,15 +452,19 @@ static const char *last_line(const char *text) {
     return line;
 }
 
+/* The printer is as these replies tell. While it is offline, another status doesn't make it so again. */
+static void take_signs(kij_link *link, const kij_signs *signs, const kij_told *told, size_t count) {
+    if (!is_offline(link)) link->offline_at = kij_internal_now();
+    memcpy(&link->signs, signs, sizeof link->signs);
+    memcpy(link->told, told, count * sizeof *told);
+    link->told_count = count;
+    link->statuses++;
+}
+
 /* Puts the replies to the three questions together to what an automatic status would say. */
 static void compose(kij_link *link) {
-    if (link->told_count == 0 || memcmp(&link->hearing, &link->signs, sizeof link->signs) != 0) {
-        memcpy(&link->signs, &link->hearing, sizeof link->signs);
-        memcpy(link->told, link->heard, sizeof link->told);
-        link->told_count = 3;
-        link->told_at = kij_internal_now();
-        link->statuses++;
-    }
+    if (link->told_count == 0 || memcmp(&link->hearing, &link->signs, sizeof link->signs) != 0)
+        take_signs(link, &link->hearing, link->heard, 3);
 }
 
 /* The answer to a question of DLE EOT. A printer that says by itself how it is gets the other two questions while it is
@@ -502,12 +506,10 @@ static void take_reply(kij_link *link, const char *text, const kij_told *told) {
     if (strncmp(line, "job ", 4) == 0) {
         acknowledge_number(link, (uint32_t)strtoul(line + 4, NULL, 10));
     } else if (told->size > 1) {
-        hear(&link->signs, line);
-        link->told[0] = *told;
-        link->told_count = 1;
-        link->told_at = kij_internal_now();
+        kij_signs signs = link->signs;
+        hear(&signs, line);
+        take_signs(link, &signs, told, 1);
         link->is_refreshing = false;
-        link->statuses++;
     } else {
         take_part(link, line, told);
     }
@@ -609,11 +611,17 @@ static bool may_have_been_off(const kij_link *link) {
     return kij_internal_link_is_online(link) && is_held(link) && was_long;
 }
 
+/* Somebody looks what has come. If nobody has for long, as while this process stood still, the printer may have been
+   off meanwhile. */
+static void begin_look(kij_link *link) {
+    if (may_have_been_off(link)) lose_sent(link);
+    link->looked_at = kij_internal_now();
+}
+
 /* Reads what has come: false if the port was lost. */
 static bool receive(kij_link *link) {
     bool can_read, can_write, is_any = true;
-    if (may_have_been_off(link)) lose_sent(link);
-    link->looked_at = kij_internal_now();
+    begin_look(link);
     for (int part = 0; part < KIJ_MOST_PARTS && is_any; part++) {
         is_any = false;
         kij_internal_port_wait(&link->port, false, 0, &can_read, &can_write);
@@ -686,9 +694,9 @@ static bool pump(kij_link *link, is_reached reached, const kij_job *job) {
         fill(link);
         kij_internal_wait_typing(link->till, &link->port, link->out_sent < link->out.size, least(left, often),
                                  &can_read, &can_write);
+        begin_look(link);
         if (can_read && !read_some(link, &is_any)) return false;
         if (can_write && !write_some(link)) return false;
-        link->looked_at = kij_internal_now();
         /* What has come was read before. */
         watch(link, false);
         if (can_read && !is_any && !can_write) kij_internal_rest_typing(link->till, least(left, often));
@@ -704,7 +712,9 @@ static void forget(kij_link *link) {
     link->is_there = link->is_started = link->was_silent = link->is_refreshing = link->was_asked = false;
     link->has_late_answers = false;
     link->told_count = 0;
-    link->unanswered = link->status_left = 0;
+    /* A print server may pass the answers to an earlier connection on to this one. */
+    if (link->port.kind != KIJ_PORT_TCP) link->unanswered = 0;
+    link->status_left = 0;
     link->questioned_at = KIJ_NEVER;
     memset(&link->signs, 0, sizeof link->signs);
     /* Acknowledgements without a number can't be told from those of another connection. */

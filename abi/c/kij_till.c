@@ -296,9 +296,6 @@ kij_result kij_start(kij_till *till, kij_category category, const char *device, 
     return result;
 }
 
-/* Whether a control is closed, by what closing it came to. */
-static bool is_closed(int code) { return code == KIJ_OK || code == KIJ_E_CLOSED || code == KIJ_NO_ANSWER; }
-
 void kij_internal_close_given_back(kij_till *till) {
     char *value;
     till->has_unclosed = false;
@@ -306,8 +303,9 @@ void kij_internal_close_given_back(kij_till *till) {
         if (!control->is_unclosed) continue;
         int code = kij_internal_run(till, KIJ_VERB_CLOSE, &control->name, NULL, NULL, 0);
         if (code == KIJ_OK) code = kij_internal_answer(till, control->category, &value).code;
-        control->is_free = is_closed(code);
+        control->is_free = kij_internal_is_closed(code);
         control->is_unclosed = !control->is_free;
+        if (control->is_free) control->is_open = false;
         till->has_unclosed |= control->is_unclosed;
     }
 }
@@ -315,7 +313,7 @@ void kij_internal_close_given_back(kij_till *till) {
 void kij_discard(kij_control *control) {
     if (control == NULL) return;
     control->turn++;
-    control->is_free = is_closed(kij_control_close(control).code);
+    control->is_free = kij_internal_is_closed(kij_control_close(control).code);
     /* One that can't be closed, as without memory, may be claimed still: it is closed later, and nobody gets it. */
     control->is_unclosed = !control->is_free;
     control->till->has_unclosed |= control->is_unclosed;
@@ -326,3 +324,5 @@ const char *kij_name(const kij_control *control) { return control->name.text + 1
 kij_category kij_category_of(const kij_control *control) { return control->category; }
 
 kij_till *kij_till_of(const kij_control *control) { return control->till; }
+
+const char *kij_device_of(const kij_control *control) { return control->is_open ? control->device.text + 1 : NULL; }

@@ -849,7 +849,7 @@ static bool gives_back(void *control, const kij_order *order) {
 /* A control that was given back while it couldn't be closed has no events any more, and keeps no device claimed. */
 static void try_given_back(void) {
     kij_till *till = NULL;
-    kij_control *printer = NULL, *drawer = NULL;
+    kij_control *printer = NULL, *drawer = NULL, *again = NULL;
     const char *answer = NULL;
     kij_event event;
     kij_driver driver;
@@ -867,6 +867,10 @@ static void try_given_back(void) {
         told("an event", KIJ_OK, kij_next_event_of_any(till, &event).code);
         told("it isn't that of the printer", false, event.control == printer);
     } while (event.kind != KIJ_NO_EVENT && failed == 0);
+    told("another printer", KIJ_OK, kij_new(till, KIJ_POS_PRINTER, NULL, &again).code);
+    told("it is that one", true, again == printer);
+    told("on no device", true, kij_device_of(again) == NULL);
+    kij_discard(again);
     told("the printer again", KIJ_OK, kij_start(till, KIJ_POS_PRINTER, "r1", KIJ_CLAIMED, &printer).code);
     kij_close(till);
 }

@@ -3,6 +3,7 @@
    ErrorEvents; and what is said of profiles and of files of totals. It is C99 and C++17. Usage: misuse FILE */
 #include "kij.h"
 #include <errno.h>
+#include <limits.h>
 #include <pthread.h>
 #include <stdio.h>
 #include <stdlib.h>
@@ -149,6 +150,63 @@ static void arguments(kij_till *till) {
     gives("its name for a scanner", KIJ_NAME_IN_USE, kij_new(till, KIJ_SCANNER, "printer", &control));
     kij_discard(NULL);
     kij_close(NULL);
+}
+
+/* Whether a control is open on this device, or on none. */
+static bool is_on(const kij_control *control, const char *device) {
+    const char *found = kij_device_of(control);
+    return device == NULL || found == NULL ? device == found : strcmp(device, found) == 0;
+}
+
+/* The device of a control is the one on which it is open. */
+static void opened_on(kij_till *till) {
+    kij_control *drawer = NULL, *again = NULL;
+    char line[32];
+    const char *text;
+    succeeds("a drawer", kij_new(till, KIJ_CASH_DRAWER, NULL, &drawer));
+    wants("it is on none", is_on(drawer, NULL));
+    gives("no such device", KIJ_E_NOEXIST, kij_control_open(drawer, "d9"));
+    wants("it is on none still", is_on(drawer, NULL));
+    succeeds("it is opened", kij_control_open(drawer, "d1"));
+    wants("its device", is_on(drawer, "d1"));
+    gives("it is open", KIJ_E_ILLEGAL, kij_control_open(drawer, "d9"));
+    wants("the same device", is_on(drawer, "d1"));
+    succeeds("it is closed", kij_control_close(drawer));
+    wants("it is on none then", is_on(drawer, NULL));
+    succeeds("it is opened again", kij_control_open(drawer, "d1"));
+    wants("its device again", is_on(drawer, "d1"));
+    snprintf(line, sizeof line, "close %s", kij_name(drawer));
+    succeeds("a line closes it", kij_carry_out(till, line, KIJ_ZERO_ENDED, &text));
+    gives("it is closed already", KIJ_E_CLOSED, kij_control_close(drawer));
+    wants("it is on none in the end", is_on(drawer, NULL));
+    kij_discard(drawer);
+    succeeds("a drawer that is open", kij_start(till, KIJ_CASH_DRAWER, "d1", KIJ_UNCLAIMED, &drawer));
+    wants("its device at once", is_on(drawer, "d1"));
+    kij_discard(drawer);
+    succeeds("another drawer", kij_new(till, KIJ_CASH_DRAWER, NULL, &again));
+    wants("it is that one, on no device", again == drawer && is_on(again, NULL));
+    kij_discard(again);
+}
+
+/* No order succeeds in no time, and no call waits for less. */
+static void times(kij_till *till) {
+    static const int refused[] = {0, -1, INT_MIN};
+    for (size_t place = 0; place < sizeof refused / sizeof refused[0]; place++) {
+        int time = refused[place];
+        kij_escpos_settings printer = KIJ_ESCPOS_SETTINGS;
+        kij_display_settings display = KIJ_DISPLAY_SETTINGS;
+        kij_scanner_settings scanner = KIJ_SCANNER_SETTINGS;
+        printer.timeout = display.timeout = time;
+        gives("a printer's timeout", KIJ_BAD_SETTINGS, kij_escpos_printer_open(till, "r1", "/dev/none", &printer));
+        gives("a display's timeout", KIJ_BAD_SETTINGS, kij_serial_display_open(till, "p1", "/dev/none", &display));
+        if (time == 0) continue;
+        printer.timeout = display.timeout = 1;
+        printer.pause = display.pause = scanner.pause = time;
+        gives("a printer's pause", KIJ_BAD_SETTINGS, kij_escpos_printer_open(till, "r1", "/dev/none", &printer));
+        gives("a display's pause", KIJ_BAD_SETTINGS, kij_serial_display_open(till, "p1", "/dev/none", &display));
+        gives("a scanner's pause", KIJ_BAD_SETTINGS, kij_wedge_scanner_open(till, "s1", "/dev/none", &scanner));
+        gives("a time to run", KIJ_BAD_ARGUMENT, kij_run_devices(till, time, NULL));
+    }
 }
 
 /* Bytes of any length: the whole is printed, or the control says no. */
@@ -480,6 +538,8 @@ int main(int count, char **words) {
     totals_files(words[1]);
     succeeds("a till", kij_open("", NULL, KIJ_EXISTING, &till));
     arguments(till);
+    opened_on(till);
+    times(till);
     lengths(till);
     replies(till);
     renewed(till);

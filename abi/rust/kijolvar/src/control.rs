@@ -70,6 +70,22 @@ impl<'till> Control<'till> {
         self.till
     }
 
+    /// Returns the name of the device on which the control is open, if it is. It doesn't see lines that open or close
+    /// the control ([`Till::carry_out`]).
+    ///
+    /// ```
+    /// # use kijolvar::{Till, Totals, BUILT_PROFILE};
+    /// # let till = Till::open(BUILT_PROFILE, Totals::Memory)?;
+    /// let drawer = till.cash_drawer("d1")?;
+    /// assert_eq!(drawer.device().as_deref(), Some("d1"));
+    /// drawer.close()?;
+    /// assert_eq!(drawer.device(), None);
+    /// # Ok::<(), kijolvar::Error>(())
+    /// ```
+    pub fn device(&self) -> Option<String> {
+        self.till.open_device(self.place).filter(|_| self.till.has_turn(self.place, self.turn))
+    }
+
     /// Begins a line on the control by its verb.
     pub(crate) fn line(&self, verb: &str) -> Line {
         Line::new(verb).name(&self.name)
@@ -103,6 +119,16 @@ impl<'till> Control<'till> {
         let done = self.ask("open", line).and_then(|answer| answer.nothing());
         if done.as_ref().map_or_else(|fault| matches!(fault.cause(), Cause::NoAnswer), |_| true) {
             self.till.opened_on(self.place, device);
+        }
+        done
+    }
+
+    /// Closes the control by a line. Its till keeps that it is closed, also if there is no memory for the answer.
+    pub(crate) fn close_by(&self, line: &Line) -> Result<(), Error> {
+        let done = self.ask("close", line).and_then(|answer| answer.nothing());
+        let is_closed = |cause: &Cause| matches!(cause, Cause::NoAnswer | Cause::Code(ResultCode::Closed));
+        if done.as_ref().map_or_else(|fault| is_closed(fault.cause()), |()| true) {
+            self.till.closed(self.place);
         }
         done
     }

@@ -106,7 +106,7 @@ impl Control<'_> {
     /// - [`E_CLOSED`](ResultCode::Closed): the control is closed.
     pub fn close(&self) -> Result<(), Error> {
         let line = self.line("close");
-        self.ask("close", &line)?.nothing()
+        self.close_by(&line)
     }
 
     /// claim (Common Properties, Methods and Events): claims the device, which keeps other controls from using it.

@@ -281,9 +281,10 @@ pub struct EscPosSettings {
     /// Whether the printer says nothing by itself, and doesn't know GS ( H. Then it is asked for its status (DLE
     /// EOT), and whether an order is printed (GS r).
     pub is_asked: bool,
-    /// How long the printer may go on without acknowledging a line of an order.
+    /// How long the printer may go on without acknowledging a line of an order; more than zero. [`Duration::MAX`] is as
+    /// long as it takes.
     pub timeout: Duration,
-    /// How long to wait before a lost port is tried again.
+    /// How long to wait before a lost port is tried again; with [`Duration::MAX`] it never is.
     pub pause: Duration,
 }
 
@@ -344,8 +345,8 @@ fn words_of(told: &[Told], till: &mut DriverTill<'_>, device: &str, settings: &W
 }
 
 /// Checks that the settings fit a printer or a drawer, and its line.
-fn check(till: &mut DriverTill<'_>, device: &str, settings: &WireSettings, port: &Port) -> Result<(), Error> {
-    if !port.is_sound() || settings.lines > MOST_LINES {
+fn check(till: &mut DriverTill<'_>, device: &str, settings: &WireSettings, link: &SharedLink) -> Result<(), Error> {
+    if !lock(link).is_sound() || settings.lines > MOST_LINES {
         return Err(Error::new("drive", Cause::BadSettings));
     }
     till.reply(device, settings, Asked::Nothing, &[]).map(|_| ())
@@ -366,9 +367,9 @@ fn check(till: &mut DriverTill<'_>, device: &str, settings: &WireSettings, port:
 /// printer says nothing for 2 seconds, or for the timeout if that is shorter, the lines that it hasn't acknowledged are
 /// sent again once it answers. It may print some of them twice. So are lines of an order that failed for no reason
 /// (E_FAILURE), if it acknowledges them while the till doesn't look for 2 seconds
-/// ([`Till::run_devices`](crate::Till::run_devices)), since it may have been off. A printer that has said by itself
-/// that it is offline, as while its paper feed button is held down, may be silent for longer, since it says that it
-/// goes on.
+/// ([`Till::run_devices`](crate::Till::run_devices)), since it may have been off. An order in which the program stands
+/// still for so long, as on a machine that is suspended, fails for that reason. A printer that has said by itself that
+/// it is offline, as while its paper feed button is held down, may be silent for longer, since it says that it goes on.
 ///
 /// ```no_run
 /// use kijolvar::{EscPosPrinter, EscPosSettings, Till, Totals, BUILT_PROFILE};
@@ -442,7 +443,7 @@ impl Driver for EscPosPrinter {
 
     fn start(&mut self, till: &mut DriverTill<'_>, device: &str) -> Result<(), Error> {
         self.device = device.to_string();
-        check(till, device, &self.settings, &lock(&self.link).cable.port)
+        check(till, device, &self.settings, &self.link)
     }
 
     fn connect(&mut self, till: &mut DriverTill<'_>) {
@@ -518,7 +519,7 @@ impl Driver for EscPosDrawer {
 
     fn start(&mut self, till: &mut DriverTill<'_>, device: &str) -> Result<(), Error> {
         self.device = device.to_string();
-        check(till, device, &self.settings, &lock(&self.link).cable.port)
+        check(till, device, &self.settings, &self.link)
     }
 
     fn connect(&mut self, till: &mut DriverTill<'_>) {
@@ -581,9 +582,9 @@ pub enum Protocol {
 pub struct DisplaySettings {
     /// What it understands.
     pub protocol: Protocol,
-    /// How long an order may take.
+    /// How long an order may take; more than zero. [`Duration::MAX`] is as long as it takes.
     pub timeout: Duration,
-    /// How long to wait before a lost port is tried again.
+    /// How long to wait before a lost port is tried again; with [`Duration::MAX`] it never is.
     pub pause: Duration,
 }
 
@@ -700,7 +701,7 @@ impl Driver for SerialDisplay {
     }
 
     fn start(&mut self, _: &mut DriverTill<'_>, _: &str) -> Result<(), Error> {
-        if !self.port.cable.port.is_sound() {
+        if !self.port.cable.port.is_sound() || self.timeout.is_zero() {
             return Err(Error::new("drive", Cause::BadSettings));
         }
         Ok(())
@@ -806,7 +807,7 @@ impl WedgeScanner {
         WedgeScanner { kind, ..self }
     }
 
-    /// Makes this how long to wait before a lost port is tried again.
+    /// Makes this how long to wait before a lost port is tried again; with [`Duration::MAX`] it never is.
     pub fn with_pause(mut self, pause: Duration) -> WedgeScanner {
         self.port.pause = pause;
         self

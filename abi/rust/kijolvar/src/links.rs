@@ -163,7 +163,8 @@ pub(crate) struct Link {
     /// What has come.
     got: Vec<u8>,
     pub(crate) told: Vec<Told>,
-    told_at: Option<Instant>,
+    /// When it said that it is offline, and was online before.
+    offline_at: Option<Instant>,
     signs: Signs,
     pub(crate) statuses: u64,
     pub(crate) late: u64,
@@ -226,7 +227,7 @@ impl Link {
             control: Vec::new(),
             got: Vec::new(),
             told: Vec::new(),
-            told_at: None,
+            offline_at: None,
             signs: Signs::default(),
             statuses: 0,
             late: 0,
@@ -248,6 +249,11 @@ impl Link {
             rounds: 0,
             status_left: 0,
         }
+    }
+
+    /// Whether its settings can work: the port may be one, and the timeout leaves time for an order.
+    pub(crate) fn is_sound(&self) -> bool {
+        self.cable.port.is_sound() && !self.timeout.is_zero()
     }
 
     /// Whether the port is open and the printer answers.
@@ -483,6 +489,15 @@ impl Link {
         }
     }
 
+    /// The printer is as these replies tell. While it is offline, another status doesn't make it so again.
+    fn take_signs(&mut self, signs: Signs, told: Vec<Told>) {
+        if !self.is_offline() {
+            self.offline_at = Some(Instant::now());
+        }
+        (self.signs, self.told) = (signs, told);
+        self.statuses += 1;
+    }
+
     /// A reply of a printer that says by itself how it is. Its automatic status alone tells of pin and cover at once.
     fn take_reply(&mut self, line: &str, told: Told) {
         self.answered(line);
@@ -496,10 +511,10 @@ impl Link {
                 }
             }
         } else if line.contains(" pin ") && line.contains(" cover ") {
-            self.signs.hear(line);
-            (self.told, self.told_at) = (vec![told], Some(Instant::now()));
+            let mut signs = self.signs;
+            signs.hear(line);
+            self.take_signs(signs, vec![told]);
             self.is_refreshing = false;
-            self.statuses += 1;
             self.heard.clear();
         } else {
             self.take_part(line, told);
@@ -544,9 +559,7 @@ impl Link {
         }
         self.rounds += 1;
         if self.told.is_empty() || self.hearing != self.signs {
-            (self.signs, self.told) = (self.hearing, self.heard.clone());
-            self.told_at = Some(Instant::now());
-            self.statuses += 1;
+            self.take_signs(self.hearing, self.heard.clone());
         }
     }
 
@@ -639,10 +652,7 @@ impl Link {
 
     /// Reads what has come.
     fn receive(&mut self, till: &mut DriverTill<'_>) -> Result<(), Lost> {
-        if self.may_have_been_off() {
-            self.lose_held();
-        }
-        self.looked_at = Some(Instant::now());
+        self.begin_look();
         for _ in 0..MOST_READS {
             if !(self.cable.wait(false, Duration::ZERO).reading && self.read_some(till)?) {
                 break;
@@ -703,8 +713,8 @@ impl Link {
             self.ask_on();
             self.fill(posting);
             let ready = till.wait(&self.cable, self.out_sent < self.out.len(), left.min(OFTEN));
+            self.begin_look();
             let is_any = ready.reading && self.read_some(till)?;
-            self.looked_at = Some(Instant::now());
             self.watch(false);
             if ready.writing {
                 self.write_some()?;
@@ -760,10 +770,19 @@ impl Link {
         self.is_online() && self.is_held() && was_long
     }
 
+    /// Somebody looks what has come. If nobody has for long, as while this process stood still, the printer may have
+    /// been off meanwhile.
+    fn begin_look(&mut self) {
+        if self.may_have_been_off() {
+            self.lose_held();
+        }
+        self.looked_at = Some(Instant::now());
+    }
+
     /// Whether the printer was switched off and on again since it said that it is offline: it would have said by itself
     /// that it goes on before it acknowledged anything.
     fn was_reset(&self) -> bool {
-        self.may_be_silent() && is_over(self.told_at, STOPPING)
+        self.may_be_silent() && is_over(self.offline_at, STOPPING)
     }
 
     /// The printer may have lost its power, and a line holds back the rest of what is due, which the printer may still
@@ -798,7 +817,11 @@ impl Link {
         self.asked_at = None;
         self.told.clear();
         (self.signs, self.hearing) = (Signs::default(), Signs::default());
-        (self.unanswered, self.is_late, self.questioned_at) = (0, false, None);
+        (self.is_late, self.questioned_at) = (false, None);
+        if !matches!(self.cable.port, Port::Tcp(..)) {
+            // A print server may pass the answers to an earlier connection on to this one.
+            self.unanswered = 0;
+        }
         self.status_left = 0;
         if self.is_asked {
             // Acknowledgements without a number can't be told from those of another connection.

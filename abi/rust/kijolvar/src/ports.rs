@@ -1,6 +1,6 @@
 //! The ports of devices: a file such as /dev/usb/lp0, a serial line such as /dev/ttyUSB0, a TCP port, or the key
 //! events of a keyboard. No call waits longer than it is told.
-use std::ffi::{c_int, c_short, c_ulong, c_void};
+use std::ffi::{c_int, c_short, c_ulong, c_void, OsStr, OsString};
 use std::fs::{File, OpenOptions, TryLockError};
 use std::io::{self, ErrorKind, Read, Write};
 use std::net::{Ipv6Addr, Shutdown, SocketAddr, TcpStream, ToSocketAddrs};
@@ -54,7 +54,7 @@ impl Default for SerialSettings {
     }
 }
 
-/// Where a device is. A text is a port too ([`Port::of`]).
+/// Where a device is. A text or a path is a port too ([`Port::of`]), and so is the address of a socket.
 #[derive(Debug, Clone, PartialEq, Eq)]
 #[non_exhaustive]
 pub enum Port {
@@ -139,6 +139,12 @@ impl From<String> for Port {
     }
 }
 
+impl From<&String> for Port {
+    fn from(name: &String) -> Port {
+        Port::of(name)
+    }
+}
+
 impl From<&Path> for Port {
     fn from(path: &Path) -> Port {
         path.to_str().map_or_else(|| Port::File(path.into()), Port::of)
@@ -148,6 +154,35 @@ impl From<&Path> for Port {
 impl From<PathBuf> for Port {
     fn from(path: PathBuf) -> Port {
         Port::from(path.as_path())
+    }
+}
+
+impl From<&PathBuf> for Port {
+    fn from(path: &PathBuf) -> Port {
+        Port::from(path.as_path())
+    }
+}
+
+impl From<&OsStr> for Port {
+    fn from(name: &OsStr) -> Port {
+        Port::from(Path::new(name))
+    }
+}
+
+impl From<OsString> for Port {
+    fn from(name: OsString) -> Port {
+        Port::from(name.as_os_str())
+    }
+}
+
+/// The TCP port at an address. The zone of an IPv6 address is kept.
+impl From<SocketAddr> for Port {
+    fn from(address: SocketAddr) -> Port {
+        let host = match address {
+            SocketAddr::V6(six) if six.scope_id() != 0 => format!("{}%{}", six.ip(), six.scope_id()),
+            _ => address.ip().to_string(),
+        };
+        Port::Tcp(host, address.port())
     }
 }
 
@@ -1083,6 +1118,27 @@ mod tests {
         assert_eq!(Port::from(path), Port::File(path.into()));
         assert_eq!(Port::from(PathBuf::from(path)), Port::File(path.into()));
         assert_eq!(Port::from(Path::new("tcp:printer")), Port::Tcp("printer".to_string(), 9100));
+    }
+
+    #[test]
+    fn a_port_is_made_of_what_names_it() {
+        let (name, path) = ("tcp:printer".to_string(), PathBuf::from("tcp:printer"));
+        let made: [Port; 8] = [
+            name.as_str().into(),
+            (&name).into(),
+            name.clone().into(),
+            path.as_path().into(),
+            (&path).into(),
+            path.as_os_str().into(),
+            path.clone().into(),
+            path.into_os_string().into(),
+        ];
+        assert_eq!(made, [const { 9100 }; 8].map(|number| Port::Tcp("printer".to_string(), number)));
+        for (address, host) in [("192.0.2.7:9101", "192.0.2.7"), ("[fe80::1%3]:9101", "fe80::1%3")] {
+            let port = Port::from(address.parse::<SocketAddr>().unwrap());
+            assert!(port.is_sound());
+            assert_eq!(port, Port::Tcp(host.to_string(), 9101));
+        }
     }
 
     #[test]

@@ -35,8 +35,9 @@ struct Entry {
     is_chosen: bool,
     category: Category,
     number: usize,
-    /// The device on which it was opened last, but for lines.
+    /// The device on which it was opened last, but for lines, and whether it is open there.
     device: Option<String>,
+    is_open: bool,
     /// Whether it may be handed out again.
     is_free: bool,
     /// Whether a transaction of it is to be rolled back, for which there was no memory.
@@ -252,9 +253,17 @@ impl Inner {
                 Err(cause) => return Err(cause),
             }
             let number = self.number_of(&made)?;
-            let (device, is_free, is_rollback_due, turn) = (None, false, false, 0);
-            let entry = Entry { name: made, is_chosen, category, number, device, is_free, is_rollback_due, turn };
-            self.controls.push(entry);
+            self.controls.push(Entry {
+                name: made,
+                is_chosen,
+                category,
+                number,
+                device: None,
+                is_open: false,
+                is_free: false,
+                is_rollback_due: false,
+                turn: 0,
+            });
             return Ok(self.controls.len() - 1);
         }
     }
@@ -279,7 +288,8 @@ impl Inner {
             if !self.is_closed(place) {
                 return;
             }
-            self.controls[place].is_free = true;
+            let entry = &mut self.controls[place];
+            (entry.is_free, entry.is_open) = (true, false);
             self.unclosed.pop();
         }
     }
@@ -527,7 +537,19 @@ impl Till {
 
     /// A control was opened on a device.
     pub(crate) fn opened_on(&self, place: usize, device: &str) {
-        self.inner.borrow_mut().controls[place].device = Some(device.to_string());
+        let entry = &mut self.inner.borrow_mut().controls[place];
+        (entry.device, entry.is_open) = (Some(device.to_string()), true);
+    }
+
+    /// A control was closed.
+    pub(crate) fn closed(&self, place: usize) {
+        self.inner.borrow_mut().controls[place].is_open = false;
+    }
+
+    /// The device on which a control is open.
+    pub(crate) fn open_device(&self, place: usize) -> Option<String> {
+        let entry = &self.inner.borrow().controls[place];
+        entry.device.clone().filter(|_| entry.is_open)
     }
 
     /// Whether a control wasn't given back since its turn began.
@@ -817,7 +839,7 @@ impl Till {
     /// Does what the driven devices need: tells the till what they say of themselves and what was scanned, opens lost
     /// ports again, and prints output that waits (AsyncMode), at most one request of each printer. Call it regularly,
     /// and then deliver events. It waits as long as this until there is something to do, also if no device has a
-    /// driver; printing may take longer. Returns whether anything was done.
+    /// driver, and without end with [`Duration::MAX`]; printing may take longer. Returns whether anything was done.
     ///
     /// Nobody else can use the till meanwhile. If several threads do, give it to an [`Actor`](crate::Actor), and call
     /// [`Actor::run_devices`](crate::Actor::run_devices).

@@ -432,6 +432,34 @@ fn controls_are_handed_out_again() {
     a_control_is_handed_out_only_when_it_is_closed();
 }
 
+#[test]
+fn a_control_knows_on_which_device_it_is_open() {
+    let till = till();
+    let drawer = CashDrawer::new(&till).unwrap();
+    assert_eq!(drawer.device(), None);
+    assert!(drawer.open("d9").is_err() && drawer.device().is_none());
+    drawer.open("d1").unwrap();
+    assert_eq!(drawer.device().as_deref(), Some("d1"));
+    assert!(drawer.open("d9").is_err());
+    assert_eq!(drawer.device().as_deref(), Some("d1"));
+    drawer.close().unwrap();
+    assert_eq!(drawer.device(), None);
+    drawer.open("d1").unwrap();
+    till.carry_out(format!("close {}", drawer.name())).unwrap();
+    assert!(drawer.close().is_err() && drawer.device().is_none());
+    drawer.open("d1").unwrap();
+    let key = drawer.into_key();
+    let kept = CashDrawer::of(&till, &key).unwrap();
+    assert_eq!(kept.device().as_deref(), Some("d1"));
+    key.discard(&till).unwrap();
+    assert_eq!(kept.device(), None);
+    let again = CashDrawer::new(&till).unwrap();
+    assert_eq!((again.name(), again.device()), (kept.name(), None));
+    again.open("d1").unwrap();
+    // It isn't the one that was discarded.
+    assert_eq!((again.device().as_deref(), kept.device()), (Some("d1"), None));
+}
+
 fn a_control_is_handed_out_only_when_it_is_closed() {
     let till = till();
     // Without memory, lines of a till with a driver aren't carried out.
@@ -913,6 +941,13 @@ fn what_no_device_can_have_is_refused() {
     let refused = |driven: Result<(), Error>| assert!(matches!(driven.unwrap_err().cause(), Cause::BadSettings));
     refused(till.drive("s1", WedgeScanner::open("/dev/input/none").with_kind(1000)));
     refused(till.drive("p1", SerialDisplay::open("tcp:192.168.1.9:91OO", DisplaySettings::default())));
+    // No order succeeds in no time.
+    let timeout = Duration::ZERO;
+    let printer = EscPosPrinter::open("/dev/none", EscPosSettings { timeout, ..EscPosSettings::default() });
+    refused(till.drive("d1", printer.drawer()));
+    refused(till.drive("r1", printer));
+    let settings = DisplaySettings { timeout, ..DisplaySettings::default() };
+    refused(till.drive("p1", SerialDisplay::open("/dev/none", settings)));
     till.drive("s1", WedgeScanner::open("/dev/input/none").with_kind(999)).unwrap();
     let state = till.driver_state("s1").unwrap();
     assert_eq!((state.is_online, state.port_error), (false, Some(2)));
@@ -920,7 +955,7 @@ fn what_no_device_can_have_is_refused() {
 
 #[test]
 fn a_display_that_takes_too_long_is_lost() {
-    let (till, timeout) = (till(), Duration::ZERO);
+    let (till, timeout) = (till(), Duration::from_nanos(1));
     let settings = DisplaySettings { timeout, ..DisplaySettings::default() };
     till.drive("p1", SerialDisplay::open("/dev/null", settings)).unwrap();
     let display = till.line_display("p1").unwrap().enabled().unwrap();
@@ -1291,7 +1326,8 @@ fn a_port_that_opens_late_is_found() {
     let listener = TcpListener::bind("127.0.0.1:0").unwrap();
     let (till, port) = (till(), format!("tcp:{}", listener.local_addr().unwrap()));
     // It isn't waited for at first, nor tried a second time.
-    let settings = DisplaySettings { timeout: Duration::ZERO, pause: Duration::MAX, ..Default::default() };
+    let timeout = Duration::from_nanos(1);
+    let settings = DisplaySettings { timeout, pause: Duration::MAX, ..Default::default() };
     till.drive("p1", SerialDisplay::open(port, settings)).unwrap();
     let end = Instant::now() + Duration::from_secs(10);
     while !till.driver_state("p1").unwrap().is_online && Instant::now() < end {
@@ -1385,8 +1421,8 @@ fn a_timeout_may_be_any() {
     let (till, timeout) = (till(), Duration::MAX);
     till.drive("s1", Codes::of(&["4006381"])).unwrap();
     // Nothing listens at this port.
-    let printer = EscPosPrinter::open("tcp:127.0.0.1:1", EscPosSettings { timeout, ..EscPosSettings::default() });
-    till.drive("r1", printer).unwrap();
+    let settings = EscPosSettings { timeout, pause: timeout, ..EscPosSettings::default() };
+    till.drive("r1", EscPosPrinter::open("tcp:127.0.0.1:1", settings)).unwrap();
     let settings = DisplaySettings { timeout, pause: timeout, ..DisplaySettings::default() };
     till.drive("p1", SerialDisplay::open("/dev/null", settings)).unwrap();
     let display = till.line_display("p1").unwrap().enabled().unwrap();
