@@ -1,10 +1,15 @@
 -- How gates are closed, one after another.
-use Rattle.std.proofs.Common.{◌≡◌, ◌++◌, ◌∷◌, [], ◌∙◌, ℕ, List, Ok, false, ap, subst, sym}
+use Rattle.std.proofs.Common.{◌≡◌, ◌++◌, ◌∷◌, [], ◌∙◌, ◌-◌, ◌<◌, ◌≤◌, ℕ, List, Ok, false, length, replicate, ap, arith}
+use Rattle.std.proofs.Common.{length-append, subst, sym}
+use Rattle.std.proofs.lemmas.List.{length-replicate, length-set}
 use Rattle.std.specs.Prelude.{slice_set, true}
+use Rattle.pos_image.specs.Layout.{disk_size}
 use Rattle.pos_survey.specs.Damages.{Breaks}
 use Rattle.pos_survey.specs.declared.fault.SurveyFault.{SurveyFault}
 use Rattle.pos_survey.specs.declared.fault.SurveyFault.TheVariants.{Damaged}
-use Rattle.pos_report.specs.Salvage.{IsClosed, IsSalvaged, IsUnsalvaged, Steps, cut_line, gate_of, lost_line, padded}
+use Rattle.pos_report.proofs.OpenGateLemmas.{closes_one, open_gates}
+use Rattle.pos_report.specs.Salvage.{EndsSalvage, IsClosed, IsSalvaged, IsUnsalvaged, Steps, cut_line, gate_of}
+use Rattle.pos_report.specs.Salvage.{lost_line, padded}
 
 -- no gate is closed
 pub begins : (source copy lost : List ℕ) → copy ≡ padded source → lost ≡ cut_line source → IsClosed source copy lost
@@ -13,7 +18,7 @@ begins source copy lost same line = record { found = []; broken = tt; bytes_are 
 -- one gate more
 pub goes_on : (source old said new told : List ℕ) → IsClosed source old said → Steps old said (Ok false) new told
     → IsClosed source new told
-goes_on source old said new told is (at, broken, breaks, new_is, told_is) = record {
+goes_on source old said new told is (at, broken, breaks, opened, new_is, told_is) = record {
   found = (at, broken) ∷ is.found;
   broken = (is.broken, subst (λ bytes. Breaks bytes (Damaged at broken)) is.bytes_are breaks);
   bytes_are = new_is ∙ ap (λ bytes. slice_set bytes (gate_of at broken) 0) is.bytes_are;
@@ -32,5 +37,28 @@ ends source old said new told is (survey, new_is, told_is) = record {
 
 -- nothing sound is left
 pub fails : (source old said : List ℕ) (fault : SurveyFault) → IsClosed source old said → Breaks old fault
-    → IsUnsalvaged source fault
-fails source old said fault is breaks = record { bytes = old; lost = said; closes = is; breaks = breaks }
+    → EndsSalvage fault → IsUnsalvaged source fault
+fails source old said fault is breaks ends = record {
+  bytes = old;
+  lost = said;
+  closes = is;
+  breaks = breaks;
+  ends = ends;
+}
+
+-- padded bytes are as long as totals
+pub padded_length : (source : List ℕ) → disk_size ≤ length (padded source)
+padded_length source =
+    let zeros : List ℕ = replicate (disk_size - length source) 0 in
+    let missing : length zeros ≡ disk_size - length source = length-replicate (disk_size - length source) 0 in
+    omega (arith, length-append source zeros, missing)
+
+-- bytes with one gate more closed are as long as before
+pub same_length : (old said new told : List ℕ) → Steps old said (Ok false) new told → length new ≡ length old
+same_length old said new told (at, broken, breaks, opened, new_is, told_is) =
+    ap (λ (bytes : List ℕ). length bytes) new_is ∙ length-set old (gate_of at broken) 0
+
+-- and fewer gates are open
+pub fewer_gates : (old said new told : List ℕ) → Steps old said (Ok false) new told → open_gates new < open_gates old
+fewer_gates old said new told (at, broken, breaks, opened, new_is, told_is) =
+    rw new_is (closes_one old (gate_of at broken) opened)

@@ -1,2 +1,3 @@
 mod GateLemmas
+mod OpenGateLemmas
 mod ValueLemmas

@@ -1,14 +1,14 @@
 -- What can be had of damaged totals (docs/reference/tool.md, "salvage").
 use Rattle.std.specs.Prelude.{◌≡◌, ◌++◌, ◌∷◌, ◌-◌, ℕ, List, [], length, true, false, Option, Some, None, Result, Ok}
 use Rattle.std.specs.Prelude.{Err, codes, decimal, if◌then◌else◌, Bool, nat_lt, replicate, slice_set, ⊤}
-use Rattle.pos_image.specs.Layout.{disk_size}
+use Rattle.pos_image.specs.Layout.{disk_size, is_open}
 use Rattle.pos_survey.specs.Damages.{Breaks}
 use Rattle.pos_survey.specs.Descriptions.{Describes}
 use Rattle.pos_survey.specs.Words.{words_of}
 use Rattle.pos_survey.specs.declared.fault.Rule.{Rule}
 use Rattle.pos_survey.specs.declared.fault.Rule.TheVariants as rule
 use Rattle.pos_survey.specs.declared.fault.SurveyFault.{SurveyFault}
-use Rattle.pos_survey.specs.declared.fault.SurveyFault.TheVariants.{Damaged}
+use Rattle.pos_survey.specs.declared.fault.SurveyFault.TheVariants.{Damaged, NoMemory, Unformatted}
 use Rattle.pos_survey.specs.declared.survey.Survey.{Survey}
 use Rattle.pos_report.specs.Texts.{joined}
 
@@ -58,18 +58,27 @@ AreBroken [] bytes = ⊤
 AreBroken (found ∷ earlier) bytes =
     AreBroken earlier bytes × Breaks (closed earlier bytes) (Damaged found.0 found.1)
 
--- what is found in bytes: nothing that is damaged, in sound totals; or this rule is broken there
+-- what may end a salvage without sound bytes: memory ran out, or the gates of all slots are closed. Damage never does,
+-- since its gate can be closed; nor do too few bytes, which are padded.
+abbrev pub EndsSalvage : SurveyFault → Type 0
+EndsSalvage NoMemory = ⊤
+EndsSalvage Unformatted = ⊤
+EndsSalvage other = ⊥
+
+-- what is found in bytes: nothing that is damaged, in sound totals; or this rule is broken there, and its gate is open
 abbrev pub Finds : List ℕ → Result (Option (ℕ × Rule)) SurveyFault → Type 0
 Finds bytes (Ok None) = (survey : Survey) × Describes bytes survey
-Finds bytes (Ok (Some found)) = Breaks bytes (Damaged found.0 found.1)
-Finds bytes (Err fault) = Breaks bytes fault
+Finds bytes (Ok (Some found)) =
+    Breaks bytes (Damaged found.0 found.1) × (is_open bytes (gate_of found.0 found.1) ≡ true)
+Finds bytes (Err fault) = Breaks bytes fault × EndsSalvage fault
 
--- what one step comes to: nothing is damaged; or something is, its gate is closed, and a line says so
+-- what one step comes to: nothing is damaged; or something is, its open gate is closed, and a line says so
 abbrev pub Steps : List ℕ → List ℕ → Result Bool SurveyFault → List ℕ → List ℕ → Type 0
 Steps old said (Ok true) new told = ((survey : Survey) × Describes new survey) × (new ≡ old) × (told ≡ said)
 Steps old said (Ok false) new told = (at : ℕ) × (broken : Rule) × Breaks old (Damaged at broken)
-    × (new ≡ slice_set old (gate_of at broken) 0) × (told ≡ said ++ lost_line at broken)
-Steps old said (Err fault) new told = Breaks old fault × (new ≡ old)
+    × (is_open old (gate_of at broken) ≡ true) × (new ≡ slice_set old (gate_of at broken) 0)
+    × (told ≡ said ++ lost_line at broken)
+Steps old said (Err fault) new told = Breaks old fault × EndsSalvage fault × (new ≡ old)
 
 -- The bytes are those of the source, in which gates were closed of what was damaged and nothing else was changed; and
 -- the text says where the source was cut off, and has a line for each gate.
@@ -85,9 +94,11 @@ pub record IsSalvaged (source bytes lost : List ℕ) : Type 0 where
   pub survey : Survey
   pub tells : Describes bytes survey
 
--- Why no sound bytes are made: such bytes break a rule.
+-- Why no sound bytes are made: memory ran out, or the gates of all slots of such bytes are closed. Damage is never why:
+-- it has an open gate, which is closed next.
 pub record IsUnsalvaged (source : List ℕ) (fault : SurveyFault) : Type 0 where
   pub bytes : List ℕ
   pub lost : List ℕ
   pub closes : IsClosed source bytes lost
   pub breaks : Breaks bytes fault
+  pub ends : EndsSalvage fault

@@ -1,5 +1,6 @@
 //! What can be had of damaged totals.
-ghost use Rattle.std.specs.Prelude.{◌≡◌, ◌++◌, IfErr, IfOk, OnOk};
+ghost use Rattle.std.specs.Prelude.{◌≡◌, ◌≤◌, ◌++◌, length, IfErr, IfOk, OnOk};
+ghost use Rattle.pos_image.specs.Layout.{disk_size};
 ghost use Rattle.pos_report.specs.Salvage.{Finds, IsSalvaged, IsUnsalvaged, Steps, cut_line, gate_of, lost_line, padded};
 ghost use Rattle.pos_report.specs.Salvage.{slot_start};
 
@@ -10,9 +11,6 @@ use std::alloc::{AllocError, Global};
 
 // How many bytes totals have.
 const LENGTH: usize = 327_680;
-
-// How often a gate is closed, at most: each slot's, and one of each log.
-const MOST: u32 = 16;
 
 /// Totals that were made of damaged ones: their bytes, and what was lost, as lines of text.
 #[derive(Drop)]
@@ -71,6 +69,7 @@ fn put_lost(text: &mut Vec<u8>, at: u64, rule: Rule) -> Result<(), AllocError>
 
 // Where totals are damaged, and by which rule, if they are.
 fn find_damage(alloc: Global, bytes: &[u8]) -> Result<Option<(u64, Rule)>, SurveyFault>
+    requires { disk_size ≤ length bytes.now }
     ensures { Finds bytes.now result }
 {
     match Survey::of(alloc, bytes) {
@@ -82,6 +81,7 @@ fn find_damage(alloc: Global, bytes: &[u8]) -> Result<Option<(u64, Rule)>, Surve
 
 // Closes the gate of what is damaged in totals, if something is, and says so. Returns whether nothing was.
 fn step(alloc: Global, copy: &mut Vec<u8>, lost: &mut Vec<u8>) -> Result<bool, SurveyFault>
+    requires { disk_size ≤ length copy.old.items }
     ensures { Steps copy.old.items lost.old.items result copy.new.items lost.new.items }
 {
     let (at, rule) = match find_damage(alloc, copy.as_slice()) {
@@ -90,9 +90,6 @@ fn step(alloc: Global, copy: &mut Vec<u8>, lost: &mut Vec<u8>) -> Result<bool, S
         Err(fault) => return Err(fault),
     };
     let gate = gate_of(at, rule) as usize;
-    if gate >= copy.len() {
-        return Err(SurveyFault::Damaged(at, rule));
-    }
     put_lost(lost, at, rule)?;
     copy[gate] = 0;
     Ok(false)
@@ -133,7 +130,7 @@ fn cut_line(alloc: Global, bytes: &[u8]) -> Result<Vec<u8>, AllocError>
 ///
 /// # Errors
 ///
-/// `Unformatted` if no image is left, and `NoMemory`.
+/// `Unformatted` if no image is left, and `NoMemory`. Never `Damaged`: each damage has an open gate, which is closed.
 pub fn salvage_totals(alloc: Global, bytes: &[u8]) -> Result<Salvaged, SurveyFault>
     ensures ok { IfOk result (λ made. IsSalvaged bytes.now made.bytes.items made.lost.items) }
     ensures refused { IfErr result (IsUnsalvaged bytes.now) }
@@ -144,16 +141,7 @@ pub fn salvage_totals(alloc: Global, bytes: &[u8]) -> Result<Salvaged, SurveyFau
     let Ok(mut lost) = cut_line(alloc, bytes) else {
         return Err(SurveyFault::NoMemory);
     };
-    for _turn in 0..MOST {
-        match step(alloc, &mut copy, &mut lost) {
-            Ok(true) => return Ok(Salvaged { bytes: copy, lost }),
-            Ok(false) => {}
-            Err(fault) => return Err(fault),
-        }
-    }
-    match find_damage(alloc, copy.as_slice()) {
-        Ok(None) => Ok(Salvaged { bytes: copy, lost }),
-        Ok(Some((at, rule))) => Err(SurveyFault::Damaged(at, rule)),
-        Err(fault) => Err(fault),
-    }
+    // This ends: each turn leaves fewer open gates.
+    while !step(alloc, &mut copy, &mut lost)? {}
+    Ok(Salvaged { bytes: copy, lost })
 }

@@ -1,30 +1,32 @@
-use Rattle.std.proofs.Common.{Ok, refl, subst}
-use Rattle.pos_survey.specs.Damages.{Breaks}
-use Rattle.pos_survey.specs.declared.fault.SurveyFault.TheVariants.{Damaged, NoMemory}
-use Rattle.pos_report.specs.Salvage.{Finds, Steps}
-use Rattle.pos_report.proofs.GateLemmas.{begins, fails, goes_on}
+use Rattle.std.proofs.Common.{Ok, arith, false, refl, subst}
+use Rattle.pos_survey.specs.declared.fault.SurveyFault.TheVariants.{NoMemory}
+use Rattle.pos_report.specs.Salvage.{Steps}
+use Rattle.pos_report.proofs.GateLemmas.{begins, fails, fewer_gates, goes_on, same_length}
+use Rattle.pos_report.proofs.salvage.salvage_totals.Goals.{Then-not-branch}
 use Rattle.pos_report.proofs.salvage.salvage_totals.Goals as goal
 
-pub loop-turn-preserved : goal.loop-turn-preserved
-loop-turn-preserved c =
-    let steps = subst (λ b. Steps c.loop-turn.copy.items c.loop-turn.lost.items
-    (Ok b) c.step.new.copy.items c.step.new.lost.items) c.in-Ok-false.field-0-test c.in-Ok-false.ensures in
-    goes_on c.args.bytes.now _ _ _ _ c.loop-turn.invariant steps
+-- the step that closed a gate
+took : (c : Then-not-branch)
+    → Steps c.loop-lost.copy.items c.loop-lost.lost.items (Ok false) c.step.new.copy.items c.step.new.lost.items
+took c = subst (λ b. Steps c.loop-lost.copy.items c.loop-lost.lost.items (Ok b) c.step.new.copy.items
+    c.step.new.lost.items) c.if-not-branch.true c.in_ok-step.ensures
+
+pub loop-lost-preserved : goal.loop-lost-preserved
+loop-lost-preserved c =
+    let steps = took (goal.at.loop-lost-preserved c).Then-not-branch in
+    let was = c.loop-lost.invariant in
+    let long = same_length _ _ _ _ steps in
+    record {
+      closed = goes_on c.args.bytes.now _ _ _ _ was.closed steps;
+      whole = omega (arith, was.whole, long);
+    }
+
+pub loop-lost-smaller : goal.loop-lost-smaller
+loop-lost-smaller c = fewer_gates _ _ _ _ (took (goal.at.loop-lost-smaller c).Then-not-branch)
 
 pub returns-in_default-clause-refused : goal.returns-in_default-clause-refused
 returns-in_default-clause-refused c =
-    fails _ _ _ NoMemory (begins c.args.bytes.now _ _ refl refl) tt
+    fails _ _ _ NoMemory (begins c.args.bytes.now _ _ refl refl) tt tt
 
 pub returns-in_default-cut_line-clause-refused : goal.returns-in_default-cut_line-clause-refused
-returns-in_default-cut_line-clause-refused c = fails _ _ _ NoMemory (begins c.args.bytes.now _ _ refl refl) tt
-
-pub returns-in-Ok-Some-clause-refused : goal.returns-in-Ok-Some-clause-refused
-returns-in-Ok-Some-clause-refused c =
-    let finds = subst (λ o. Finds c.as_slice.result.now (Ok o)) c.in-Ok-Some.field-0-is c.in-Ok-Some.ensures in
-    fails c.args.bytes.now _ c.loop-turn.lost.items (Damaged c.in-Ok-Some.at c.in-Ok-Some.rule) c.loop-turn.invariant
-    (subst (λ bytes. Breaks bytes (Damaged c.in-Ok-Some.at c.in-Ok-Some.rule)) c.as_slice.ensures.value finds)
-
-pub returns-in-Err-find_damage-clause-refused : goal.returns-in-Err-find_damage-clause-refused
-returns-in-Err-find_damage-clause-refused c =
-    fails c.args.bytes.now _ c.loop-turn.lost.items c.in-Err-find_damage.fault c.loop-turn.invariant
-    (subst (λ bytes. Breaks bytes c.in-Err-find_damage.fault) c.as_slice.ensures.value c.in-Err-find_damage.ensures)
+returns-in_default-cut_line-clause-refused c = fails _ _ _ NoMemory (begins c.args.bytes.now _ _ refl refl) tt tt
