@@ -149,7 +149,7 @@ ends 'check counts' 0 '' 'sound: layout 1, sequence 1, records 3, files 2' check
 ends 'check of no file' 4 "kijolvar: none.totals: $unread: $none"$'\n'"$hint_path" '' check none.totals
 ends 'a path with a line feed' 4 "kijolvar: a\\nb: $unread: $none"$'\n'"$hint_path" '' check "$(printf 'a\nb')"
 head -c 327680 /dev/zero > zero.totals
-unformatted='no totals: not formatted'$'\n''to do: if it had any, copy it and restore an older copy; `kijolvar create FILE` overwrites it'
+unformatted='no totals: not formatted'$'\n''to do: if it had any, copy it first; `kijolvar create FILE` makes new ones in it'
 ends 'check of bytes without totals' 1 '' "$unformatted" check zero.totals
 ends 'the same, quiet' 1 '' '' check --quiet zero.totals
 head -c 100000 till.totals > short.totals
@@ -268,7 +268,7 @@ cp moved.totals kept
 ends 'a second move' 4 'kijolvar: moved.totals: has layout 2 already: there is nothing to do'$'\n''hint: nothing is left to do' '' migrate moved.totals
 same 'a second move keeps the bytes' moved.totals kept
 ends 'migrate of bytes without totals' 1 \
-  "kijolvar: zero.totals: isn't formatted: format it first, which makes totals without files"$'\n''hint: if it had totals, copy it and restore an older copy; `kijolvar create FILE` overwrites it' \
+  "kijolvar: zero.totals: isn't formatted: format it first, which makes totals without files"$'\n''hint: if it had totals, copy it first; `kijolvar create FILE` makes new ones in it' \
   '' migrate zero.totals
 ends 'migrate of no file' 4 "kijolvar: none.totals: $unopened: $none"$'\n'"$hint_path" '' migrate none.totals
 { for at in $(seq 250); do printf 'call a create %s 3 false\n' "$(printf 'f%03d' "$at" | od -An -tx1 | tr -d ' \n')"; done; } |

@@ -255,7 +255,7 @@ fn hint_of_file(cause: &FileFault) -> &'static str {
             "check the path, and who may read and write it"
         }
         FileFault::Unformatted => {
-            "if it had totals, copy it and restore an older copy; `kijolvar create FILE` overwrites it"
+            "if it had totals, copy it first; `kijolvar create FILE` makes new ones in it"
         }
         FileFault::Short => "if it was cut off, restore a copy of it, or salvage what is left",
         FileFault::Damaged | FileFault::Broken { .. } => {
