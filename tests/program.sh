@@ -174,7 +174,7 @@ told 'format keeps its bytes' a50700 "$(first_bytes marked.disk 3)"
 opened="can't be opened for reading and writing"
 ends 'format in no folder' 4 "pos_console: none/till.disk: $opened: No such file or directory (os error 2)" \
   format --disk none/till.disk
-ends 'format of a folder' 4 "pos_console: .: $opened: Is a directory (os error 21)" format --disk .
+ends 'format of a folder' 4 "pos_console: .: $opened: is no file, but a folder, a pipe or a device" format --disk .
 ends 'a path with a line feed' 4 \
   'pos_console: none/a\nb: '"$opened: No such file or directory (os error 2)" format --disk "$(printf 'none/a\nb')"
 ends 'a path with controls' 4 \
@@ -444,10 +444,10 @@ tells 'no files of layout 2' new.disk 2 65536 0 49146 0
 head -c 400000 /dev/zero > zero.disk
 untold 'files of no file' none.disk "can't be read: No such file or directory (os error 2)"
 told 'no file is made to be told of' '' "$(ls none.disk 2> /dev/null)"
-untold 'files of a folder' . "can't be read whole: check the device that it is on"
+untold 'files of a folder' . "can't be read: is no file, but a folder, a pipe or a device"
 untold 'files of a short file' abc.disk 'is shorter than a totals file, which has 327680 bytes'
 untold 'files of no totals' zero.disk "isn't formatted: format it first, which makes totals without files"
-untold 'files of what has no sync' /dev/urandom "can't be synced: check the device that it is on"
+untold 'files of what has no sync' /proc/version "can't be synced: check the device that it is on"
 damage='its totals are damaged at byte'
 untold 'files of a body that is longer than its files' damaged.disk "$damage 15: bytes of the current body are left over"
 # broken NAME PLACE BYTES MESSAGE: whether it tells so of a disk with a file in a record, and with these bytes there

@@ -210,9 +210,7 @@ ends 'files of bytes without totals' 1 "kijolvar: zero.totals: isn't formatted"$
 ends 'files of a short file' 1 \
   "kijolvar: short.totals: is shorter than a totals file, which has 327680 bytes"$'\n''hint: is it the right file? If it was cut off, restore a copy of it, or salvage what is left' \
   '' files short.totals
-ends 'files of a folder' 4 \
-  'kijolvar: .: can'"'"'t be read whole: check the device that it is on'$'\n''hint: check the device that it is on, and the space that is free there' \
-  '' files .
+ends 'files of a folder' 4 "kijolvar: .: $unread: is no file, but a folder, a pipe or a device"$'\n'"$hint_path" '' files .
 touch locked.totals
 chmod 000 locked.totals
 under=("${held[@]}")
@@ -454,12 +452,12 @@ same 'restore, replacing a link, keeps the file' other.totals kept
 told 'restore, replacing a link, leaves nothing' '' "$(ls link.totals.* other.totals.* 2> /dev/null)"
 
 # --- a file that can't be read: one that can be gives way to a copy all the same
-strace -o trace -P other.totals -e inject=pread64:error=EIO "$tool" check other.totals > out 2> err
+strace -o trace -P "$work/other.totals" -e inject=pread64:error=EIO "$tool" check other.totals > out 2> err
 told 'check of a file that is not read: status' 4 $?
 told 'check of a file that is not read: message' \
   "kijolvar: other.totals: can't be read whole: check the device that it is on"$'\n''hint: copy it by dd if=FILE of=COPY bs=512 conv=noerror,sync, and salvage COPY, or restore an older copy' \
   "$(cat err)"
-strace -o trace -P other.totals -e inject=pread64:error=EIO "$tool" restore copy.totals other.totals --replace > out 2> err
+strace -o trace -P "$work/other.totals" -e inject=pread64:error=EIO "$tool" restore copy.totals other.totals --replace > out 2> err
 told 'restore, replacing a file that is not read' '0 ' "$? $(cat err)"
 same 'restore, replacing a file that is not read, copies the bytes' copy.totals other.totals
 same 'restore, replacing a file that is not read, keeps it' other.totals.old kept
