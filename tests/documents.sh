@@ -665,7 +665,6 @@ def spelt(number):
 
 
 COUNTS = [
-    ("docs/contributing/decisions.md", r"The (\S+) properties, whose names", lambda: len(variants("pos_service", "Property"))),
     ("docs/contributing/decisions.md", r"(\S+) functions have `requires \{ Unit \{0\} \}`",
      lambda: sum(read(path).count("requires { Unit {0} }") for path in FILES if path.endswith(".rt"))),
     ("docs/contributing/testing.md", r"\| in the gate \| `crates/CRATE/must-fail/` \| (\S+) \|", lambda: edits_in("crates/*/must-fail/*.edit")),

@@ -149,7 +149,7 @@ ends 'check counts' 0 '' 'sound: layout 1, sequence 1, records 3, files 2' check
 ends 'check of no file' 4 "kijolvar: none.totals: $unread: $none"$'\n'"$hint_path" '' check none.totals
 ends 'a path with a line feed' 4 "kijolvar: a\\nb: $unread: $none"$'\n'"$hint_path" '' check "$(printf 'a\nb')"
 head -c 327680 /dev/zero > zero.totals
-unformatted='no totals: not formatted'$'\n''to do: if it had any, copy it first; `kijolvar create FILE` makes new ones in it'
+unformatted='no totals: not formatted'$'\n''to do: copy it first if it had any; `kijolvar create FILE` makes new ones'
 ends 'check of bytes without totals' 1 '' "$unformatted" check zero.totals
 ends 'the same, quiet' 1 '' '' check --quiet zero.totals
 head -c 100000 till.totals > short.totals

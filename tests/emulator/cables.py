@@ -52,7 +52,7 @@ class PtyCable:
     def settle(self, seconds=3.0):
         """Waits until the host has read what was sent, as it would over a wire, but not longer than this."""
         end, quiet = time.monotonic() + seconds, 0
-        while self._slave is not None and time.monotonic() < end and quiet < 25:
+        while self._slave is not None and time.monotonic() < end and quiet < 60:
             # What was written takes a moment until it counts as there to be read, and longer on a busy machine.
             time.sleep(0.001)
             quiet = 0 if count_unread(self._slave) else quiet + 1

@@ -37,7 +37,7 @@ broken_text (fault.Damaged at broken) = damage_text at broken
 broken_text fault.TooSmall =
     codes "no totals: shorter than a totals file, which has 327680 bytes\nto do: see that it is the right file\n"
 broken_text other =
-    codes "no totals: not formatted\nto do: if it had any, copy it first; `kijolvar create FILE` makes new ones in it\n"
+    codes "no totals: not formatted\nto do: copy it first if it had any; `kijolvar create FILE` makes new ones\n"
 
 -- a word is the name of a code, or its number
 abbrev pub is_meant : List ℕ → Code → Bool

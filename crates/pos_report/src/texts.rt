@@ -90,7 +90,7 @@ pub(crate) fn broken_text(alloc: Global, fault: SurveyFault) -> Result<Vec<u8>, 
             "no totals: shorter than a totals file, which has 327680 bytes\nto do: see that it is the right file\n"
         }
         _ =>
-            "no totals: not formatted\nto do: if it had any, copy it first; `kijolvar create FILE` makes new ones in it\n",
+            "no totals: not formatted\nto do: copy it first if it had any; `kijolvar create FILE` makes new ones\n",
     };
     Vec::from_slice(alloc, words.as_bytes())
 }

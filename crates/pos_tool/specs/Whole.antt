@@ -41,7 +41,8 @@ WritesOpened calls (Err cause) bytes result = result ≡ Err (fault.Part cause)
 abbrev pub WritesPart : {S F : Type 0} → SystemGhosts S F → (F → List Call) → S → List ℕ → Bool → List ℕ
     → Result (Unit {0}) WholeFault → Type 0
 WritesPart {F = F} system calls them part is_private bytes result =
-    (opened : Result F Error) × system.opens them to_make is_private part opened × WritesOpened calls opened bytes result
+    (opened : Result F Error) × system.opens them to_make is_private part opened
+    × WritesOpened calls opened bytes result
 
 -- what making the name of a file stay comes to
 abbrev pub Settles : {S F : Type 0} → SystemGhosts S F → S → List ℕ → Result (Unit {0}) WholeFault → Type 0
@@ -128,13 +129,13 @@ SetsAside system folder them part path old result =
     × Follows fault.Rights (RenamesPart system folder them part path result) copied result) linked result
 
 -- What putting a file with these bytes in place of the one at a path comes to: its name may be taken, they are written
--- to a private file beside it, the old file gets a second name and the new one its owner and mode, and the new one takes
--- its place.
+-- to a private file beside it, the old file gets a second name and the new one its owner and mode, and the new one
+-- takes its place.
 abbrev pub PutsInstead : {S F : Type 0} → SystemGhosts S F → FolderGhosts S → (F → List Call) → S → List ℕ → List ℕ
     → List ℕ → List ℕ → Result (Unit {0}) WholeFault → Type 0
 PutsInstead system folder calls them part path old bytes result = Continues (ChecksFile folder them path)
-    (Continues (WritesPart system calls them part true bytes) (SetsAside system folder them part path old result) result)
-    result
+    (Continues (WritesPart system calls them part true bytes) (SetsAside system folder them part path old result)
+    result) result
 
 -- likewise, with the names that the files beside it get; or there is no memory for them
 abbrev pub Replaces : {S F : Type 0} → SystemGhosts S F → FolderGhosts S → (F → List Call) → S → List ℕ → List ℕ

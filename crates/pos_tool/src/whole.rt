@@ -196,7 +196,8 @@ fn check_report<S: FileSystem>(system: &S, path: &str) -> Result<(), WholeFault>
 }
 
 /// Makes a report with these bytes at a path, in place of one that may be there. They are written to a file beside it
-/// and synced, and only then does it get its name: whatever happens, the whole report is there or what was there before.
+/// and synced, and only then does it get its name: whatever happens, the whole report is there or what was there
+/// before.
 ///
 /// # Errors
 ///
