@@ -444,6 +444,8 @@ def try_ports_that_stay():
                 told(f"{name}: it is back", True, shop.settle())
                 again = [raised(shop.control.print, TEXT)]
                 while "asked" in kind and again[-1] is not None and len(again) < 4:
+                    # A question that was lost just before it was back isn't asked again at once: it may count as off.
+                    shop.settle()
                     again.append(raised(shop.control.print, TEXT))
                 told(f"{name}: again", None, again[-1])
                 told(f"{name}: another order", None, raised(shop.control.print, b"Other\n"))
