@@ -263,7 +263,8 @@ fn hint_of_file(cause: &FileFault) -> &'static str {
         }
         FileFault::Formatted => "`kijolvar files FILE` prints what it holds",
         FileFault::Moved => "nothing is left to do",
-        FileFault::NotSynced => "check the device; if it can't be written, copy the file from it first",
+        FileFault::NotSynced =>
+            "check the device; if it can't be written, copy the file from it first",
         FileFault::NotRead => {
             "copy it by dd if=FILE of=COPY bs=512 conv=noerror,sync, and salvage COPY, or restore an older copy"
         }

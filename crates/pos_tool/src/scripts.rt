@@ -197,7 +197,11 @@ fn make_report<'a, S: FileSystem + Folder + AllocGlobal>(
     let Ok(text) = junit(system.alloc(), trials) else {
         return Err(Fault::NoMemory);
     };
-    at_report(path, finding, put_report(system.alloc(), system, path, &text))
+    at_report(
+        path,
+        finding,
+        put_report(system.alloc(), system, path, &text),
+    )
 }
 
 // Prints what trying scripts found, and then makes a report of it, if a path for one is given.
