@@ -180,6 +180,10 @@ IsOpenFault it = (it ≡ fault.TooSmall) ⊎ IsFindFault it
 abbrev pub RefusesMarked : DiskState → DiskState → ImageFault → Type 0
 RefusesMarked old new it = it ≡ fault.AlreadyFormatted → (is_marked old.reading ≡ true) × Watches old new
 
+-- a disk that is marked as formatted is only looked at, also if it failed
+abbrev pub KeepsMarked : DiskState → DiskState → Type 0
+KeepsMarked old new = is_marked old.reading ≡ true → Watches old new
+
 -- a disk fault is answered only where the disk failed
 abbrev pub FailsWithCause : DiskState → DiskState → ImageFault → Type 0
 FailsWithCause old new it = it ≡ fault.Device → HasFailed old new

@@ -41,7 +41,7 @@ impl<D: Disk> Model for Images<D> {
 
 impl<D: Disk> Images<D> {
     ghost use Rattle.pos_image.specs.Images.{IsReady, Prepares, IsPrepareFault, IsFormatFault, IsOpenFault, FindsNone, FindsDamage};
-    ghost use Rattle.pos_image.specs.Images.{RefusesMarked, FailsWithCause, FailsFor, CountsFaults, KeepsButGate};
+    ghost use Rattle.pos_image.specs.Images.{RefusesMarked, KeepsMarked, FailsWithCause, FailsFor, CountsFaults, KeepsButGate};
     ghost use Rattle.pos_image.specs.Images.{disk_after, handed_back, without_disk, next_of, published, HasEither};
     ghost use Rattle.pos_image.specs.Images.{next_image, migrated_image};
     ghost use Rattle.pos_image.specs.Spans.{IsWritable, span_of};
@@ -67,6 +67,7 @@ impl<D: Disk> Images<D> {
         ensures too_small { IfErr result (λ e. e.0 ≡ TooSmall ↔ (D.size disk < disk_size)) }
         ensures unmarked { D.honest disk → IfOk result (λ formatted. is_marked (D.state disk).reading ≡ false) }
         ensures marked { D.honest disk → IfErr result (λ e. RefusesMarked (D.state disk) (D.state e.1) e.0) }
+        ensures kept { D.honest disk → KeepsMarked (D.state disk) (D.state (handed_back result)) }
         ensures device { D.honest disk → IfErr result (λ e. FailsWithCause (D.state disk) (D.state e.1) e.0) }
         ensures counts { D.honest disk →
             CountsFaults (D.state disk) (D.state (handed_back result)) (without_disk result) }
