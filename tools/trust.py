@@ -17,7 +17,7 @@ PAGE = "docs/proofs/trust.md"
 DOCUMENTS = {"README": ["README.md"], "PROOFS": ["docs/proofs/what-is-proved.md", "docs/proofs/theorems.md"]}
 BY_EYE = ["crates/pos_streams/src/adapters.rt", "crates/pos_file/src/system_file.rt",
           "crates/pos_program/src/file_system.rt", "crates/pos_program/src/held_streams.rt",
-          "crates/pos_console/src/main.rt", "crates/pos_tool/src/folder.rt",
+          "crates/pos_program/src/words.rt", "crates/pos_console/src/main.rt", "crates/pos_tool/src/folder.rt",
           "crates/pos_tool/src/main.rt", "crates/kijolvar/src/order_queue.rt",
           "abi/heap.c", "abi/kijolvar.h"]
 TABLE = "| File | Lines | Definitions and types, with their lines |\n|---|---|---|\n"

@@ -1,6 +1,6 @@
 -- What the calls of a file have made, once the mirror over it is at rest.
-use Rattle.std.proofs.Common.{Bool, List, [], ap, append_assoc, arith, drop, false, get_or, length, refl, replicate}
-use Rattle.std.proofs.Common.{subst, sym, take, true, ℕ, ◌++◌, ◌+◌, ◌∙◌, ◌∷◌, ◌≡◌}
+use Rattle.std.proofs.Common.{Bool, IsErrOf, List, [], ap, append_assoc, arith, drop, false, get_or, length, refl}
+use Rattle.std.proofs.Common.{replicate, subst, sym, take, true, ℕ, ◌++◌, ◌+◌, ◌∙◌, ◌∷◌, ◌≡◌, ◌⊎◌}
 use Rattle.std.proofs.Math.Seq.{get_or-append_seam}
 use Rattle.std.proofs.lemmas.Grind.{common_steps}
 use Rattle.std.proofs.lemmas.List.{take-append-drop}
@@ -9,7 +9,7 @@ use Rattle.pos_disk.proofs.MomentLemmas.{rest_leaves}
 use Rattle.pos_disk.specs.Fuse.{may_under}
 use Rattle.pos_disk.specs.Kept.{from_moment, to_moment}
 use Rattle.pos_disk.specs.Memory.{LeftAt, Memory, Moment, state_of, written}
-use Rattle.pos_disk.specs.State.{IsAtRest, MayLeave, splice}
+use Rattle.pos_disk.specs.State.{HasNotFailed, IsAtRest, MayLeave, splice}
 use Rattle.pos_file.specs.declared.file_disk.FileDisk.{FileDisk}
 use Rattle.pos_mirror.specs.Continuations.{Continues, and_write, no_more}
 use Rattle.pos_mirror.specs.Mirror.{Mirror, mirror_state}
@@ -18,12 +18,14 @@ use Rattle.pos_image.specs.NewDisk.{KeepsRest}
 use Rattle.pos_program.proofs.MirroredLemmas.{cut_left}
 use Rattle.pos_program.specs.Formats.{IsFormatted, IsUnformatted, LeavesFormatted}
 use Rattle.pos_program.specs.Migrations.{LeavesMoved}
+use Rattle.pos_store.specs.Migrations.{KeepsFirstLayout}
 use Rattle.pos_store.specs.MovedDisks.{AnswersMove, AreMoved, MovesAny}
 use Rattle.pos_program.specs.MirroredFiles.{CutMayLeave, IsMirrored}
 use Rattle.pos_program.specs.TotalsDisks.{IsNewMirror}
 use Rattle.pos_program.specs.declared.file_fault.FileFault.{FileFault}
 use Rattle.pos_store.specs.Standing.{Standing}
 use Rattle.pos_store.specs.declared.fault.StoreFault.{StoreFault}
+use Rattle.pos_store.specs.declared.fault.StoreFault.TheVariants.{Device}
 
 -- nothing put over a list leaves it
 nothing_put : {A : Type 0} (old : List A) (at : ℕ) → splice old at [] ≡ old
@@ -106,7 +108,7 @@ module _ {F : Type 0} {calls : F → List Call} (totals after : Mirror (FileDisk
       answer = formatted;
       rest = rest;
       made = formatted_asked formatted;
-      cut = λ is bytes cut refused. absurd (cc);
+      cut = λ is bytes cut marked. let unmarked = formatted.unmarked in absurd (cc);
     }
 
     -- they weren't
@@ -117,9 +119,8 @@ module _ {F : Type 0} {calls : F → List Call} (totals after : Mirror (FileDisk
       answer = unformatted;
       rest = rest;
       made = λ is. tt;
-      cut = λ is bytes cut refused.
-          let watches = (unformatted.formatted (cc)).1 in
-          rest_leaves (mirror_state totals) bytes rests (watches.any_moment.each bytes (cut_since is bytes cut));
+      cut = λ is bytes cut marked. rest_leaves (mirror_state totals) bytes rests
+          ((unformatted.kept marked).any_moment.each bytes (cut_since is bytes cut));
     }
 
   moved_asked : (candidates : List Standing) (outcome : Result (Unit {0}) StoreFault)
@@ -136,10 +137,15 @@ module _ {F : Type 0} {calls : F → List Call} (totals after : Mirror (FileDisk
 
   -- totals were moved, or not
   pub leaves_moved : (outcome : Result (Unit {0}) StoreFault)
-      → MovesAny (mirror_state totals) (mirror_state after) outcome → LeavesMoved calls totals after outcome
-  leaves_moved outcome moves = record {
+      → MovesAny (mirror_state totals) (mirror_state after) outcome
+      → KeepsFirstLayout totals.memory.present.reading after.memory.present.reading
+      → IsErrOf outcome Device ⊎ HasNotFailed (mirror_state totals) (mirror_state after)
+      → LeavesMoved calls totals after outcome
+  leaves_moved outcome moves rest counts = record {
     file = mirrored;
     moves = moves;
+    rest = rest;
+    counts = counts;
     made = λ candidates leaves is. moved_asked candidates outcome (moves candidates leaves).answer is;
     cut = λ candidates leaves is bytes cut. (moves candidates leaves).any_moment.each bytes (cut_since is bytes cut);
   }

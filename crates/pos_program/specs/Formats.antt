@@ -4,7 +4,7 @@ use Rattle.pos_disk.specs.Memory.{state_of}
 use Rattle.pos_disk.specs.State.{DiskState, IsAtRest, Watches}
 use Rattle.pos_file.specs.Calls.{Call}
 use Rattle.pos_file.specs.declared.file_disk.FileDisk.{FileDisk}
-use Rattle.pos_image.specs.Images.{HasFailed}
+use Rattle.pos_image.specs.Images.{HasFailed, KeepsMarked}
 use Rattle.pos_image.specs.NewDisk.{HasClosedGates, KeepsRest, no_files}
 use Rattle.pos_image.specs.Standing.{HasNewImage, is_marked}
 use Rattle.pos_image.specs.declared.layout.Layout.TheVariants.{Layout1}
@@ -27,6 +27,8 @@ pub record IsUnformatted (old new : DiskState) (why : FileFault) : Type 0 where
   pub why_told : (why ≡ Formatted) ⊎ (why ≡ Device)
   pub formatted : why ≡ Formatted → (is_marked old.reading ≡ true) × Watches old new
   pub device : why ≡ Device → HasFailed old new
+  -- whatever is told, a disk with totals was only looked at
+  pub kept : KeepsMarked old new
 
 -- the disk that was formatted, or that a refusal hands back
 abbrev pub disk_of : {D : Type 0} → Result D (FileFault × D) → D
@@ -47,9 +49,10 @@ pub record LeavesFormatted {F : Type 0} (calls : F → List Call) (totals after 
   pub rest : KeepsRest totals.memory.present.reading after.memory.present.reading
   -- formatted is the disk that the calls of the file make
   pub made : (is : IsMirrored calls after) → OnOk result (IsFormatted (mirror_state totals) (state_of is.asked))
-  -- if totals are there, a power cut at any moment since the file was read leaves the bytes that were read
-  pub cut : (is : IsMirrored calls after) (bytes : List ℕ) → CutMayLeave is bytes → result ≡ Err Formatted
-      → bytes ≡ totals.memory.present.reading
+  -- if totals are there, whatever is told, a power cut at any moment since the file was read leaves the bytes that were
+  -- read
+  pub cut : (is : IsMirrored calls after) (bytes : List ℕ) → CutMayLeave is bytes
+      → is_marked totals.memory.present.reading ≡ true → bytes ≡ totals.memory.present.reading
 
 -- formatting totals in a file comes to this
 abbrev pub FormatsTotals : {F : Type 0} → (F → List Call) → Mirror (FileDisk F) → Result (Unit {0}) FileFault → Type 0

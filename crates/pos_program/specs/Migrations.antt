@@ -1,7 +1,8 @@
 -- What moving the totals in a file to layout 2 answers, and what it leaves (docs/reference/totals-file.md, "The move to
 -- layout 2").
-use Rattle.std.specs.Prelude.{◌≡◌, ℕ, List, map, Result, Ok, Err, OnOk}
+use Rattle.std.specs.Prelude.{◌≡◌, ◌⊎◌, ℕ, IsErrOf, List, map, Result, Ok, Err, OnOk}
 use Rattle.pos_disk.specs.Memory.{state_of}
+use Rattle.pos_disk.specs.State.{HasNotFailed}
 use Rattle.pos_file.specs.Calls.{Call}
 use Rattle.pos_file.specs.declared.file_disk.FileDisk.{FileDisk}
 use Rattle.pos_mirror.specs.Mirror.{Mirror, mirror_state}
@@ -10,6 +11,7 @@ use Rattle.pos_program.specs.MirroredFiles.{CutMayLeave, IsMirrored}
 use Rattle.pos_program.specs.declared.file_fault.FileFault.{FileFault}
 use Rattle.pos_program.specs.declared.file_fault.FileFault.TheVariants as file
 use Rattle.pos_program.specs.declared.named_files.NamedFiles.{Ghosts}
+use Rattle.pos_store.specs.Migrations.{KeepsFirstLayout}
 use Rattle.pos_store.specs.MovedDisks.{AreMoved, MovesAny, moved}
 use Rattle.pos_store.specs.Standing.{Standing, LeavesOneOf, StandsForEither}
 use Rattle.pos_store.specs.declared.fault.StoreFault.{StoreFault}
@@ -34,6 +36,10 @@ pub record LeavesMoved {F : Type 0} (calls : F → List Call) (totals after : Mi
     (outcome : Result (Unit {0}) StoreFault) : Type 0 where
   pub file : IsMirrored calls after
   pub moves : MovesAny (mirror_state totals) (mirror_state after) outcome
+  -- whatever is told, no slot of layout 1 was written, and none closed
+  pub rest : KeepsFirstLayout totals.memory.present.reading after.memory.present.reading
+  -- the file failed only where that is told
+  pub counts : IsErrOf outcome fault.Device ⊎ HasNotFailed (mirror_state totals) (mirror_state after)
   -- moved is the disk that the calls of the file make
   pub made : (candidates : List Standing) → LeavesOneOf candidates (mirror_state totals) → (is : IsMirrored calls after)
       → OnOk outcome (AreMoved candidates (state_of is.asked))

@@ -7,6 +7,7 @@ returns g c =
       after,
       outcome,
       leaves_moved c.args.totals after c.requires c.file_is_mirrored.ensures.file outcome
-          (c.migrate_disk-after.ensures.moves tt),
+          (c.migrate_disk-after.ensures.moves tt) (c.migrate_disk-after.ensures.rest tt)
+          (c.migrate_disk-after.ensures.counts tt),
       c.file_result.ensures,
     )
