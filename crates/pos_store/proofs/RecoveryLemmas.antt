@@ -1,11 +1,13 @@
 -- What a recovery of a store that is off did, by what it found and that it only looked at the disk.
 use Rattle.pos_store.proofs.Common.{Applies, Damaged, Decodes, DirectoryFault, DiskStandsFor, EndsAt, Err, File}
-use Rattle.pos_store.proofs.Common.{FindsStanding, Ghosts, HasNotFailed, HoldsRecords, HoldsSome, ImageFault, IsBody}
-use Rattle.pos_store.proofs.Common.{IsDirectory, IsErr, IsErrOf, KeepsDisk, Layout, LeavesItsFiles, Limits, List}
-use Rattle.pos_store.proofs.Common.{LogFault, Off, Ok, OnOk, Recovers, Result, Rises, Standing, StandsFor, StoreFault}
-use Rattle.pos_store.proofs.Common.{StoreView, ReportsImages, ReportsLog, Unformatted, Watches, arith, image_on, inr}
-use Rattle.pos_store.proofs.Common.{limits_of, one_log, one_spelling, refl, rules, spelling, sym, view_of, ℕ, ⊎_elim}
-use Rattle.pos_store.proofs.Common.{◌↔◌, ◌∙◌, ◌≡◌, ◌⊎◌}
+use Rattle.pos_store.proofs.Common.{FindsStanding, Ghosts, HasNotFailed, HoldsFiles, HoldsRecords, HoldsSome}
+use Rattle.pos_store.proofs.Common.{ImageFault, IsBody, IsDirectory, IsErr, IsErrOf, IsLogReady, KeepsDisk, Layout}
+use Rattle.pos_store.proofs.Common.{LeavesItsFiles, Limits, List, LogFault, LogView, MayLeave, Off, Ok, OnOk, Recovers}
+use Rattle.pos_store.proofs.Common.{ReportsImages, ReportsLog, Result, Rises, Standing, StandsFor, StoreFault}
+use Rattle.pos_store.proofs.Common.{StoreView, Unformatted, Watches, arith, image_on, inr, layout_of, limits_of}
+use Rattle.pos_store.proofs.Common.{one_log, one_spelling, refl, rules, spelling, started, sym, view_of, ℕ, ⊎_elim, ◌↔◌}
+use Rattle.pos_store.proofs.Common.{◌∙◌, ◌≡◌, ◌⊎◌}
+use Rattle.pos_store.proofs.DiskFileLemmas.{leaves_files, ready_with}
 use Rattle.pos_store.proofs.StandingLemmas.{finds_so, recovers_one, same_image, writable}
 use Rattle.pos_dir.specs.declared.fault.DirectoryFault.TheVariants as directory
 use Rattle.pos_image.specs.Standing as image
@@ -30,6 +32,15 @@ off_recovers bound disk layout result new finds kept watches now ends device cou
     let one_of = λ (h : bound.honest disk)
     (candidates : List Standing). recovers_one candidates _ _ result new.layout new.state (stands h) (watches h) in
     grind (arith, watches)
+
+-- a recovery of a store that is ready, which uses no call of the disk
+pub ready_recovers : {D : Type 0} (bound : Ghosts D) (log : LogView D) (files : List File)
+    → ((bytes : List ℕ) → bound.honest log.images.disk
+    → (bound.state log.images.disk).left_since (bound.state log.images.disk).moment bytes
+    → MayLeave (bound.state log.images.disk) bytes) → IsLogReady bound log → (bound.honest log.images.disk
+    → HoldsFiles (layout_of log.images.slot) files log.images.sequence (bound.state log.images.disk).reading)
+    → Recovers bound (ready_with log files) (Ok tt) (ready_with log files)
+ready_recovers bound log files only ready holds = grind (arith, started, leaves_files)
 
 -- a recovery that was refused for another cause than a fault of the disk
 pub refused_recovers : {D : Type 0} {bound : Ghosts D} {disk end : D} {layout : Layout} (cause : StoreFault)

@@ -1,8 +1,8 @@
 -- What moving the files of a disk to layout 2 answers, and what it leaves (docs/reference/totals-file.md, "The move to
 -- layout 2").
-use Rattle.std.specs.Prelude.{◌≡◌, ℕ, List, [], ◌∷◌, map, Result, Ok, Err}
+use Rattle.std.specs.Prelude.{ℕ, List, [], ◌∷◌, map, Result, Ok, Err}
 use Rattle.pos_dir.specs.declared.file.File.{File}
-use Rattle.pos_disk.specs.State.{DiskState, IsAtRest, LeavesOnly, MayLeave, Rises}
+use Rattle.pos_disk.specs.State.{DiskState, IsAtRest, LeavesOnly, MayLeave, Rises, Watches}
 use Rattle.pos_image.specs.declared.layout.Layout.TheVariants.{Layout1, Layout2}
 use Rattle.pos_store.specs.Standing.{Standing, Unformatted, Damaged, Stands, IsOneOf, LeavesOneOf, StandsForEither}
 use Rattle.pos_store.specs.declared.fault.StoreFault.{StoreFault}
@@ -27,9 +27,10 @@ pub record AreThere (candidates : List Standing) : Type 0 where
   pub sequence : ℕ
   pub found : IsOneOf candidates (Stands Layout2 files sequence)
 
--- the bytes of the disk are what they were, and a crash leaves one of the candidates
+-- the disk was only looked at: its bytes are what they were, no place became loose, and a crash at any moment leaves
+-- what one before might have left, now one of the candidates
 abbrev pub IsLeft : List Standing → DiskState → DiskState → Type 0
-IsLeft candidates old new = (new.reading ≡ old.reading) × LeavesOneOf candidates new
+IsLeft candidates old new = Watches old new × LeavesOneOf candidates new
 
 -- what is answered, of a disk that may leave one of the candidates, and the disk then
 abbrev pub AnswersMove : List Standing → DiskState → Result (Unit {0}) StoreFault → DiskState → Type 0

@@ -61,7 +61,7 @@ impl<D: Disk> Store<D> {
 
     /// Reads the files of the disk if the store is off. If it is ready, the call succeeds and does nothing.
     ///
-    /// It never changes what the disk has. So a recovery may crash too, and you may call it again.
+    /// It writes nothing to the disk. So a recovery may crash too, and you may call it again.
     ///
     /// # Errors
     ///

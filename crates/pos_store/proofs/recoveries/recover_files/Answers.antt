@@ -6,13 +6,19 @@ use Rattle.pos_store.proofs.DiskFileLemmas.{leaves_files}
 use Rattle.pos_store.proofs.RecoveryLemmas.{off_recovers, refused_recovers, told_finds, told_alone, told_log_finds}
 use Rattle.pos_store.proofs.RecoveryLemmas.{told_log_alone, told_text_finds, never_failed, both_keep, later, not_device}
 use Rattle.pos_store.proofs.RecoveryLemmas.{damaged_stands, no_body_stands, no_log_stands, no_groups_stand}
-use Rattle.pos_store.proofs.RecoveryLemmas.{malformed_none}
+use Rattle.pos_store.proofs.RecoveryLemmas.{malformed_none, ready_recovers}
 use Rattle.pos_store.proofs.recoveries.recover_files.Given.{Over}
 use Rattle.pos_store.proofs.recoveries.recover_files.Goals.{After-apply_texts}
 use Rattle.pos_image.specs.Standing as image
 use Rattle.pos_image.specs.declared.fault.ImageFault.TheVariants as images
 use Rattle.pos_log.specs.declared.fault.LogFault.TheVariants as logs
 use Rattle.pos_store.proofs.recoveries.recover_files.Goals as goal
+
+pub returns-in-Ready-clause-recovers : goal.returns-in-Ready-clause-recovers
+returns-in-Ready-clause-recovers g c =
+    let sound = rw c.in-Ready.is at c.requires.sound in
+    rw c.in-Ready.is (ready_recovers g.D.Disk c.in-Ready.log c.in-Ready.directory.files
+    (g.met.D.Disk.only_now c.in-Ready.log.images.disk) sound.0 sound.1)
 
 pub returns-in-Err-clause-recovers : goal.returns-in-Err-clause-recovers
 returns-in-Err-clause-recovers g c =
