@@ -9,7 +9,7 @@ use Rattle.pos_disk.proofs.MomentLemmas.{rest_leaves}
 use Rattle.pos_disk.specs.Fuse.{may_under}
 use Rattle.pos_disk.specs.Kept.{from_moment, to_moment}
 use Rattle.pos_disk.specs.Memory.{LeftAt, Memory, Moment, state_of, written}
-use Rattle.pos_disk.specs.State.{HasNotFailed, IsAtRest, MayLeave, splice}
+use Rattle.pos_disk.specs.State.{HasNotFailed, IsAtRest, MayLeave, Watches, splice}
 use Rattle.pos_file.specs.declared.file_disk.FileDisk.{FileDisk}
 use Rattle.pos_mirror.specs.Continuations.{Continues, and_write, no_more}
 use Rattle.pos_mirror.specs.Mirror.{Mirror, mirror_state}
@@ -17,7 +17,7 @@ use Rattle.pos_file.specs.Calls.{Call}
 use Rattle.pos_image.specs.NewDisk.{KeepsRest}
 use Rattle.pos_program.proofs.MirroredLemmas.{cut_left}
 use Rattle.pos_program.specs.Formats.{IsFormatted, IsUnformatted, LeavesFormatted}
-use Rattle.pos_program.specs.Migrations.{LeavesMoved}
+use Rattle.pos_program.specs.Migrations.{IsRefused, LeavesMoved}
 use Rattle.pos_store.specs.Migrations.{KeepsFirstLayout}
 use Rattle.pos_store.specs.MovedDisks.{AnswersMove, AreMoved, MovesAny}
 use Rattle.pos_program.specs.MirroredFiles.{CutMayLeave, IsMirrored}
@@ -25,7 +25,7 @@ use Rattle.pos_program.specs.TotalsDisks.{IsNewMirror}
 use Rattle.pos_program.specs.declared.file_fault.FileFault.{FileFault}
 use Rattle.pos_store.specs.Standing.{Standing}
 use Rattle.pos_store.specs.declared.fault.StoreFault.{StoreFault}
-use Rattle.pos_store.specs.declared.fault.StoreFault.TheVariants.{Device}
+use Rattle.pos_store.specs.declared.fault.StoreFault.TheVariants as fault
 
 -- nothing put over a list leaves it
 nothing_put : {A : Type 0} (old : List A) (at : ℕ) → splice old at [] ≡ old
@@ -135,11 +135,23 @@ module _ {F : Type 0} {calls : F → List Call} (totals after : Mirror (FileDisk
   }
   moved_asked candidates (Err why) answer is = tt
 
+  -- a refused move only looked at them
+  only_looked : (candidates : List Standing) (outcome : Result (Unit {0}) StoreFault)
+      → AnswersMove candidates (mirror_state totals) outcome (mirror_state after) → IsRefused outcome
+      → Watches (mirror_state totals) (mirror_state after)
+  only_looked candidates (Ok u) answer refused = absurd refused
+  only_looked candidates (Err fault.Device) answer refused = absurd refused
+  only_looked candidates (Err fault.AlreadyLayout2) answer refused = answer.1.0
+  only_looked candidates (Err fault.Unformatted) answer refused = answer.1.0
+  only_looked candidates (Err fault.Damaged) answer refused = answer.1.0
+  only_looked candidates (Err fault.NoMemory) answer refused = answer.0
+  only_looked candidates (Err _) answer refused = absurd answer
+
   -- totals were moved, or not
   pub leaves_moved : (outcome : Result (Unit {0}) StoreFault)
       → MovesAny (mirror_state totals) (mirror_state after) outcome
       → KeepsFirstLayout totals.memory.present.reading after.memory.present.reading
-      → IsErrOf outcome Device ⊎ HasNotFailed (mirror_state totals) (mirror_state after)
+      → IsErrOf outcome fault.Device ⊎ HasNotFailed (mirror_state totals) (mirror_state after)
       → LeavesMoved calls totals after outcome
   leaves_moved outcome moves rest counts = record {
     file = mirrored;
@@ -148,4 +160,7 @@ module _ {F : Type 0} {calls : F → List Call} (totals after : Mirror (FileDisk
     counts = counts;
     made = λ candidates leaves is. moved_asked candidates outcome (moves candidates leaves).answer is;
     cut = λ candidates leaves is bytes cut. (moves candidates leaves).any_moment.each bytes (cut_since is bytes cut);
+    kept = λ candidates leaves refused is bytes cut. rest_leaves (mirror_state totals) bytes rests
+        ((only_looked candidates outcome (moves candidates leaves).answer refused).any_moment.each bytes
+        (cut_since is bytes cut));
   }

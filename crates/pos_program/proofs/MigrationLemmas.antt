@@ -131,13 +131,13 @@ module _ {D : Type 0} {bound : Ghosts D} {disk : D} where
         → MovesOneOf candidates (bound.state disk) (bound.state new.disk) result
     found_moves Layout1 is (Ok u) new answer passes at_rest device = goes new is answer passes at_rest
     found_moves Layout1 is (Err fault.NoMemory) new answer passes at_rest device =
-        stays fault.NoMemory new answer (recovers.reading honest, one.passes.now)
+        stays fault.NoMemory new answer (recovers.watches honest, one.passes.now)
     found_moves Layout1 is (Err fault.Device) new answer passes at_rest device = fails new answer.0 passes (device refl)
     found_moves Layout1 is (Err _) new answer passes at_rest device = absurd answer
     found_moves Layout2 is result new answer passes at_rest device =
         rw answer.0 (stays fault.AlreadyLayout2 new answer.1 (
           record { files = files; sequence = sequence; found = rw is at one.found },
-          (recovers.reading honest, one.passes.now),
+          (recovers.watches honest, one.passes.now),
         ))
 
   -- a disk of which files were found, or not, and what became of them

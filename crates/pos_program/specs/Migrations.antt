@@ -1,6 +1,6 @@
 -- What moving the totals in a file to layout 2 answers, and what it leaves (docs/reference/totals-file.md, "The move to
 -- layout 2").
-use Rattle.std.specs.Prelude.{◌≡◌, ◌⊎◌, ℕ, IsErrOf, List, map, Result, Ok, Err, OnOk}
+use Rattle.std.specs.Prelude.{◌≡◌, ◌⊎◌, ℕ, IsErrOf, List, map, Result, Ok, Err, OnOk, ⊤}
 use Rattle.pos_disk.specs.Memory.{state_of}
 use Rattle.pos_disk.specs.State.{HasNotFailed}
 use Rattle.pos_file.specs.Calls.{Call}
@@ -30,6 +30,12 @@ abbrev pub told_of : Result (Unit {0}) StoreFault → Result (Unit {0}) FileFaul
 told_of (Ok u) = Ok tt
 told_of (Err why) = Err (told_as why)
 
+-- a move that was refused, for another cause than a failure of the file
+abbrev pub IsRefused : Result (Unit {0}) StoreFault → Type 0
+IsRefused (Ok u) = ⊥
+IsRefused (Err fault.Device) = ⊥
+IsRefused (Err other) = ⊤
+
 -- Totals in a file were moved, or not, whatever candidates the bytes that were read stand for. The calls of the file
 -- make what is left.
 pub record LeavesMoved {F : Type 0} (calls : F → List Call) (totals after : Mirror (FileDisk F))
@@ -46,6 +52,9 @@ pub record LeavesMoved {F : Type 0} (calls : F → List Call) (totals after : Mi
   -- a power cut at any moment since the file was read leaves one of the candidates, or one with its files moved
   pub cut : (candidates : List Standing) → LeavesOneOf candidates (mirror_state totals) → (is : IsMirrored calls after)
       → (bytes : List ℕ) → CutMayLeave is bytes → StandsForEither candidates (map moved candidates) bytes
+  -- where the move was refused, it leaves the bytes that were read
+  pub kept : (candidates : List Standing) → LeavesOneOf candidates (mirror_state totals) → IsRefused outcome
+      → (is : IsMirrored calls after) (bytes : List ℕ) → CutMayLeave is bytes → bytes ≡ totals.memory.present.reading
 
 -- moving totals in a file comes to this
 abbrev pub MigratesTotals : {F : Type 0} → (F → List Call) → Mirror (FileDisk F) → Result (Unit {0}) FileFault → Type 0
