@@ -1,5 +1,5 @@
 -- What the calls that open a till answer, and the till that they leave (abi/README.md).
-use Rattle.std.specs.Prelude.{◌≡◌, ◌<◌, ◌⊎◌, ℕ, List, Some, Ok, Err, false, length, nat_lt, if◌then◌else◌}
+use Rattle.std.specs.Prelude.{◌≡◌, ◌≤◌, ◌<◌, ◌⊎◌, ℕ, List, Some, Ok, Err, false, length, nat_lt, if◌then◌else◌}
 use Rattle.pos_disk.specs.Memory.{fresh, state_of}
 use Rattle.pos_disk.specs.State.{DiskState}
 use Rattle.pos_image.specs.Layout.{disk_size}
@@ -64,12 +64,17 @@ move_code fault.Damaged = damaged
 move_code fault.AlreadyLayout2 = moved
 move_code other = no_memory
 
--- why a file of these bytes isn't moved, by the code: there was no memory, it is too short, or what it holds
+-- why the totals in these bytes aren't moved, by the code: what the bytes hold
+abbrev pub RefusesTotals : List ℕ → (code : ℕ) → Type 0
+RefusesTotals bytes code = (why : StoreFault) × (disk : HostedDisk)
+    × MovesAny (file_state bytes) (hosted_state disk) (Err why) × (code ≡ move_code why)
+
+-- why a file of these bytes isn't moved, by the code: there was no memory, it is too short, or it is long enough for a
+-- disk and its totals aren't moved
 abbrev pub RefusesMove : List ℕ → (code : ℕ) → Type 0
 RefusesMove bytes code = (code ≡ no_memory)
     ⊎ ((code ≡ too_small) × (length bytes < disk_size))
-    ⊎ ((why : StoreFault) × (disk : HostedDisk) × MovesAny (file_state bytes) (hosted_state disk) (Err why)
-    × (code ≡ move_code why))
+    ⊎ ((disk_size ≤ length bytes) × RefusesTotals bytes code)
 
 -- what a call answers that moves the totals of a file and opens a till over it
 abbrev pub AnswersMove : (profile bytes : List ℕ) (code : ℕ) → Type 0

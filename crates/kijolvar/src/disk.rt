@@ -1,7 +1,8 @@
 //! The disks that tills begin with.
 ghost use Rattle.std.specs.Prelude.{◌≡◌, ◌≢◌, ◌⊎◌, MatchResult, Some, false};
 ghost use Rattle.kijolvar.specs.Codes.{no_memory, ok};
-ghost use Rattle.kijolvar.specs.Openings.{IsFormattedOf, IsMovedOf, RefusesMove, disk_in_file, format_code, move_code};
+ghost use Rattle.kijolvar.specs.Openings.{IsFormattedOf, IsMovedOf, RefusesMove, RefusesTotals, disk_in_file};
+ghost use Rattle.kijolvar.specs.Openings.{format_code, move_code};
 ghost use Rattle.pos_disk.specs.Memory.{fresh};
 ghost use Rattle.kijolvar.specs.Errands.{no_work};
 ghost use Rattle.kijolvar.specs.TillDisks.{IsInStep, fixed_of, hosted, settlement_with};
@@ -109,7 +110,7 @@ fn with_errands(disk: TillDisk) -> Result<TillDisk, u32>
 // the host.
 fn move_disk(alloc: Global, disk: TillDisk) -> Result<TillDisk, u32>
     ensures { let bytes = disk.memory.present.reading in disk ≡ hosted (fresh bytes) (Some (no_work bytes))
-        → MatchResult result (IsMovedOf bytes) (RefusesMove bytes) }
+        → MatchResult result (IsMovedOf bytes) (λ code. (code ≡ no_memory) ⊎ RefusesTotals bytes code) }
 {
     let (moved, outcome) = migrate_disk(alloc, disk);
     match outcome {

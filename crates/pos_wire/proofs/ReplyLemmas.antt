@@ -3,7 +3,8 @@ use Rattle.std.proofs.Common.{◌≡◌, ℕ, ◌+◌, ◌<◌, true, false, Lis
 use Rattle.std.proofs.Common.{sym, ◌∙◌, length-append, arith, subst, Option, Some, None, ◌||◌, ◌==◌, inl, inr, ⊎_elim}
 use Rattle.std.proofs.Common.{◌⊎◌}
 use Rattle.std.proofs.lemmas.Bool.{cases_Bool}
-use Rattle.std.proofs.lemmas.List.{drop-append-le, drop-drop, drop_all, length-take-le, take_more}
+use Rattle.std.proofs.lemmas.List.{drop-append-le, drop-drop, drop_all, length-take-le, take-append-drop, take-take}
+use Rattle.std.proofs.lemmas.List.{take_more}
 use Rattle.std.proofs.Math.Seq.{drop-append_seam}
 use Rattle.pos_escpos.specs.declared.printer_commands.NowStatus.{NowStatus}
 use Rattle.pos_escpos.specs.declared.printer_commands.OrderStatus.{OrderStatus}
@@ -205,6 +206,25 @@ goes_past pieces {reader} {next} {bytes} {place} {none} {b} {received} at within
       count = omega (arith, at.count, count, zero);
     }
 
+-- where two lists joined are empty, the first is
+first_is_empty : (first next : List PrinterReply) → first ++ next ≡ [] → first ≡ []
+first_is_empty [] next none = refl
+first_is_empty (told ∷ more) next none = grind arith
+
+-- where no reply has come of a front of the bytes, none has come of a shorter one
+none_before : Pieces → {start reader : Reader} {bytes : List ℕ} {place none : ℕ} → At start reader bytes place none
+    → (count : ℕ) → count < place + 1 → (reading_of start (take count bytes)).replies ≡ []
+none_before pieces {start} {reader} {bytes} {place} {none} at count fewer =
+    let all = take place bytes in
+    let front = take count all in
+    let rest = drop count all in
+    let same : front ≡ take count bytes = take-take count place bytes (omega arith) in
+    let whole : joined (reading_of start front) (reading_of (reading_of start front).reader rest) ≡ quiet none reader =
+    sym (pieces start front rest) ∙ ap (reading_of start) (take-append-drop count all) ∙ at.read in
+    ap (λ (xs : List ℕ). (reading_of start xs).replies) (sym same)
+    ∙ first_is_empty (reading_of start front).replies (reading_of (reading_of start front).reader rest).replies
+    (ap (λ (r : Reading). r.replies) whole)
+
 -- none has begun behind a reply
 none_begun : (begun : List ℕ) (reader : Reader) {b : ℕ} {step : Step} {told : PrinterReply}
     → step.received.reply ≡ Some told → Comes begun reader b step → step.reader.begun ≡ []
@@ -235,4 +255,5 @@ one_ends pieces {start} {reader} {next} {bytes} {place} {none} {b} {received}
             reader = next;
           }) ends ∙ ap (λ (k : ℕ). record { replies = told ∷ []; skipped = k; reader = next }) (sym skipped);
       whole = none_begun reader.begun reader ends comes;
+      first = λ count fewer. none_before pieces at count (subst (λ (k : ℕ). count < k) used fewer);
     }
