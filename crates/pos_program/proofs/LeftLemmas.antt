@@ -17,7 +17,7 @@ use Rattle.pos_file.specs.Calls.{Call}
 use Rattle.pos_image.specs.NewDisk.{KeepsRest}
 use Rattle.pos_program.proofs.MirroredLemmas.{cut_left}
 use Rattle.pos_program.specs.Formats.{IsFormatted, IsUnformatted, LeavesFormatted}
-use Rattle.pos_program.specs.Migrations.{IsRefused, LeavesMoved}
+use Rattle.pos_program.specs.Migrations.{IsRefusedMove, LeavesMoved}
 use Rattle.pos_store.specs.Migrations.{KeepsFirstLayout}
 use Rattle.pos_store.specs.MovedDisks.{AnswersMove, AreMoved, MovesAny}
 use Rattle.pos_program.specs.MirroredFiles.{CutMayLeave, IsMirrored}
@@ -137,7 +137,7 @@ module _ {F : Type 0} {calls : F → List Call} (totals after : Mirror (FileDisk
 
   -- a refused move only looked at them
   only_looked : (candidates : List Standing) (outcome : Result (Unit {0}) StoreFault)
-      → AnswersMove candidates (mirror_state totals) outcome (mirror_state after) → IsRefused outcome
+      → AnswersMove candidates (mirror_state totals) outcome (mirror_state after) → IsRefusedMove outcome
       → Watches (mirror_state totals) (mirror_state after)
   only_looked candidates (Ok u) answer refused = absurd refused
   only_looked candidates (Err fault.Device) answer refused = absurd refused

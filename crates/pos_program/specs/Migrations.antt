@@ -31,10 +31,10 @@ told_of (Ok u) = Ok tt
 told_of (Err why) = Err (told_as why)
 
 -- a move that was refused, for another cause than a failure of the file
-abbrev pub IsRefused : Result (Unit {0}) StoreFault → Type 0
-IsRefused (Ok u) = ⊥
-IsRefused (Err fault.Device) = ⊥
-IsRefused (Err other) = ⊤
+abbrev pub IsRefusedMove : Result (Unit {0}) StoreFault → Type 0
+IsRefusedMove (Ok u) = ⊥
+IsRefusedMove (Err fault.Device) = ⊥
+IsRefusedMove (Err other) = ⊤
 
 -- Totals in a file were moved, or not, whatever candidates the bytes that were read stand for. The calls of the file
 -- make what is left.
@@ -53,7 +53,7 @@ pub record LeavesMoved {F : Type 0} (calls : F → List Call) (totals after : Mi
   pub cut : (candidates : List Standing) → LeavesOneOf candidates (mirror_state totals) → (is : IsMirrored calls after)
       → (bytes : List ℕ) → CutMayLeave is bytes → StandsForEither candidates (map moved candidates) bytes
   -- where the move was refused, it leaves the bytes that were read
-  pub kept : (candidates : List Standing) → LeavesOneOf candidates (mirror_state totals) → IsRefused outcome
+  pub kept : (candidates : List Standing) → LeavesOneOf candidates (mirror_state totals) → IsRefusedMove outcome
       → (is : IsMirrored calls after) (bytes : List ℕ) → CutMayLeave is bytes → bytes ≡ totals.memory.present.reading
 
 -- moving totals in a file comes to this
