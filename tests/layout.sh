@@ -8,6 +8,7 @@
 #   inside    functions and constants of a private module that a library's root doesn't export are pub(crate) or private
 #   case      no two files or folders of a crate differ only in the case of their letters
 #   width     no line has more than 120 columns, but an import
+#   edits     each text that a wrong body or its twin replaces is in its file, once
 # Then it plants one fault of each kind, in memory, which has to be found, a check each. Usage: tests/layout.sh. Its last
 # line is 'N passed, M failed'; it ends with 0 if none failed.
 set -u
@@ -36,6 +37,19 @@ def read_tree():
                 with open(path, encoding="utf-8") as file:
                     tree[path] = file.read()
     return tree
+
+
+def read_edits():
+    """The wrong bodies of each crate and their twins."""
+    edits = {}
+    for pattern in ("crates/*/must-fail/*.edit", "tests/edits/*/*.edit", "tests/twins/*/*.edit"):
+        for path in glob.glob(pattern):
+            with open(path, encoding="utf-8") as file:
+                edits[path] = file.read()
+    return edits
+
+
+EDITS = read_edits()
 
 
 def crate_of(path):
@@ -127,6 +141,15 @@ def width(tree):
                 yield f"{path}:{number}: {len(line)} columns"
 
 
+def edits(tree):
+    for path, text in sorted(EDITS.items()):
+        crate = crate_of(path) if path.startswith("crates/") else path.split("/")[2]
+        for name, old in re.findall(r"^file: (.*)\nold: (.*)$", text, re.M):
+            count = tree.get(f"crates/{crate}/{name}", "").count(old)
+            if count != 1 and not crate.endswith("_tests"):
+                yield f"{path}: {old.strip()!r} is {count} times in {name}"
+
+
 def with_file(path, text):
     return lambda tree: tree.update({path: text})
 
@@ -145,6 +168,7 @@ RULES = [
     (inside, with_line("crates/pos_dir/src/supplies.rt", "pub fn nothing_of_it() {}")),
     (case, with_file("crates/pos_dir/specs/changes.antt", "")),
     (width, with_line("crates/pos_dir/proofs/Lib.antt", "-- " + "a" * MOST)),
+    (edits, with_file("crates/pos_tool/src/whole.rt", LONG)),
 ]
 
 tree = read_tree()

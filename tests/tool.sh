@@ -457,6 +457,13 @@ told 'check of a file that is not read: status' 4 $?
 told 'check of a file that is not read: message' \
   "kijolvar: other.totals: can't be read whole: check the device that it is on"$'\n''hint: copy it by dd if=FILE of=COPY bs=512 conv=noerror,sync, and salvage COPY, or restore an older copy' \
   "$(cat err)"
+# README's way: dd reads the rest, and that is salvaged.
+strace -o trace -P "$work/other.totals" -e inject=read:error=EIO:when=200 \
+  dd if=other.totals of=read.totals bs=512 conv=noerror,sync 2> /dev/null
+told 'a block that dd does not read' 1 "$(grep -c INJECTED trace)"
+ends 'salvage of what dd read' 0 '' '' salvage read.totals salvaged.totals
+told 'salvage of what dd read: the files' "$("$tool" dump other.totals)" "$("$tool" dump salvaged.totals)"
+rm read.totals salvaged.totals
 strace -o trace -P "$work/other.totals" -e inject=pread64:error=EIO "$tool" restore copy.totals other.totals --replace > out 2> err
 told 'restore, replacing a file that is not read' '0 ' "$? $(cat err)"
 same 'restore, replacing a file that is not read, copies the bytes' copy.totals other.totals
