@@ -15,6 +15,29 @@ def without_disk(errors):
     return [error for error in errors if error["when"] != _DISK]
 
 
+def reasons_of(errors):
+    """What each code of a call means, by its name: the first of several reasons is first."""
+    whens = {}
+    for error in without_disk(errors):
+        if error["when"] not in whens.setdefault(error["code"], []):
+            whens[error["code"]].append(error["when"])
+    return {code: " Or: ".join(when) for code, when in whens.items()}
+
+
+def reasons(description):
+    """Why each call is refused: the word of the category that has it, or none; the verb of its line; the name of the
+    method or property; the code's name; and the reason. What the code means of any call is left out."""
+    meant = {code["name"]: code["summary"] for code in description["result_codes"] + description["extended_codes"]}
+    for part in [description["common"] | {"word": None}, *description["categories"]]:
+        calls = [(about["line"], about, about["errors"]) for about in part["methods"]]
+        calls += [("get", about, about["errors"]) for about in part["properties"]]
+        calls += [("set", about, about["set_errors"]) for about in part["properties"] if about["writable"]]
+        for verb, about, errors in calls:
+            for code, reason in reasons_of(errors).items():
+                if reason != meant[code]:
+                    yield part["word"], verb, about["name"], code, reason
+
+
 def summary_of(text, disk_fault):
     """What an error means, where a failed disk is `disk_fault`."""
     return text.replace(_FAILURE, f"The device failed, or the totals are off. A failed disk is {disk_fault}.")

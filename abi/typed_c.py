@@ -224,7 +224,8 @@ kij_result kij_get_bool(kij_control *control, kij_property property, bool *is_tr
 /** Reads a property that is bytes, which are lent. KIJ_WRONG_TYPE if it is none; else an error of the property. */
 kij_result kij_get_bytes(kij_control *control, kij_property property, const uint8_t **data, size_t *size);
 
-/** Sets a property to a number. KIJ_E_ILLEGAL if it is read only or of another type; else an error of the property. */
+/** Sets a property to a number. KIJ_E_ILLEGAL if it is read only or of another type; else an error of the property.
+ * This and the calls above are KIJ_E_ILLEGAL too if the control's category hasn't the property. */
 kij_result kij_set_int(kij_control *control, kij_property property, int64_t number);
 
 /** Sets a property to a flag. KIJ_E_ILLEGAL if it is read only or of another type; else an error of the property. */
@@ -264,7 +265,7 @@ def kept(values):
 
 
 def body(part, method):
-    verb = f"KIJ_VERB_{method['line'].upper()}"
+    verb = verb_of(method["line"])
     word = "&method" if method["line"] == "call" else "NULL"
     if method["line"] == "call":
         yield f'    static const kij_word method = KIJ_WORD(" {method["word"]}");'
@@ -303,6 +304,22 @@ def rows(name, listed):
     return f"const kij_number_row kij_internal_{name}[] = {{\n{body}}};\n"
 
 
+def verb_of(line):
+    return f"KIJ_VERB_{line.upper()}"
+
+
+def reasons():
+    """The table of the reasons: the category, the verb, the word behind the name or none, the code, and the text."""
+    body = ""
+    for category, verb, name, code, reason in over_library.reasons(DESCRIPTION):
+        word = f'" {name}"' if verb in ("call", "get", "set") else "NULL"
+        codes = f"{constant(code)}, 0" if code.startswith("E_") else f"KIJ_E_EXTENDED, {constant(code)}"
+        body += f"    {{{CATEGORIES[category]}, {verb_of(verb)}, {word}, {codes},\n"
+        text = textwrap.wrap(reason, WIDTH - 10, break_on_hyphens=False, drop_whitespace=False)
+        body += "\n".join(f'     "{part}"' for part in text) + "},\n"
+    return f"const kij_reason_row kij_internal_reasons[] = {{\n{body}}};\n"
+
+
 def length_of(count, table):
     """How many rows a table has."""
     table = f"kij_internal_{table}"
@@ -317,6 +334,7 @@ def source():
     out.append(length_of("property_count", "properties"))
     out += [rows("codes", DESCRIPTION["result_codes"]), length_of("code_count", "codes")]
     out += [rows("extended", DESCRIPTION["extended_codes"]), length_of("extended_count", "extended")]
+    out += [reasons(), length_of("reason_count", "reasons")]
     for part in parts():
         for method in part["methods"]:
             out.append(f"{declaration(part, method)} {{\n" + "\n".join(body(part, method)) + "\n}\n")

@@ -1,7 +1,7 @@
 #!/usr/bin/env python3
 """Writes what is typed for Rust, out of abi/description.json: the controls with their methods and properties, the
-properties, and the codes and constants of the standard (rust/kijolvar/src/controls.rs, property.rs, standard.rs); and
-the tables by which the tests run scripts (tests/typed/rust/src/calls.rs).
+properties, the codes and constants of the standard, and why calls are refused (rust/kijolvar/src/controls.rs,
+property.rs, standard.rs, reasons.rs); and the tables by which the tests run scripts (tests/typed/rust/src/calls.rs).
 
 Usage: abi/typed_rust.py, or abi/typed_rust.py --check, which compares the files with what would be written.
 """
@@ -581,6 +581,35 @@ impl Control<'_> {{
 """ + "\n".join(control(part) for part in DESCRIPTION["categories"])
 
 
+# ---- reasons
+
+def reason_row(of, verb, name, code, reason):
+    front = f'    ({f"Some(Category::{category(of)})" if of else "None"}, "{verb}", "{name}", "{code}",'
+    text = textwrap.wrap(reason, WIDTH - 12, break_on_hyphens=False)
+    return f'{front}\n     "' + " \\\n      ".join(text) + '"),\n'
+
+
+def reasons():
+    rows = list(over_library.reasons(DESCRIPTION))
+    body = "".join(reason_row(*row) for row in rows)
+    return f"""//! What a code means of one call. {WRITTEN}
+use crate::standard::Category;
+
+/// The category that has a call, if not all have it; the verb of the call's line; the name of the method or property;
+/// the code's name; and why the call is refused.
+type Row = (Option<Category>, &'static str, &'static str, &'static str, &'static str);
+
+const ROWS: [Row; {len(rows)}] = [
+{body}];
+
+/// Why a control of a category refused a call with a code, if that means more than it does of any other call.
+pub(crate) fn reason_of(category: Category, verb: &str, call: &str, code: &str) -> Option<&'static str> {{
+    let is_meant = |row: &&Row| row.0.is_none_or(|of| of == category) && (row.1, row.2, row.3) == (verb, call, code);
+    ROWS.iter().find(is_meant).map(|row| row.4)
+}}
+"""
+
+
 # ---- the tables by which scripts are run
 
 def run_word(argument, place):
@@ -669,7 +698,8 @@ def main():
     stale = []
     crate = "abi/rust/kijolvar/src"
     for name, text in [(f"{crate}/standard.rs", standard()), (f"{crate}/property.rs", properties()),
-                       (f"{crate}/controls.rs", controls()), ("tests/typed/rust/src/calls.rs", run_tables())]:
+                       (f"{crate}/controls.rs", controls()), (f"{crate}/reasons.rs", reasons()),
+                       ("tests/typed/rust/src/calls.rs", run_tables())]:
         path = TOP / name
         if not sys.argv[1:]:
             path.parent.mkdir(parents=True, exist_ok=True)

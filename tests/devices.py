@@ -37,7 +37,8 @@ sys.path[:0] = [str(TOP / "abi/python"), str(TOP / "tests")]
 
 import kijolvar
 from checks import Checks
-from emulator import Cut, Display, Line, Printer, PtyCable, Scanner, SilentHost, TcpCable
+from emulator import (Cut, Display, HearingPrinter, LatePrinter, Line, Printer, PtyCable, Scanner, SilentHost, TcpCable,
+                      first_strange)
 from emulator.scanner import KEYS
 from kijolvar import (Driver, EscPosDrawer, EscPosPrinter, OutputCompleteEvent, PrintedCut, SerialDisplay, SerialPort,
                       StatusUpdateEvent, WedgeScanner, WireSettings)
@@ -144,16 +145,12 @@ def item_of(item, feed=3):
 
 
 def same_paper(name, printer, items):
-    """Whether the paper has these items of `show`, each once. Only those that were printed and whose acknowledgement
-    the host didn't get are there once more, right behind."""
+    """Whether the paper has these items of `show`, each once and in their order. Only from one on whose acknowledgement
+    the host didn't get, what was sent is there once more."""
     printer.wait(lambda: printer.is_idle)
-    receipt = printer.receipt()
-    sure = [(place, item) for place, item in enumerate(receipt) if place not in printer.doubts]
-    paper, wanted = [item for _, item in sure], [item_of(item) for item in items]
-    at = next((at for at, pair in enumerate(zip(paper, wanted)) if pair[0] != pair[1]), min(len(paper), len(wanted)))
-    again = [[item for place, item in sure if place >= run.stop][:len(run)] for run in printer.runs]
-    strange = [run for run, found in zip(printer.runs, again) if receipt[run.start:run.stop] != found]
-    told(name, (len(wanted), wanted[at:at + 2], []), (len(paper), paper[at:at + 2], strange))
+    receipt, wanted = printer.receipt(), [item_of(item) for item in items]
+    place = first_strange(receipt, printer.runs, wanted)
+    told(name, None, None if place is None else (place, len(receipt), len(wanted), receipt[max(place - 4, 0):place + 4]))
 
 
 def not_whole(printer, items):
@@ -778,7 +775,8 @@ def try_process_that_stands_still():
     for kind, is_silent in (("usb", False), ("tcp", False), ("asked", False), ("holds", False), ("holds", True)):
         with contextlib.ExitStack() as stack:
             name, stood = f"the process stands still, over {kind}, silent {is_silent}", []
-            shop = Shop(stack, kind, timeout=max(TIMEOUT, 1.0))
+            # One that stands still for 2 seconds may count as off, also on a machine that is busy.
+            shop = Shop(stack, kind, timeout=1.0)
             shop.begins()
             link, device = shop.driver.link, shop.device
             port, ready, count = link.port, link.port.ready, len(device.receipt())
@@ -1187,6 +1185,34 @@ def try_asynchronous():
                 told(f"{name}: one event", 1, len(events))
                 shop.same_paper(f"{name}: the paper")
                 told(f"{name}: three lines", 3, len(shop.till.device("r1").show().items))
+
+
+def try_immediate_between():
+    """Output that waits fails and comes out later, and something else is printed at once before it is tried again: it
+    is printed once. If it was given up, the same output is a new one."""
+    for is_given_up in (False, True):
+        name = f"something between{', and given up' * is_given_up}"
+        with contextlib.ExitStack() as stack:
+            shop = Shop(stack)
+            control, device, works = shop.control, shop.device, shop.till.device("r1").work
+            control.async_mode = True
+            device.after_characters(3, lambda device=device: device.cover(True))
+            told(f"{name}: accepted", None, raised(control.print, TEXT))
+            told(f"{name}: it fails", kijolvar.WorkFailed(114, 201), works())
+            device.cover(False)
+            told(f"{name}: it comes out later", True, until(
+                lambda: shop.till.run_devices(0.01) is not None and len(device.receipt()) == 3))
+            told(f"{name}: that is heard", True, until(
+                lambda: shop.till.run_devices(0.01) is not None and not shop.driver.link._due))
+            told(f"{name}: another order", None, raised(control.print_immediate, 2, b"At once\n"))
+            list(control.events())
+            if is_given_up:
+                control.clear_output()
+                told(f"{name}: accepted again", None, raised(control.print, TEXT))
+            told(f"{name}: again", kijolvar.WorkDone(1 + is_given_up), works())
+            text = [b"First line", b"Second line", b"Third line"]
+            told(f"{name}: the paper", [*text, b"At once", *(text * is_given_up)], characters_of(device))
+            told(f"{name}: what was late", int(is_given_up), shop.driver.late_orders)
 
 
 def try_refused_output():
@@ -1760,11 +1786,28 @@ def try_held_back():
         shop.same_paper("held back: the paper")
 
 
-class HearingPrinter(Printer):
-    """A printer whose line holds bytes back only while it has no power: it hears questions while it is offline."""
-
-    def may_hear(self):
-        return self.is_on
+def try_power_behind_a_cause():
+    """A printer that is asked tells why it is offline while its line holds back the end of what it was sent, and is off
+    and on again: the end that it prints then isn't told as the whole."""
+    with contextlib.ExitStack() as stack:
+        shop = Shop(stack, "asked holds", made=LatePrinter)
+        shop.begins()
+        shop.device.ROOM = 8
+        shop.device.cover(True)
+        told("it is asked for its paper", True,
+             until(lambda: shop.till.run_devices(0.01) is not None and shop.device.kept is not None))
+        timer = threading.Timer(TIMEOUT / 4, shop.device.answers)
+        timer.start()
+        told("its cover is open", (114, 201), raised(shop.control.print, TEXT))
+        timer.join()
+        shop.device.pull_plug()
+        until(lambda: shop.till.run_devices(0.01) and False, 1.5 * TIMEOUT)
+        shop.device.plug_in()
+        shop.device.cover(False)
+        told("it is done after all", True, until(
+            lambda: shop.till.run_devices(0.01) is not None and raised(shop.control.print, TEXT) is None))
+        items = shop.till.device("r1").show().items
+        told("each line is whole", (4, []), (len(items), not_whole(shop.device, items)))
 
 
 def try_cause_behind_a_line():
@@ -2033,6 +2076,57 @@ def try_absent():
         told("not a device", "PortError", name_of(kijolvar.port_of(__file__).open))
 
 
+def try_port_errors():
+    """Why a device isn't there: its path is wrong, the rights are missing, or another program has it."""
+    missing = "can't be opened: No such file or directory"
+    with contextlib.ExitStack() as stack:
+        till, device = stack.enter_context(opened()), Printer(cable())
+        driver = EscPosPrinter(device.path, drawer="d1", timeout=TIMEOUT, pause=PAUSE)
+        told("before a try", None, driver.port_error)
+        till.drive("r1", driver)
+        till.drive("p1", display := SerialDisplay("/dev/no-display", timeout=TIMEOUT, pause=PAUSE))
+        till.drive("s1", scanner := WedgeScanner("/dev/input/no-scanner", pause=PAUSE))
+        printer = stack.enter_context(till.printer("r1").in_use())
+        told("a wrong path", (errno.ENOENT, f"{device.path} {missing}"), words_of(driver.port_error))
+        told("that of the others", [f"/dev/no-display {missing}", f"/dev/input/no-scanner {missing}"],
+             [one.port_error.strerror for one in (display, scanner)])
+        told("it keeps no trace", (None, None), (driver.port_error.__traceback__, driver.port_error.__context__))
+        fault = fault_of(printer.print, TEXT)
+        told("a call says it", (108, f"The printer is off: {device.path} {missing}."), (fault.code, fault.reason))
+        told("that of a drawer too", f"The drawer is off: {device.path} {missing}.",
+             fault_of(till.drawer("d1").open_drawer).reason)
+        told("that of a display too", f"The display is off: /dev/no-display {missing}.",
+             fault_of(stack.enter_context(till.display("p1").in_use()).display_text, b"A", 0).reason)
+        stack.enter_context(device)
+        until(lambda: till.run_devices(0.05) and raised(printer.print, TEXT) is None)
+        told("once it is open", (True, None), (driver.is_online, driver.port_error))
+        device.mute()
+        until(lambda: till.run_devices(0.01) is not None and not driver.is_online)
+        told("a printer that says nothing at an open port", (None, "The printer is off."),
+             (driver.port_error, fault_of(printer.print, TEXT).reason))
+        device.mute(False)
+        device.pull_plug()
+        until(lambda: till.run_devices(0.01) is not None and driver.port_error is not None)
+        told("a cable that is out", f"{device.path} {missing}", driver.port_error.strerror)
+    with contextlib.ExitStack() as stack:
+        device = stack.enter_context(Printer(cable("serial")))
+        first = stack.enter_context(contextlib.closing(kijolvar.port_of(device.path)))
+        first.open()
+        second = kijolvar.port_of(device.path)
+        told("a port that another one has", f"{device.path} is in use", refusal(second)[1])
+        told("the port has it too", f"{device.path} is in use", second.open_error.strerror)
+    barred = CHECKS.work / "barred"
+    barred.touch(0o000)
+    told("missing rights", repr((errno.EACCES, f"{barred} can't be opened: Permission denied")),
+         without_rights(lambda: refusal(kijolvar.FilePort(barred))))
+    told("a driver without a port", None, Driver().port_error)
+
+
+def words_of(fault):
+    """The system's number and text of a fault of a port."""
+    return fault.errno, fault.strerror
+
+
 def name_of(call, *words, **named):
     """The name of what a call raises, or None."""
     try:
@@ -2244,6 +2338,11 @@ def try_display_that_was_off():
                 time.sleep(0.06)
                 told(f"over {kind}: a row after a while", (None, True), (
                     raised(display.display_text_at, 1, 0, b"Eggs"), shows(b"Bread" + b" " * 15 + b"Eggs" + b" " * 16)))
+            starts()
+            now = time.clock_gettime
+            with mock.patch("time.clock_gettime", lambda clock: now(clock) + 15):
+                told(f"over {kind}: a row after the machine was suspended", (None, True), (
+                    raised(display.display_text_at, 1, 0, b"Rice"), shows(b"Bread" + b" " * 15 + b"Rice" + b" " * 16)))
 
 
 def try_flow():
@@ -3358,10 +3457,12 @@ def try_refusals():
         told("nobody has its port", False, driver.link.port.is_open)
     with opened(PROFILE.replace("near = 20", f"near = {MOST_LINES}")) as till:
         told("near its end for ever", "ValueError", name_of(till.drive, "r1", EscPosPrinter("/dev/null")))
-    told("no such cutter", "ValueError", name_of(EscPosPrinter, "/dev/null", cutter="axe"))
+    told("no such cutter", "cutter is 'both', 'full', 'partial' or 'absent': not 'none'",
+         text_of(EscPosPrinter, "/dev/null", cutter="none"))
     told("no such pin", "ValueError", name_of(EscPosPrinter, "/dev/null", pin=3))
     told("no such roll", "ValueError", name_of(EscPosPrinter, "/dev/null", lines=MOST_LINES + 1))
-    told("no such protocol", "ValueError", name_of(SerialDisplay, "/dev/null", "morse"))
+    told("no such protocol", "protocol is 'cd5220' or 'escpos': not 'morse'",
+         text_of(SerialDisplay, "/dev/null", "morse"))
     told("no such timeout", ["ValueError"] * 14, [name_of(made, "/dev/null", timeout=timeout) for timeout in (
         0, 0.0, -1.0, math.nan, math.inf, -math.inf, 1e10) for made in (EscPosPrinter, SerialDisplay)])
     told("no such pause", ["ValueError"] * 15, [name_of(made, "/dev/null", pause=pause) for pause in (
@@ -3373,7 +3474,13 @@ def try_refusals():
     told("that of a pause too", "the pause is 0 to 2,147,483 seconds, such as 1.0: not nan",
          text_of(WedgeScanner, "/dev/null", pause=math.nan))
     told("no such speed", "ValueError", name_of(SerialPort, "/dev/ttyS0", 9601))
-    told("no such parity", "ValueError", name_of(SerialPort, "/dev/ttyS0", parity="odder"))
+    told("no such parity", "parity is 'none', 'even' or 'odd': not 'odder'",
+         text_of(SerialPort, "/dev/ttyS0", parity="odder"))
+    told("no such flow control", "flow is 'none', 'rts-cts' or 'xon-xoff': not 'dtr'",
+         text_of(SerialPort, "/dev/ttyS0", flow="dtr"))
+    told("a port's error has its number and path once",
+         "[Errno 2] /dev/no-port can't be opened: No such file or directory",
+         str(fault_of(kijolvar.port_of("/dev/no-port").open)))
     told("ports", ["FilePort", "SerialPort", "TcpPort tcp://a:1", "TcpPort tcp://a:1", "TcpPort tcp://a:9100",
                    "TcpPort tcp://[::1]:1", "TcpPort tcp://[::1]:9100"],
          [type(port).__name__ + f" {port.name}" * isinstance(port, kijolvar.TcpPort) for port in map(
@@ -3564,7 +3671,7 @@ def random_troubles(device, chance, unless):
         "silence": (device.hang, lambda: device.hang(False)),
         "lost answers": (device.mute, lambda: device.mute(False)),
         "garbage": (lambda: device.garbage(noise), lambda: None),
-        "slow": (lambda: device.slow(chance.choice([0.01, 0.3])), lambda: device.slow(0)),
+        "slow": (lambda: device.slow(chance.choice([0.01, TIMEOUT / 2])), lambda: device.slow(0)),
         "jam": (lambda: device.breaks(True), lambda: device.breaks(False)),
     }
     names = [name for name in troubles if name not in unless]
@@ -3600,10 +3707,17 @@ def random_round(shop, chance, number, unless):
             told(f"round {number}: {', '.join(troubles)} ends", True, False)
             break
     end_troubles(device, troubles)
-    shop.settle()
+    if not until(lambda: shop.settle() and is_over(shop)):
+        told(f"round {number}: {', '.join(troubles)} is over", True, False)
     shop.till.run_devices()
     list(control.events())
     return troubles.keys()
+
+
+def is_over(shop):
+    """Whether nothing is left of troubles: noise may have answered a question that is out, and a printer that was off
+    for a moment doesn't say by itself how it is until it is asked."""
+    return shop.device._is_automatic != shop.device.is_simple and not shop.driver.link._unanswered
 
 
 def end_troubles(device, troubles):
@@ -3726,7 +3840,7 @@ def try_guide():
     with contextlib.ExitStack() as stack:
         printer = stack.enter_context(Printer(cable(), 8, 5, 2))
         display, scanner = stack.enter_context(Display(cable(), 2, 4)), stack.enter_context(Scanner(cable()))
-        ports = {"/dev/usb/lp0": printer.path, "/dev/ttyUSB0": display.path,
+        ports = {"/dev/usb/lp0": printer.path, "/dev/serial/by-id/usb-display": display.path,
                  "/dev/input/by-id/usb-scanner-event-kbd": scanner.path}
         programs = [re.sub("|".join(ports), lambda found: ports[found[0]], text) for text in programs]
         names = {}

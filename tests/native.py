@@ -28,7 +28,8 @@ TOP = pathlib.Path(__file__).resolve().parent.parent
 sys.path.insert(0, str(TOP / "tests"))
 
 from checks import Checks
-from emulator import Cut, Display, Line, Printer, PtyCable, Scanner, SilentHost, TcpCable
+from emulator import (Cut, Display, HearingPrinter, LatePrinter, Line, Printer, PtyCable, Scanner, SilentHost, TcpCable,
+                      first_strange)
 
 PROFILE = """
 [[device]]
@@ -130,6 +131,9 @@ class Host:
 
 
 TEXT = b"First line\n\x1b|cA\x1b|bCSecond line\n\x1b|N\x1b|rAThird line\n"
+# Why a printer refuses a text that isn't ASCII (abi/documentation.toml).
+NO_ASCII = ("The station isn't the receipt; or the data has more than 4,096 bytes, a byte that isn't ASCII text, LF, CR "
+            "or ESC, or a number out of range.")
 PRINTED = [("left", b"First line"), ("center", b"Second line"), ("right", b"Third line")]
 TROUBLES = {
     "the cover is opened": (lambda device: device.cover(True), lambda device: device.cover(False), "err 114 201"),
@@ -197,8 +201,11 @@ def try_plain():
         shop = Shop(stack, is_claimed=False, timeout=AMPLE)
         told("a typed call", "ok", shop.host.ask(f"print {TEXT.hex()}"))
         told("the paper of a typed call", PRINTED, shop.paper())
+        told("why a letter is refused", NO_ASCII, shop.host.ask(f"reason {'Brötchen'.encode().hex()}"))
+        told("a line that is printed has no reason", "", shop.host.ask(f"reason {TEXT.hex()}"))
         shop.device.cover(True)
         told("the cover is open", "E_EXTENDED 201", shop.host.ask(f"print {TEXT.hex()}"))
+        told("why a call is refused then", "The cover is open.", shop.host.ask(f"reason {TEXT.hex()}"))
     with contextlib.ExitStack() as stack:
         shop = Shop(stack, timeout=AMPLE)
         shop.device.load(21)
@@ -614,6 +621,31 @@ def try_asynchronous():
             told(f"{name}: the paper", PRINTED, shop.paper())
 
 
+def try_immediate_between():
+    """Output that waits fails and comes out later, and something else is printed at once before it is tried again: it
+    is printed once. If it was given up, the same output is a new one."""
+    for is_given_up in (False, True):
+        name = f"something between{', and given up' * is_given_up}"
+        with contextlib.ExitStack() as stack:
+            shop = Shop(stack, timeout=AMPLE)
+            device, ask, line = shop.device, shop.host.ask, shop.host.line
+            told(f"{name}: it waits", "ok", line("set r AsyncMode true"))
+            device.after_characters(3, lambda device=device: device.cover(True))
+            told(f"{name}: accepted", "ok", shop.print(TEXT))
+            told(f"{name}: it fails", "failed 114 201", line("work r1"))
+            device.cover(False)
+            told(f"{name}: it comes out later", True, until(lambda: ask("run 10") and len(device.receipt()) == 3))
+            told(f"{name}: that is heard", True, until(
+                lambda: ask("run 10") and not (device._sends or device.cable.unread())) and shop.settle())
+            told(f"{name}: another order", "ok", line("call r printImmediate 2 4174206f6e63650a"))
+            until(lambda: line("deliver r") == "none")
+            if is_given_up:
+                told(f"{name}: given up, and accepted again", ["ok", "ok"], [line("call r clearOutput"), shop.print(TEXT)])
+            told(f"{name}: again", f"done {1 + is_given_up}", line("work r1"))
+            told(f"{name}: the paper", [*PRINTED, ("left", b"At once"), *(PRINTED * is_given_up)], shop.paper())
+            told(f"{name}: what was late", str(int(is_given_up)), shop.late())
+
+
 def try_scan_between():
     """A call prints one request, and a code that comes meanwhile is told before the last is printed."""
     with contextlib.ExitStack() as stack:
@@ -787,6 +819,63 @@ def try_off_while_stopped():
             thread.join()
             told(f"{name}: again", True, is_done_after_all(shop))
             told(f"{name}: each line is whole", [], missing(shop))
+
+
+def try_off_while_suspended():
+    """The machine is suspended within an order, and the printer goes on meanwhile. On a line that holds bytes back it
+    was off first: the end of the line that it gets and acknowledges isn't told as the whole."""
+    if WORDS.preloaded is None:
+        return
+    for kind in ("holds", "asked holds", "usb", "serial", "asked"):
+        name = f"suspended, over {kind}"
+        with contextlib.ExitStack() as stack:
+            stops, suspended, is_waiting = CHECKS.work / "stops", CHECKS.work / "suspended", threading.Event()
+            suspended.unlink(missing_ok=True)
+            shop = Shop(stack, kind, timeout=AMPLE, LD_PRELOAD=WORDS.preloaded, STOPS=str(stops),
+                        SUSPENDED=str(suspended))
+            device, process = shop.device, shop.host.program.pid
+            device.ROOM = 8
+            device.after_characters(1, device.hang, is_waiting.set)
+
+            def suspends():
+                is_waiting.wait(PATIENCE)
+                stops.touch()
+                told(f"{name}: it stands still", True, until(lambda: is_still(process)))
+                if "holds" in kind:
+                    device.pull_plug()
+                    device.plug_in()
+                device.hang(False)
+                told(f"{name}: the printer goes on", True, device.wait(lambda: len(device.receipt()) > 0))
+                suspended.touch()
+                os.kill(process, signal.SIGCONT)
+            thread = threading.Thread(target=suspends)
+            thread.start()
+            told(f"{name}: the answer", "err 111" if "holds" in kind else "ok", print_receipt(shop))
+            thread.join()
+            told(f"{name}: again", True, "holds" not in kind or is_done_after_all(shop))
+            told(f"{name}: each line is whole", [], missing(shop))
+
+
+def try_display_while_suspended():
+    """The machine is suspended, and a display is off and on again meanwhile: the next order shows all its rows."""
+    if WORDS.preloaded is None:
+        return
+    with contextlib.ExitStack() as stack:
+        suspended = CHECKS.work / "suspended"
+        suspended.unlink(missing_ok=True)
+        device = stack.enter_context(Greeting(cable("stays")))
+        host = Host(stack, LD_PRELOAD=WORDS.preloaded, SUSPENDED=str(suspended))
+        told("a display", "ok", host.ask(f"display p1 {device.path} pause 10"))
+        host.lines("new p LineDisplay", "open p p1", "claim p 0", "set p DeviceEnabled true")
+        for is_off, row in ((False, 0), (True, 1)):
+            if is_off:
+                device.pull_plug()
+                device.plug_in()
+                told("it greets", True, device.shows().startswith(b"Welcome"))
+                suspended.touch()
+            told(f"row {row}", "ok", host.line(f"call p displayTextAt {row} 0 546f74616c 0"))
+            wanted = b"Total".ljust(20) + (b"Total" if is_off else b"").ljust(20)
+            told(f"row {row} is shown", True, until(lambda: device.shows() == wanted, 2))
 
 
 def try_pause_in_a_line():
@@ -1020,11 +1109,27 @@ def opens_cover_within(shop):
     shop.device.after_characters(5, lambda: shop.device.cover(True))
 
 
-class HearingPrinter(Printer):
-    """A printer whose line holds bytes back only while it has no power: it hears questions while it is offline."""
-
-    def may_hear(self):
-        return self.is_on
+def try_off_behind_a_cause():
+    """A printer that is asked tells why it is offline while its line holds back the end of what it was sent, and is off
+    and on again: the end that it prints then isn't told as the whole."""
+    with contextlib.ExitStack() as stack:
+        shop = Shop(stack, "asked holds", made=LatePrinter)
+        device, ask = shop.device, shop.host.ask
+        told("an order", "ok", shop.print(b"Before\n"))
+        device.ROOM = 8
+        device.cover(True)
+        told("it is asked for its paper", True, until(lambda: ask("run 10") and device.kept is not None))
+        timer = threading.Timer(0.2, device.answers)
+        timer.start()
+        told("its cover is open", "err 114 201", print_receipt(shop))
+        timer.join()
+        device.pull_plug()
+        end = time.monotonic() + 1.5 * TIMEOUT / 1000
+        until(lambda: ask("run 10") and time.monotonic() > end)
+        device.plug_in()
+        device.cover(False)
+        told("it is done after all", True, is_done_after_all(shop))
+        told("each line is whole", [], missing(shop))
 
 
 def try_cause_behind_a_line():
@@ -3045,7 +3150,8 @@ def random_round(shop, chance, number, unless):
 
 
 def try_random():
-    """Random trouble: each order that was answered ok is on the paper once, in order, and nothing else is."""
+    """Random trouble: each order that was answered ok is on the paper once, in order, and nothing else is. Only from a
+    line on whose acknowledgement was lost, what was sent is there once more."""
     for kind, unless in KINDS.items():
         chance, counts, wanted = random.Random(f"{WORDS.seed} {kind}"), {}, []
         with contextlib.ExitStack() as stack:
@@ -3054,7 +3160,10 @@ def try_random():
                 lines, troubles = random_round(shop, chance, number, unless)
                 wanted += lines
                 counts |= {name: counts.get(name, 0) + 1 for name in troubles}
-            told(f"random faults over {kind}: the paper", wanted, [item[1] for item in shop.paper()])
+            shop.device.wait(lambda: shop.device.is_idle)
+            found = [item.characters for item in shop.device.receipt()]
+            strange = first_strange(found, shop.device.runs, wanted)
+            told(f"random faults over {kind}: the paper", None, strange and (strange, found[max(strange - 4, 0):strange + 4]))
             told(f"random faults over {kind}: no late order", "0", shop.late())
             print(f"{WORDS.name}, {WORDS.faults // len(KINDS)} random faults over {kind}: {counts}", flush=True)
 

@@ -232,7 +232,7 @@ ends 'a move of no file' 4 "pos_console: none.disk: $opened: No such file or dir
 told 'a move makes no file' '' "$(ls none.disk 2> /dev/null)"
 printf abc > abc.disk
 ends 'a move of a short file' 4 \
-  "pos_console: abc.disk: isn't formatted: format it first, which makes totals without files" migrate --disk abc.disk
+  "pos_console: abc.disk: has no totals: it isn't formatted, or it was cut off" migrate --disk abc.disk
 told 'a move keeps a short file' abc "$(cat abc.disk)"
 cp till.disk moved.disk
 ends 'a move' 0 '' migrate --disk moved.disk
@@ -247,7 +247,7 @@ ends 'format refuses totals that were moved' 4 "pos_console: moved.disk: $format
 { head -c 12 till.disk; printf '\003'; tail -c +14 till.disk; } > damaged.disk
 cp damaged.disk kept
 ends 'a move of damaged totals' 4 \
-  'pos_console: damaged.disk: its totals are damaged: keep it, and read a copy of it by hand' migrate --disk damaged.disk
+  'pos_console: damaged.disk: its totals are damaged: keep it, and restore a copy, or salvage it' migrate --disk damaged.disk
 told 'a move keeps damaged totals' same "$(cmp -s damaged.disk kept && echo same)"
 cp till.disk small.disk
 truncate -s 65536 small.disk
@@ -447,7 +447,7 @@ untold 'files of no file' none.disk "can't be read: No such file or directory (o
 told 'no file is made to be told of' '' "$(ls none.disk 2> /dev/null)"
 untold 'files of a folder' . "can't be read: is no file, but a folder, a pipe or a device"
 untold 'files of a short file' abc.disk 'is shorter than a totals file, which has 327680 bytes'
-untold 'files of no totals' zero.disk "isn't formatted: format it first, which makes totals without files"
+untold 'files of no totals' zero.disk "has no totals: it isn't formatted, or it was cut off"
 untold 'files of what has no sync' /proc/version "can't be synced: check the device that it is on"
 damage='its totals are damaged at byte'
 untold 'files of a body that is longer than its files' damaged.disk "$damage 15: bytes of the current body are left over"

@@ -148,6 +148,11 @@ fi
 if [ "${#mypy[@]}" -gt 1 ] || command -v mypy > "$work/said"; then
   runs "mypy --strict" "${mypy[@]}" --strict --cache-dir "$work/mypy" "$top/abi/python/kijolvar"
   [ -s "$work/said" ] && tail -n 5 "$work/said"
+  { printf 'import kijolvar\n\nprinter = kijolvar.open().printer("r1")\n'
+    sed -n '/^@printer.listen/,/^```/{/^```/!p}' "$top/docs/reference/python.md"; } > "$work/listener.py"
+  runs "the document has a listener" grep -q '^def ' "$work/listener.py"
+  MYPYPATH=$top/abi/python runs "mypy --strict of the document's listener" \
+    "${mypy[@]}" --strict --cache-dir "$work/mypy" "$work/listener.py"
 else
   echo "skipped: mypy isn't installed"
 fi

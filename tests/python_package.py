@@ -4,8 +4,9 @@ Usage: python_package.py LIBRARY PROGRAM. PROGRAM is pos_console, which moves a 
 'N passed, M failed'.
 """
 import builtins
-import collections
+import collections.abc
 import contextlib
+import copy
 import dataclasses
 import errno
 import fcntl
@@ -497,6 +498,10 @@ def try_events():
             told("a scan", [kijolvar.DataEvent(scanner)], list(scanner.events()))
             told("what it shows", (b"\x00ab", b"ab", 104, False),
                  (scanner.scan_data, scanner.scan_data_label, scanner.scan_data_type, scanner.data_event_enabled))
+            till.device("s1").scan(kijolvar.SCAN_SDT_Code39, b"A", b"A")
+            scanner.data_event_enabled = True
+            told("a type of bar code by its name", (1, 108, kijolvar.ScanDataType.SCAN_SDT_Code39),
+                 (len(list(scanner.events())), scanner.scan_data_type, kijolvar.ScanDataType(scanner.scan_data_type)))
         told("a scanner is released at the end", (False, False), (scanner.claimed, scanner.device_enabled))
         printer = till.printer("r1")
         printer.power_notify = PN_ENABLED
@@ -510,6 +515,38 @@ def try_events():
 
 
 # ---- claims, names, misuse
+
+def try_types_of_codes():
+    """The types of codes, by the AIM identifiers that the drivers of Rust know too."""
+    text = (TOP / "abi/rust/kijolvar/src/drivers.rs").read_text()
+    found = re.findall(r"\(b'(\w)', (?:b'(\d)'|_)\) => (\d+)", text)
+    told("AIM identifiers", [int(kind) for _, _, kind in found],
+         [kijolvar._codes.kind_of(f"{letter}{digit or 9}".encode()) for letter, digit, _ in found])
+    told("how many, and another one", (18, kijolvar.SCAN_SDT_OTHER), (len(found), kijolvar._codes.kind_of(b"X0")))
+    told("each constant is one of the group", {kind.name: kind for kind in kijolvar.ScanDataType},
+         {name: getattr(kijolvar, name) for name in kijolvar.__all__ if name.startswith("SCAN_SDT_")})
+
+
+def try_copies():
+    """A copy would end what the till, a control or a port has. That of an event is one of the same control."""
+    with opened() as till:
+        totals = till.totals("t1")
+        totals.create("SALES", 4)
+        for noun, one in (("a till", till), ("a session", till._session), ("a control", totals),
+                          ("a file of totals", totals["SALES"]), ("a port", kijolvar.FilePort("/dev/null"))):
+            told(f"{noun} can't be copied", [("TypeError", f"{noun} can't be copied or pickled")] * 2,
+                 [(type(fault).__name__, str(fault)) for fault in (raised(copy.copy, one), raised(pickle.dumps, one))])
+        told("nor deeply", ["TypeError"] * 3, [name_of(copy.deepcopy, one) for one in (
+            till, totals["SALES"], kijolvar.EscPosPrinter("/dev/null"))])
+        gc.collect()
+        told("the till goes on", (False, [b"SALES"]), (till.is_closed, list(totals)))
+        drawer = till.drawer("d1")
+        drawer.open_drawer()
+        event = till.next_event()
+        told("an event as a dict", {"control": drawer, "status": event.status}, dataclasses.asdict(event))
+        told("its copy", (True, event), (copy.deepcopy(event).control is drawer, copy.copy(event)))
+        told("an event can't be pickled", "a control can't be copied or pickled", str(raised(pickle.dumps, event)))
+
 
 def try_listeners():
     """A listener makes an event for a control that was asked before."""
@@ -869,7 +906,19 @@ def try_totals():
         told("names that no file can have", [False] * 4, ["K\u00e4se" in totals, "A" * 11 in totals, "" in totals,
                                                          b"A" * 70_000 in totals])
         told("one that isn't", "NoExistError", name_of(lambda: totals["NONE"]))
-        told("which is a LookupError", True, isinstance(raised(lambda: totals["NONE"]), LookupError))
+        told("which is a KeyError", True, isinstance(raised(lambda: totals["NONE"]), KeyError))
+        told("any mapping's methods", ([b"SALES", b"COUNT"], [(b"SALES", sales), (b"COUNT", totals["COUNT"])],
+                                       [4, 2], True),
+             (list(totals.keys()), list(totals.items()), [file.size for file in totals.values()],
+              isinstance(totals, collections.abc.Mapping)))
+        told("a dict of it", {b"SALES": sales, b"COUNT": totals["COUNT"]}, dict(totals))
+        told("get", (sales, sales, None, 0, None, None),
+             (totals.get("SALES"), totals.get(b"SALES", 0), totals.get("NONE"), totals.get("NONE", default=0),
+              totals.get("K\u00e4se"), totals.get(b"A" * 70_000)))
+        told("what is in its views", (True, False, False), (b"SALES" in totals.keys(), b"NONE" in totals.keys(),
+                                                            (b"NONE", sales) in totals.items()))
+        told("it names the file", ["find of HardTotals t1: E_NOEXIST (109): No file has the name NONE."] * 2,
+             [str(raised(lambda: totals[name])) for name in ("NONE", b"NONE")])
         totals["SALES"].write(0, b"\x00\x00\x01\xc2")
         totals.write(totals["COUNT"], 0, b"\x00\x01")
         told("what is written", (b"\x01\xc2", b"\x01", b"\x00\x01"),
@@ -927,14 +976,27 @@ def try_totals():
         told("deleted", [b"TOTAL"], list(other))
         fault = raised(opened, totals=path)
         told("another till", ("BlockingIOError", str(path)), (type(fault).__name__, fault.filename))
-        told("what it says", "is in use: close the other program that has it open", fault.strerror)
+        told("what it says", "is in use: close the other program, or the other till of this one, that has it open",
+             fault.strerror)
         told("the till's repr", f"<kijolvar.Till: totals in {str(path)!r}, 2 controls>", repr(till))
     with opened(totals=str(path)) as till:
         totals = till.totals("t1")
         told("the next till finds them", [(b"TOTAL", b"\x07" * 4)],
              [(file.name, file.read()) for file in totals.files()])
         totals["TOTAL"].delete()
-    told("creating it again", "FileExistsError", name_of(kijolvar.create_totals, path, LIBRARY))
+    fault = raised(kijolvar.create_totals, path, LIBRARY)
+    told("creating it again", ("FileExistsError", f"[Errno 17] File exists: {str(path)!r}"),
+         (type(fault).__name__, str(fault)))
+    fault = raised(kijolvar.create_totals, "/proc/till.totals", LIBRARY)
+    told("where nothing can be created", (True, "/proc/till.totals"), (isinstance(fault, OSError), fault.filename))
+    new = WORK / "new.totals"
+    for number in (errno.ENOSPC, errno.EIO):
+        with mock.patch("kijolvar._files.write_whole", side_effect=OSError(number, os.strerror(number))):
+            fault = raised(kijolvar.create_totals, new, LIBRARY)
+        told("on a disk that fails", (number, str(new), False), (fault.errno, fault.filename, new.exists()))
+    for fault in (kijolvar.PortError(errno.EIO, "a handler's"), InterruptedError("late")):
+        with mock.patch("kijolvar._files.write_whole", side_effect=fault):
+            told("what a handler raises", fault, raised(kijolvar.create_totals, new, LIBRARY))
     with kijolvar.open_totals(path) as file:
         with opened(totals=file) as till:
             told("a file of one's own", 0, len(till.totals("t1")))
@@ -957,6 +1019,8 @@ def try_totals():
         told("stays open", False, file.closed)
     (WORK / "short").write_bytes(bytes(100))
     told("a file that is too short", "TooSmallError", name_of(opened, totals=WORK / "short"))
+    told("it names the file", f"{WORK / 'short'}: the file is too short for totals",
+         str(raised(opened, totals=WORK / "short")))
     with open(WORK / "short", "rb") as short:
         told("and isn't locked then", None, raised(fcntl.flock, short, fcntl.LOCK_EX | fcntl.LOCK_NB))
     (WORK / "zeros").write_bytes(bytes(KIJOLVAR_DISK_LENGTH))
@@ -1265,6 +1329,8 @@ def try_files():
     told("the files stay", (2, 1, held), (found.layout, found.sequence, found.files))
     told("the slots of layout 1 stay", True, path.read_bytes()[:65536] == before[:65536])
     told("moved already", "MovedError", name_of(kijolvar.migrate, path, LIBRARY))
+    told("it names the file", f"{path}: the totals have layout 2 already: there is nothing to do",
+         str(raised(kijolvar.migrate, path, LIBRARY)))
     parts, reads = [], os.pread
 
     def reads_some(file, count, at):
@@ -1296,6 +1362,9 @@ def try_files():
         path.write_bytes(content)
         told(f"a file that is {name}", (wanted,) * 3,
              tuple(name_of(call, path, LIBRARY) for call in (kijolvar.files, kijolvar.check, kijolvar.migrate)))
+        told(f"a file that is {name} is named", [f"{path}: the file"] * 3,
+             [str(raised(call, path, LIBRARY))[:len(f"{path}: the file")]
+              for call in (kijolvar.files, kijolvar.check, kijolvar.migrate)])
         told(f"a file that is {name} stays", content, path.read_bytes())
 
 
@@ -1968,6 +2037,10 @@ def try_profiles():
     till_file = WORK / "till.toml"
     till_file.write_text(drawer.format("d"))
     told("a path that isn't told as one", True, "pass the path of a file as a pathlib.Path" in str(raised(opened, str(till_file))))
+    told("nor is there such a file", True, str(raised(opened, "no-till.toml")).endswith(
+        ": there is no file 'no-till.toml', and a str is the text of a profile; "
+        "pass the path of a file as a pathlib.Path"))
+    told("a line that is no path", False, "pathlib" in str(raised(opened, 'name = "r1')))
     with opened() as till:
         told("a device that isn't there", True, "d9" in str(raised(till.drawer, "d9")))
         told("a name that is no text", "TypeError", name_of(till.drawer, 5))
@@ -2242,7 +2315,8 @@ def try_reply_lines():
 
 def main():
     try:
-        for try_it in (try_scripts, try_threads, try_fork, try_closed, try_replies, try_events, try_listeners,
+        for try_it in (try_scripts, try_threads, try_fork, try_closed, try_replies, try_events, try_copies,
+                       try_types_of_codes, try_listeners,
                        try_kept_listeners, try_claims,
                        try_misuse, try_many_controls, try_totals, try_disabled_transactions, try_files,
                        try_replaced_totals, try_handlers, try_closing_handlers, try_forking_handlers, try_any_event,

@@ -103,7 +103,7 @@ ends '--version' 0 '' 'kijolvar 0.1.0' --version
 ends '-V' 0 '' 'kijolvar 0.1.0' -V
 told 'the version is that of the changes' 1 "$(grep -c '^## 0.1.0' "$top/CHANGELOG.md")"
 
-# refuses NAME REASON WORD ..: whether the words ask for nothing
+# refuses NAME REASON WORD ..: whether the command line is wrong
 refuses() {
   local name=$1 reason=$2
   shift 2
@@ -127,7 +127,7 @@ refuses 'an option of another command' "unexpected argument '--json' found" chec
 refuses 'an option twice' "the argument '--quiet' cannot be used multiple times" check a --quiet --quiet
 refuses 'a word after help' "unexpected argument 'check' found" help check
 ends 'a word that is no text' 3 "kijolvar: error: a word is not UTF-8"$'\n'"$hint_words" '' "$(printf '\377')"
-told 'no file is made for words that ask for nothing' 'err help.txt out till.toml' "$(ls | tr '\n' ' ' | sed 's/ $//')"
+told 'no file is made for a wrong command line' 'err help.txt out till.toml' "$(ls | tr '\n' ' ' | sed 's/ $//')"
 
 # --- create
 ends 'create makes a file' 0 '' '' create till.totals
@@ -135,9 +135,38 @@ told 'create: length' 327680 "$(wc -c < till.totals)"
 "$program" format --disk other.totals
 same 'create makes what pos_console makes' till.totals other.totals
 ends 'create refuses totals' 4 \
-  'kijolvar: till.totals: is formatted already: remove it first if its totals may go'$'\n''hint: `kijolvar files FILE` prints what it holds' \
+  'kijolvar: till.totals: is formatted already: remove it first if its totals may go'$'\n''hint: `kijolvar check FILE` says if it is sound' \
   '' create till.totals
 same 'create keeps the totals' till.totals other.totals
+hint_taken='hint: if `create` was cut off, remove FILE and make it again; if its totals were cut off, salvage them'
+
+# leaves NAME FILE: whether `create` refuses a file that is no totals file, and leaves it as it is
+leaves() {
+  cp "$2" kept
+  ends "create refuses $1" 4 \
+    "kijolvar: $2: is there, and has no whole totals: choose another name"$'\n'"$hint_taken" '' create "$2"
+  same "create keeps $1" "$2" kept
+}
+leaves 'a profile' till.toml
+head -c 327680 /dev/zero | tr '\000' x > letters
+leaves 'other bytes' letters
+head -c 400000 /dev/zero > other
+put other 327679 01
+leaves 'a last byte' other
+head -c 100000 till.totals > other
+leaves 'totals that were cut off' other
+for length in 0 1000 327680 400000; do
+  head -c "$length" /dev/zero > other
+  ends "create makes totals of $length zero bytes" 0 '' '' create other
+  ends "totals of $length zero bytes" 0 '' 'sound: layout 1, sequence 1, records 0, files 0' check other
+done
+cp till.totals other
+put other 9 0000ffff
+cp other kept
+ends 'create refuses damaged totals' 4 \
+  'kijolvar: other: is formatted already: remove it first if its totals may go'$'\n''hint: `kijolvar check FILE` says if it is sound' \
+  '' create other
+same 'create keeps damaged totals' other kept
 ends 'create in no folder' 4 "kijolvar: none/a: $unopened: $none"$'\n'"$hint_path" '' create none/a
 
 # --- check
@@ -149,11 +178,11 @@ ends 'check counts' 0 '' 'sound: layout 1, sequence 1, records 3, files 2' check
 ends 'check of no file' 4 "kijolvar: none.totals: $unread: $none"$'\n'"$hint_path" '' check none.totals
 ends 'a path with a line feed' 4 "kijolvar: a\\nb: $unread: $none"$'\n'"$hint_path" '' check "$(printf 'a\nb')"
 head -c 327680 /dev/zero > zero.totals
-unformatted='no totals: not formatted'$'\n''to do: copy it first if it had any; `kijolvar create FILE` makes new ones'
+unformatted='no totals: not formatted'$'\n''to do: is it the right file? Restore a copy if it had totals; `kijolvar create FILE` makes new ones'
 ends 'check of bytes without totals' 1 '' "$unformatted" check zero.totals
 ends 'the same, quiet' 1 '' '' check --quiet zero.totals
 head -c 100000 till.totals > short.totals
-short='no totals: shorter than a totals file, which has 327680 bytes'$'\n''to do: see that it is the right file'
+short='no totals: shorter than a totals file, which has 327680 bytes'$'\n''to do: is it the right file? If it was cut off, restore a copy, else `kijolvar salvage`'
 ends 'check of a short file' 1 '' "$short" check short.totals
 : > empty.totals
 ends 'check of an empty file' 1 '' "$short" check empty.totals
@@ -168,7 +197,7 @@ breaks() {
   put damaged.totals "$4" "$5"
   cp damaged.totals kept
   ends "$name: check" 2 '' \
-    "damaged at byte $place: $rule"$'\n''to do: copy the file before anything else, and let no till open it' \
+    "damaged at byte $place: $rule"$'\n''to do: copy the file first, and let no till open it; then restore a copy, else `kijolvar salvage` it' \
     check damaged.totals
   ends "$name: check, quiet" 2 '' '' check --quiet damaged.totals
   for words in 'files damaged.totals' 'files --json damaged.totals' 'cat damaged.totals A' 'backup damaged.totals new' \
@@ -178,12 +207,14 @@ breaks() {
       "kijolvar: damaged.totals: its totals are damaged at byte $place: $rule"$'\n'"$hint_salvage" '' $words
   done
   ends "$name: migrate" 2 \
-    'kijolvar: damaged.totals: its totals are damaged: keep it, and read a copy of it by hand'$'\n''hint: `kijolvar check FILE` names the rule that is broken' \
+    'kijolvar: damaged.totals: its totals are damaged: keep it, and restore a copy, or salvage it'$'\n''hint: `kijolvar check FILE` names the rule that is broken' \
     '' migrate damaged.totals
   "$tool" salvage damaged.totals new > out 2> err
   told "$name: salvage: status" "$6" $?
   if [ "$6" -eq 0 ]; then
-    told "$name: salvage says where" "closed gate $7, broken at $place: $rule" "$(cat out)"
+    local lost='this and all later changes are left out'
+    [ "$7" -ne 32768 ] || lost='this image is left out, and the one before it is used'
+    told "$name: salvage says where" "closed gate $7, broken at $place: $rule; $lost" "$(cat out)"
     told "$name: what was salvaged" "$8" "$("$tool" check new)"
     rm new
   else
@@ -265,9 +296,11 @@ told 'files --json: layout 2' same "$(json moved.totals)"
 cp moved.totals kept
 ends 'a second move' 4 'kijolvar: moved.totals: has layout 2 already: there is nothing to do'$'\n''hint: nothing is left to do' '' migrate moved.totals
 same 'a second move keeps the bytes' moved.totals kept
-ends 'migrate of bytes without totals' 1 \
-  "kijolvar: zero.totals: isn't formatted: format it first, which makes totals without files"$'\n''hint: if it had totals, copy it first; `kijolvar create FILE` makes new ones in it' \
-  '' migrate zero.totals
+unmoved="has no totals: it isn't formatted, or it was cut off"$'\n''hint: is it the right file? If it had totals, restore a copy of it, or salvage what is left'
+ends 'migrate of bytes without totals' 1 "kijolvar: zero.totals: $unmoved" '' migrate zero.totals
+cp short.totals kept
+ends 'migrate of a file that was cut off' 1 "kijolvar: short.totals: $unmoved" '' migrate short.totals
+same 'migrate keeps a file that was cut off' short.totals kept
 ends 'migrate of no file' 4 "kijolvar: none.totals: $unopened: $none"$'\n'"$hint_path" '' migrate none.totals
 { for at in $(seq 250); do printf 'call a create %s 3 false\n' "$(printf 'f%03d' "$at" | od -An -tx1 | tr -d ' \n')"; done; } |
   script moved.totals
@@ -340,7 +373,8 @@ filler() { printf 'call a write 1 0 %s\n' "$(head -c 8192 /dev/zero | tr '\000' 
 { printf 'call a create 41 8192 false\n'; filler 001; filler 002; } | script two.totals
 put two.totals 32777 0000ffff
 ends 'salvage of the image before' 0 '' \
-  'closed gate 32768, broken at 32777: the length of the current body is above the longest' salvage two.totals saved3.totals
+  'closed gate 32768, broken at 32777: the length of the current body is above the longest; this image is left out, and the one before it is used' \
+  salvage two.totals saved3.totals
 told 'salvage of the image before: what is there' 0101 "$("$tool" cat saved3.totals A --hex | head -c 4)"
 
 # --- explain

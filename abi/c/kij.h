@@ -17,11 +17,12 @@
  * **Results.** Each call returns a kij_result. Its code is KIJ_OK (0), a result code of the standard (KIJ_E_CLOSED and
  * so on, from 101 on), or a code of enum kij_code. If it isn't KIJ_OK, the call changed nothing, unless the code's
  * comment says otherwise, and wrote nothing through its pointers. Hardware that a driver has may have done a part of an
- * order that failed.
+ * order that failed. Any call with a till or a control may return KIJ_BAD_ARGUMENT, KIJ_IN_CALL, KIJ_NO_MEMORY,
+ * KIJ_NO_ANSWER, KIJ_DISK_FAILED or KIJ_BAD_ANSWER. Its comment says what else it returns.
  *
  * **Memory.** The till owns its controls and all that it lends. A text or bytes that a call returns by a pointer are
- * lent: they stay until the next call with the same till. Nothing is yours to free but the till, by kij_close. Each
- * allocation is checked.
+ * lent: they stay until the next call with the same till. Nothing is yours to free but the till, by kij_close. What you
+ * pass is used in the call alone, or copied, but for the context of kij_driver_open. Each allocation is checked.
  *
  * **Threads.** One call at a time for each till; two tills are independent. You may use a till from several threads in
  * turn, if a lock or a join orders the calls. A call that begins while another one of the same till is under way does
@@ -107,8 +108,8 @@ enum kij_code {
     /** The system refused a call on the file of the totals. The extended code is errno: ENOENT if the file is missing,
      * or its folder or /proc to create it; EEXIST if it is there already, EWOULDBLOCK if another till has it. */
     KIJ_SYSTEM = 33,
-    /** An argument can't be passed on: a null pointer, a name that isn't 1 to 16 letters, digits or hyphens, a number
-     * of more than 18 digits, or bytes that are too many for a line (69,000 always fit). */
+    /** An argument can't be passed on: a null pointer, a flag that isn't one, a name that isn't 1 to 16 letters, digits
+     * or hyphens, a number of more than 18 digits, or bytes that are too many for a line (69,000 always fit). */
     KIJ_BAD_ARGUMENT = 34,
     /** The property has another type, or the device another category. */
     KIJ_WRONG_TYPE = 35,
@@ -124,7 +125,7 @@ enum kij_code {
     KIJ_FULL = 41,
     /** The profile has no device of the name, or no peripheral is attached to it. */
     KIJ_BAD_DEVICE = 42,
-    /** The device has no such input. */
+    /** The device has no such input, or its number is out of range. */
     KIJ_BAD_INPUT = 43,
     /** There is no spare of the number, or it serves a device. */
     KIJ_BAD_SPARE = 44,
@@ -138,15 +139,20 @@ enum kij_code {
     KIJ_VACANT = 48,
     /** The device has a driver already. */
     KIJ_DRIVEN = 49,
-    /** A setting of the hardware is out of its range. */
+    /** A setting of the hardware is out of its range, or no port can have the name. */
     KIJ_BAD_SETTINGS = 50
 };
 
 /** Returns what a result means, in English. For most of KIJ_SYSTEM these are the system's own words (strerror). The
- * text is static. */
+ * text is static. kij_reason says why this call was refused. */
 const char *kij_strerror(kij_result result);
 
-/** Returns the name of a result's code, as "E_ILLEGAL" or "KIJ_BAD_PROFILE". The text is static. */
+/** Returns what the result of the till's last call means, in English: why that call was refused, if a control refused
+ * it. Of any other result, and without a till, it is kij_strerror's text. The text is static. */
+const char *kij_reason(const kij_till *till, kij_result result);
+
+/** Returns the name of a result's code, as "E_ILLEGAL" or "KIJ_BAD_PROFILE". KIJ_OK has "E_SUCCESS", and what is no
+ * code "". The text is static. */
 const char *kij_code_name(int code);
 
 /** Returns the name of a result's extended code, as "EPTR_REC_EMPTY"; or "" if it has none. The text is static. */
@@ -155,7 +161,7 @@ const char *kij_extended_name(kij_result result);
 /** Returns the KIJ_VERSION with which the archive was compiled. */
 int kij_version(void);
 
-/** Returns the KIJ_RELEASE with which the archive was compiled. */
+/** Returns the KIJ_RELEASE with which the archive was compiled. The text is static. */
 const char *kij_release(void);
 
 /* ---- Tills ---- */
@@ -179,11 +185,13 @@ enum kij_flags {
  *
  * @param profile the profile's text (TOML, docs/reference/profile.md), which ends in a 0 byte; null or empty is the
     *   built profile
- * @param totals  the path of the file of the totals, or null: then the totals are in memory
+ * @param totals  the path of the file of the totals; null with KIJ_EXISTING: the totals are in memory, and end with the
+ *   till
  * @param flags   one of enum kij_flags
  * @param till    where the till is written
- * @return KIJ_BAD_PROFILE, KIJ_NO_MEMORY, KIJ_WRONG_VERSION, KIJ_SYSTEM, KIJ_TOO_SMALL or KIJ_DISK_FAILED on failure. A
- * file that isn't formatted opens; enabling its totals is KIJ_E_NOHARDWARE. A file that was created stays after
+ * @return KIJ_BAD_ARGUMENT (another number as flags, a null path with KIJ_CREATE or KIJ_CREATE_NEW, or a null till),
+ * KIJ_BAD_PROFILE, KIJ_NO_MEMORY, KIJ_WRONG_VERSION, KIJ_SYSTEM, KIJ_TOO_SMALL or KIJ_DISK_FAILED on failure. A file
+ * that isn't formatted opens; enabling its totals is KIJ_E_NOHARDWARE. A file that was created stays after
  * KIJ_NO_MEMORY.
  */
 kij_result kij_open(const char *profile, const char *totals, int flags, kij_till **till);
@@ -195,7 +203,7 @@ kij_result kij_open(const char *profile, const char *totals, int flags, kij_till
 void kij_close(kij_till *till);
 
 /** Returns why the file of the totals failed (errno), or 0 if it hasn't: ENOSPC if the disk is full, EPERM after a
- * change in a forked process, ENOMEM without memory. */
+ * change in a forked process, ENOMEM without memory. Without a till it is 0. */
 int kij_disk_error(const kij_till *till);
 
 /**
@@ -226,7 +234,8 @@ typedef struct kij_mistake {
  *
  * @param profile the profile's text, as kij_open takes it
  * @param mistake where it is written what is wrong; all 0 if nothing is
- * @return KIJ_BAD_PROFILE, and mistake says why; KIJ_OK if the profile isn't refused; KIJ_NO_MEMORY
+ * @return KIJ_BAD_PROFILE, and mistake says why; KIJ_OK if the profile isn't refused; KIJ_NO_MEMORY; KIJ_BAD_ARGUMENT
+ * without a mistake
  */
 kij_result kij_profile_mistake(const char *profile, kij_mistake *mistake);
 
@@ -249,7 +258,7 @@ typedef struct kij_device {
  * @param devices room for them; null if room is 0
  * @param room    how many there is room for; further ones aren't written
  * @param count   where it is written how many the profile has
- * @return KIJ_BAD_PROFILE or KIJ_NO_MEMORY on failure
+ * @return KIJ_BAD_PROFILE, KIJ_NO_MEMORY or KIJ_BAD_ARGUMENT on failure
  */
 kij_result kij_devices(const char *profile, kij_device *devices, size_t room, size_t *count);
 
@@ -262,8 +271,9 @@ kij_result kij_devices(const char *profile, kij_device *devices, size_t room, si
  * @param room   how many bytes there is room for
  * @param needed where it is written how many bytes the text has without the 0 byte; 0 if there is no text
  * @param place  where the place is written, in bytes from the first of the file, if the code is KIJ_DAMAGED
- * @return KIJ_DAMAGED, and text is the rule; KIJ_UNFORMATTED, KIJ_TOO_SMALL, KIJ_NO_MEMORY; KIJ_SYSTEM, with
- * EWOULDBLOCK if a till has the file, or with why it couldn't be synced
+ * @return KIJ_DAMAGED, and text is the rule; KIJ_UNFORMATTED, KIJ_TOO_SMALL, KIJ_NO_MEMORY; KIJ_SYSTEM, with ENOENT if
+ * there is no file, EWOULDBLOCK if a till has it, or why it couldn't be opened, synced or read; KIJ_BAD_ARGUMENT
+ * without a path
  */
 kij_result kij_files(const char *path, char *text, size_t room, size_t *needed, uint64_t *place);
 
@@ -272,7 +282,7 @@ kij_result kij_files(const char *path, char *text, size_t room, size_t *needed, 
  * at any moment leaves the files by one layout or the other, and you can move the file again.
  *
  * @return KIJ_MOVED, KIJ_DAMAGED, KIJ_UNFORMATTED, KIJ_TOO_SMALL, KIJ_NO_MEMORY, KIJ_WRONG_VERSION, KIJ_DISK_FAILED, or
- * KIJ_SYSTEM on failure, also with why the file couldn't be written
+ * KIJ_SYSTEM on failure, also with why the file couldn't be written; KIJ_BAD_ARGUMENT without a path
  */
 kij_result kij_migrate(const char *path);
 
@@ -295,15 +305,20 @@ kij_result kij_new(kij_till *till, kij_category category, const char *name, kij_
  * Makes a control, opens it on a device, claims the device if claiming is KIJ_CLAIMED, and enables it. Scanners, line
  * displays and printers have to be claimed. If a step fails, its result is returned, and there is no control. To set
  * PowerNotify before the control is enabled, use kij_new, kij_control_open and kij_set_int.
+ *
+ * @return KIJ_E_NOEXIST or KIJ_E_NOSERVICE if there is no such device; KIJ_E_TIMEOUT or KIJ_E_CLAIMED if another
+ * control has claimed it; KIJ_E_NOTCLAIMED if it has to be claimed; KIJ_E_NOHARDWARE or KIJ_E_FAILURE of totals; or
+ * KIJ_FULL on failure
  */
 kij_result kij_start(kij_till *till, kij_category category, const char *device, int claiming, kij_control **control);
 
 /** Closes a control if it is open, and gives it back to its till, which may hand it out again. Don't use it afterwards.
  * One that can't be closed, as without memory, is closed by a later call on a control, and isn't handed out before. A
- * listener may give back the control of its event. */
+ * listener may give back the control of its event. Null is fine. */
 void kij_discard(kij_control *control);
 
-/** Returns the control's name in lines of the text interface. It stays as long as the control. */
+/** Returns the control's name in lines of the text interface. It stays until the till is closed. Neither this nor the
+ * next three take null. */
 const char *kij_name(const kij_control *control);
 
 /** Returns the control's category. */
@@ -399,10 +414,14 @@ kij_result kij_pump_all(kij_till *till, kij_listener listen, void *with);
 /* ---- The devices' side: inputs, work, exchange. Devices are simulated; a host with hardware says what happens there.
  * ---- */
 
+/* Each input is KIJ_BAD_DEVICE if there is no such device, it has no peripheral, or it is the totals; and KIJ_BAD_INPUT
+   if it is of another category, or a number is too large. A negative number is KIJ_BAD_ARGUMENT. */
+
 /** A cash drawer is opened or closed by hand. */
 kij_result kij_input_drawer(kij_till *till, const char *device, bool is_open);
 
-/** A scanner reads a code: its type, which isn't negative (ScanDataType), all that was read, and its label. */
+/** A scanner reads a code: its type, 0 to 999 (ScanDataType), all that was read, and its label. A size may be
+ * KIJ_ZERO_ENDED. */
 kij_result kij_input_scan(kij_till *till, const char *device, int64_t type, const void *data, size_t data_size,
                           const void *label, size_t label_size);
 
@@ -428,11 +447,12 @@ typedef struct kij_work_report {
     kij_result error;
 } kij_work_report;
 
-/** Works on the output that waits for a printer (AsyncMode): its first request is done, or fails. */
+/** Works on the output that waits for a printer (AsyncMode): its first request is done, or fails. Another device has
+ * nothing to do. KIJ_BAD_DEVICE if there is no such device, it has no peripheral, or it is the totals. */
 kij_result kij_work(kij_till *till, const char *device, kij_work_report *report);
 
-/** Returns what a simulated device is physically, as docs/reference/console.md says under "Answers". The text is
-   lent. */
+/** Returns what a simulated device is physically, as docs/reference/console.md says under "Answers". The text is lent.
+ * This and the next three are KIJ_BAD_DEVICE if there is no such device, it has no peripheral, or it is the totals. */
 kij_result kij_show(kij_till *till, const char *device, const char **text);
 
 /** Returns whether a simulated drawer is open. KIJ_WRONG_TYPE if the device is no drawer. */
@@ -477,14 +497,15 @@ typedef struct kij_printer_view {
 /** Returns what a simulated receipt printer is. KIJ_WRONG_TYPE if the device is none. */
 kij_result kij_show_printer(kij_till *till, const char *device, kij_printer_view *view);
 
-/** Takes the next line or cut out of a view, the oldest first, and returns whether there was one. */
+/** Takes the next line or cut out of a view that kij_show_printer wrote, the oldest first, and returns whether there
+ * was one. What it writes is lent, as what the view has. */
 bool kij_next_printed(kij_printer_view *view, kij_printed *printed);
 
 /** A spare of the profile, by its number from 1 on, serves the device from now on. If the device has a driver, that
- * carries out the spare's orders. */
+ * carries out the spare's orders. KIJ_BAD_SPARE, KIJ_UNKNOWN, KIJ_IN_USE or KIJ_KIND_DIFFERS on failure. */
 kij_result kij_attach(kij_till *till, const char *device, int64_t spare);
 
-/** The device has no peripheral from now on. */
+/** The device has no peripheral from now on. KIJ_UNKNOWN, KIJ_VACANT or KIJ_IN_USE on failure. */
 kij_result kij_detach(kij_till *till, const char *device);
 
 /* ---- Devices of your own ---- */
@@ -519,7 +540,8 @@ typedef struct kij_order {
     int percentage;
 } kij_order;
 
-/** Says that you have this device as hardware: its orders come by kij_next_order from now on (abi/README.md). */
+/** Says that you have this device as hardware: its orders come by kij_next_order from now on (abi/README.md).
+ * KIJ_NO_DEVICE if the profile has no such device, or it is the totals. */
 kij_result kij_host(kij_till *till, const char *device);
 
 /** Takes out the oldest order of the devices that you have, or writes KIJ_NO_ORDER. Take them out after each call. */
@@ -645,11 +667,12 @@ typedef struct kij_scanner_settings {
  * acknowledged begins the timeout again. Otherwise the call that ordered it is refused: KIJ_E_EXTENDED with
  * KIJ_EPTR_COVER_OPEN or KIJ_EPTR_REC_EMPTY, KIJ_E_OFFLINE, or KIJ_E_FAILURE if the printer gives no reason.
  *
- * If an order failed and the next one is the same, as a retry is, only the lines and cuts that the printer hasn't
- * acknowledged are sent again, also if the control was released or closed meanwhile. An application that gives a
- * request up ends that: by clearOutput, or by the reply KIJ_ER_CLEAR to the ErrorEvent of a printer. The same order is
- * a new one then, and is printed from its beginning. Once a line has opened a control (kij_carry_out), each ends it for
- * all printers of the till.
+ * If an order failed and the next one is the same, as a retry is, it goes on with the first line or cut that the
+ * printer hasn't acknowledged, also if the control was released or closed meanwhile. Output that waits (AsyncMode)
+ * does so though other orders were printed at once meanwhile. An application that gives a request up ends that: by
+ * clearOutput, or by the reply KIJ_ER_CLEAR to the ErrorEvent of a printer. The same order is a new one then, and is
+ * printed from its beginning. Once a line has opened a control (kij_carry_out), each ends it for all printers of the
+ * till.
  *
  * A printer counts as off once it was asked whether it is there, and has answered nothing for the timeout. Over TCP the
  * port is opened again then, unless an order that failed may still be acknowledged: the system finds out then, at most
@@ -761,8 +784,8 @@ typedef struct kij_driver {
  * Has a driver of your own carry out the orders of a device from now on, and tell what happens there.
  *
  * @param driver  it is copied; begin with all fields null
- * @param context what its functions get
- * @return as kij_escpos_printer_open
+ * @param context what its functions get; it has to stay until the till is closed
+ * @return as kij_escpos_printer_open; KIJ_BAD_ARGUMENT also without `carry_out`, but for a scanner
  */
 kij_result kij_driver_open(kij_till *till, const char *device, const kij_driver *driver, void *context);
 

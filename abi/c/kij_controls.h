@@ -445,7 +445,8 @@ kij_result kij_get_bool(kij_control *control, kij_property property, bool *is_tr
 /** Reads a property that is bytes, which are lent. KIJ_WRONG_TYPE if it is none; else an error of the property. */
 kij_result kij_get_bytes(kij_control *control, kij_property property, const uint8_t **data, size_t *size);
 
-/** Sets a property to a number. KIJ_E_ILLEGAL if it is read only or of another type; else an error of the property. */
+/** Sets a property to a number. KIJ_E_ILLEGAL if it is read only or of another type; else an error of the property.
+ * This and the calls above are KIJ_E_ILLEGAL too if the control's category hasn't the property. */
 kij_result kij_set_int(kij_control *control, kij_property property, int64_t number);
 
 /** Sets a property to a flag. KIJ_E_ILLEGAL if it is read only or of another type; else an error of the property. */

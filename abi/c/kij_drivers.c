@@ -284,8 +284,8 @@ static bool listen_to(kij_drive *drive) {
    see that: all rows are in those of an order that changes nothing, and of one after a while without any. */
 static bool show_bytes(kij_till *till, kij_drive *drive) {
     kij_buffer *bytes = &till->drives->order;
-    if (kij_internal_now() - drive->shown_at >= unseen) drive->is_new = true;
-    drive->shown_at = kij_internal_now();
+    if (kij_internal_now_in_all() - drive->shown_at >= unseen) drive->is_new = true;
+    drive->shown_at = kij_internal_now_in_all();
     if (kij_internal_order_bytes(till, &drive->wire, drive->is_new, 65538, bytes) != KIJOLVAR_OK) return false;
     if (bytes->size > 0 || drive->is_new) return true;
     return kij_internal_order_bytes(till, &drive->wire, true, 65538, bytes) == KIJOLVAR_OK;
@@ -341,7 +341,7 @@ static bool carry_out(kij_till *till, kij_drive *drive, char *line) {
     if (drive->category == KIJ_LINE_DISPLAY) return show(till, drive);
     uint64_t statuses = drive->link->statuses;
     bool is_printer = drive->category == KIJ_POS_PRINTER;
-    bool is_done = kij_internal_link_carry_out(drive->link, &drive->wire, is_printer);
+    bool is_done = kij_internal_link_carry_out(drive->link, &drive->wire, is_printer, till->is_working);
     if (is_done && is_printer) drive->orders++;
     if (is_done && !is_printer) {
         drive->kicked_at = kij_internal_now();
@@ -1058,7 +1058,7 @@ void kij_internal_forget_orders(kij_till *till, const kij_control *control) {
     for (kij_drive *drive = till->drives->first; drive != NULL; drive = drive->next) {
         bool is_meant = device == NULL || device->size == 0 || has_name(drive, device->text + 1, device->size - 1);
         if (drive->category != KIJ_POS_PRINTER || !is_meant) continue;
-        if (drive->has_link) kij_internal_link_forget_order(drive->link);
+        if (drive->has_link) kij_internal_link_forget_orders(drive->link);
         if (drive->is_own && drive->own.given_up != NULL) drive->own.given_up(drive->context);
     }
 }

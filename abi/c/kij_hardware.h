@@ -113,7 +113,7 @@ typedef struct kij_signs {
 } kij_signs;
 
 /* How many parcels may be due, how many of them an order may have, and how many bytes are read at once. */
-enum { KIJ_DUE_ROOM = 64, KIJ_DUE_OF_JOB = 32, KIJ_READ_ROOM = 1024, KIJ_CONTROL_ROOM = 128, KIJ_END_ROOM = 16 };
+enum { KIJ_DUE_ROOM = 128, KIJ_DUE_OF_JOB = 32, KIJ_READ_ROOM = 1024, KIJ_CONTROL_ROOM = 128, KIJ_END_ROOM = 16 };
 
 /* How many bytes of a scanner or a display are kept: more than a hundred characters that a keyboard types. */
 enum { KIJ_GOT_ROOM = 15360 };
@@ -134,11 +134,12 @@ typedef struct kij_link {
     const kij_word *name;
     const kij_word *drawer;
     const kijolvar_wire_settings *wire;
-    /* The order that failed last, or is out; a pulse for the drawer; the bytes of an order; and what is sent now. */
-    kij_job paper;
+    /* The order that failed last, or is out; and the one of output that waits (AsyncMode), at `true`: other orders may
+       come before that is tried again. Then a pulse for the drawer, what is sent now, and the bytes of an order. */
+    kij_job paper[2];
+    bool has_job[2];
     kij_job pulse;
     kij_job *posting;
-    bool has_job;
     uint64_t jobs;
     kij_buffer fresh;
     uint8_t end[KIJ_END_ROOM];
@@ -174,8 +175,9 @@ typedef struct kij_link {
     bool was_sent;
     int64_t asked_at;
     int64_t heard_at;
-    /* When anybody has looked what has come. */
+    /* When anybody has looked what has come, by both clocks. */
     int64_t looked_at;
+    int64_t looked_at_in_all;
     int64_t tried_at;
     int64_t refreshed_at;
     /* The question that was put last, how many have no answer, whether late answers come, when one was put or such an
@@ -295,8 +297,9 @@ bool kij_internal_buffer_room(kij_buffer *buffer, size_t room);
 /* Adds bytes: whether there is memory. */
 bool kij_internal_buffer_add(kij_buffer *buffer, const void *bytes, size_t size);
 
-/* Milliseconds of a clock that goes on. */
+/* Milliseconds of a clock that goes on; and of one that does so while the machine is suspended, too. */
 int64_t kij_internal_now(void);
+int64_t kij_internal_now_in_all(void);
 
 /* Waits for so many milliseconds. */
 void kij_internal_sleep(int64_t time);
@@ -365,12 +368,12 @@ bool kij_internal_port_is_draining(kij_port *port);
 void kij_internal_link_start(kij_link *link);
 
 /* Sends the order that is out: whether the printer acknowledged all of it, never going on for the timeout without
-   acknowledging a line. If an order failed and the next one is the same, only what wasn't printed is sent again, unless
-   it isn't `is_once`. */
-bool kij_internal_link_carry_out(kij_link *link, const kijolvar_wire_settings *wire, bool is_once);
+   acknowledging a line. If an order failed and the next one is the same, it goes on with what isn't acknowledged,
+   unless it isn't `is_once`. Output that waits has a next one of its own. */
+bool kij_internal_link_carry_out(kij_link *link, const kijolvar_wire_settings *wire, bool is_once, bool is_waiting);
 
-/* Forgets the order that failed last: the next one that is the same is a new one. */
-void kij_internal_link_forget_order(kij_link *link);
+/* Forgets the orders that failed: one that is the same is a new one. */
+void kij_internal_link_forget_orders(kij_link *link);
 
 /* Reads what has come and sends what is left, without waiting. A port that was lost is opened again. */
 void kij_internal_link_poll(kij_link *link);

@@ -7,38 +7,6 @@
 #include <string.h>
 #include <sys/types.h>
 
-/* A till: the library's, the file of its totals, the line that is written, and the answer that is read. */
-struct kij_till {
-    kijolvar_till inner;
-    /* The file of the totals, or -1, and the process that opened it; and room for what is written to it. */
-    int file;
-    pid_t process;
-    uint8_t *errand;
-    /* Why the file failed: errno, or 0 if it hasn't. */
-    int disk_error;
-    char *line;
-    size_t line_room;
-    /* The answer ends in a 0 byte, which isn't counted. */
-    char *text;
-    size_t text_room;
-    size_t text_size;
-    /* The controls, the oldest first. */
-    kij_control *first;
-    kij_control *last;
-    /* How many names were made up. */
-    unsigned long names;
-    /* Whether a call is under way; it is changed atomically. */
-    int busy;
-    /* The devices that are driven (kij_hardware.h); null while none ever was. */
-    struct kij_drives *drives;
-    /* Whether lines of an earlier call are held, since there was no memory to go on with them. */
-    bool is_holding;
-    /* Whether lines may have opened a control: on which device it is isn't known then. */
-    bool has_opened;
-    /* Whether a control was given back that couldn't be closed. */
-    bool has_unclosed;
-};
-
 /* A word of a line. All but verbs begin with the space before them. There is room behind it, so that a fixed number of
    bytes is copied, and the line goes on behind `size` of them. */
 enum { KIJ_WORD_ROOM = 24 };
@@ -69,6 +37,50 @@ typedef enum kij_verb {
     KIJ_VERB_ATTACH,
     KIJ_VERB_DETACH
 } kij_verb;
+
+/* A call that a control refused: its line, but for the name and the arguments, and what came of it. The method is that of
+   a call, or the property; or null. */
+typedef struct kij_refusal {
+    kij_verb verb;
+    const kij_word *method;
+    kij_result result;
+} kij_refusal;
+
+/* A till: the library's, the file of its totals, the line that is written, and the answer that is read. */
+struct kij_till {
+    kijolvar_till inner;
+    /* The file of the totals, or -1, and the process that opened it; and room for what is written to it. */
+    int file;
+    pid_t process;
+    uint8_t *errand;
+    /* Why the file failed: errno, or 0 if it hasn't. */
+    int disk_error;
+    char *line;
+    size_t line_room;
+    /* The answer ends in a 0 byte, which isn't counted. */
+    char *text;
+    size_t text_room;
+    size_t text_size;
+    /* The controls, the oldest first. */
+    kij_control *first;
+    kij_control *last;
+    /* How many names were made up. */
+    unsigned long names;
+    /* Whether a call is under way; it is changed atomically. */
+    int busy;
+    /* The devices that are driven (kij_hardware.h); null while none ever was. */
+    struct kij_drives *drives;
+    /* Whether lines of an earlier call are held, since there was no memory to go on with them. */
+    bool is_holding;
+    /* Whether orders are of output that waits: the line is one that works on it. */
+    bool is_working;
+    /* Whether lines may have opened a control: on which device it is isn't known then. */
+    bool has_opened;
+    /* Whether a control was given back that couldn't be closed. */
+    bool has_unclosed;
+    /* What a control refused in the last call; of the code KIJ_OK if none did. */
+    kij_refusal refusal;
+};
 
 struct kij_control {
     kij_till *till;
@@ -121,6 +133,16 @@ typedef struct kij_number_row {
     const char *text;
 } kij_number_row;
 
+/* What a code means of one call of a category, or of all; its word is null if the verb says which it is. */
+typedef struct kij_reason_row {
+    kij_category category;
+    kij_verb verb;
+    const char *word;
+    int code;
+    int extended;
+    const char *text;
+} kij_reason_row;
+
 #ifdef __GNUC__
 #pragma GCC visibility push(hidden)
 #endif
@@ -131,6 +153,8 @@ extern const kij_number_row kij_internal_codes[];
 extern const size_t kij_internal_code_count;
 extern const kij_number_row kij_internal_extended[];
 extern const size_t kij_internal_extended_count;
+extern const kij_reason_row kij_internal_reasons[];
+extern const size_t kij_internal_reason_count;
 
 /* kij_line.c: lines and their answers. */
 
@@ -146,7 +170,9 @@ static inline kij_result kij_internal_result(int code, int extended, kij_categor
 /* Begins a call: KIJ_IN_CALL where another one is under way. Each call that begins with KIJ_OK ends with leave. */
 static inline int kij_internal_enter(kij_till *till) {
     if (till == NULL) return KIJ_BAD_ARGUMENT;
-    return __atomic_exchange_n(&till->busy, 1, __ATOMIC_ACQUIRE) != 0 ? KIJ_IN_CALL : KIJ_OK;
+    if (__atomic_exchange_n(&till->busy, 1, __ATOMIC_ACQUIRE) != 0) return KIJ_IN_CALL;
+    till->refusal.result.code = KIJ_OK;
+    return KIJ_OK;
 }
 
 static inline void kij_internal_leave(kij_till *till) { __atomic_store_n(&till->busy, 0, __ATOMIC_RELEASE); }
@@ -198,7 +224,10 @@ static inline int kij_internal_carry(kij_till *till, const char *lines, size_t s
     }
     uint32_t code = kijolvar_carry_out(till->inner, &till->inner.at, (const uint8_t *)lines, size,
                                        (uint8_t *)till->text, till->text_room - 1, &needed);
-    if (code != KIJOLVAR_OK) found = kij_internal_settled(till, code, &needed);
+    if (code != KIJOLVAR_OK) {
+        till->is_working = size > 5 && memcmp(lines, "work ", 5) == 0 && memchr(lines, '\n', size - 1) == NULL;
+        found = kij_internal_settled(till, code, &needed);
+    }
     if (is_one && found == KIJ_OK && needed > 0) needed--;
     till->text_size = needed;
     till->text[needed] = 0;

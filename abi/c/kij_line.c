@@ -298,6 +298,13 @@ static bool gives_up(const kij_control *control, kij_verb verb, const kij_word *
            strcmp(method->text, clear) == 0;
 }
 
+/* Keeps what a control refused. The device behind `open` is the caller's. */
+static void note_refusal(kij_till *till, kij_verb verb, const kij_word *method, kij_result result) {
+    till->refusal.verb = verb;
+    till->refusal.method = verb == KIJ_VERB_OPEN ? NULL : method;
+    till->refusal.result = result;
+}
+
 kij_result kij_internal_call(kij_control *control, kij_verb verb, const kij_word *method, const kij_argument *arguments,
                              size_t count, kij_value *value) {
     if (control == NULL) return kij_internal_result(KIJ_BAD_ARGUMENT, 0, KIJ_NO_CATEGORY);
@@ -322,6 +329,7 @@ kij_result kij_internal_call(kij_control *control, kij_verb verb, const kij_word
         control->is_open = true;
     }
     if (verb == KIJ_VERB_CLOSE && kij_internal_is_closed(result.code)) control->is_open = false;
+    if (result.code >= KIJ_E_CLOSED) note_refusal(till, verb, method, result);
     if (till->drives != NULL && is_done && gives_up(control, verb, method)) kij_internal_forget_orders(till, control);
     kij_internal_leave(till);
     return result;

@@ -127,7 +127,8 @@ static void ask_now(kij_link *link) {
 
 /* The job of a number that is still known, or null. */
 static kij_job *job_of(kij_link *link, uint64_t id) {
-    if (id != 0 && link->has_job && link->paper.id == id) return &link->paper;
+    for (size_t place = 0; id != 0 && place < 2; place++)
+        if (link->has_job[place] && link->paper[place].id == id) return &link->paper[place];
     return id != 0 && link->pulse.id == id ? &link->pulse : NULL;
 }
 
@@ -155,7 +156,8 @@ static void remove_due(kij_link *link, size_t place) {
    of the others stays the same. */
 static void make_room(kij_link *link) {
     for (size_t place = 0; link->due_count == KIJ_DUE_ROOM && place < KIJ_DUE_ROOM;) {
-        if (job_of(link, link->due[place].job) != &link->paper) remove_due(link, place);
+        const kij_job *job = job_of(link, link->due[place].job);
+        if (job != &link->paper[false] && job != &link->paper[true]) remove_due(link, place);
         else place++;
     }
 }
@@ -299,9 +301,11 @@ static int64_t quiet_of(const kij_link *link) {
     return kij_internal_now() - greatest(link->heard_at, link->began_at);
 }
 
-/* Whether a line may hold back a part of what is due for a printer that should say something. */
+/* Whether a line may hold back a part of what is due for a printer that should say something. One that is asked may
+   also be off and on again after it has told why it is offline, and then doesn't say so. */
 static bool is_held(const kij_link *link) {
-    return kij_internal_port_holds_back(&link->port) && is_any_due(link) && !may_be_silent(link);
+    bool is_any = kij_internal_port_holds_back(&link->port) && is_any_due(link);
+    return is_any && (link->is_asked || !may_be_silent(link));
 }
 
 /* Looks whether a printer says anything of an order, or answers, if its line holds bytes back. It has time to answer,
@@ -606,16 +610,19 @@ static bool read_some(kij_link *link, bool *is_any) {
 
 /* Whether a printer may have been off since anybody looked, so that what it has acknowledged since is no whole line. */
 static bool may_have_been_off(const kij_link *link) {
+    if (!kij_internal_link_is_online(link) || !is_held(link)) return false;
     int64_t unseen = kij_internal_now() - link->looked_at;
+    int64_t unseen_in_all = kij_internal_now_in_all() - link->looked_at_in_all;
     bool was_long = quiet_of(link) >= silence && unseen >= least(link->timeout, silence) / 2;
-    return kij_internal_link_is_online(link) && is_held(link) && was_long;
+    return was_long || unseen_in_all >= silence;
 }
 
-/* Somebody looks what has come. If nobody has for long, as while this process stood still, the printer may have been
-   off meanwhile. */
+/* Somebody looks what has come. If nobody has for long, as while this process stood still or the machine was suspended,
+   the printer may have been off meanwhile. */
 static void begin_look(kij_link *link) {
     if (may_have_been_off(link)) lose_sent(link);
     link->looked_at = kij_internal_now();
+    link->looked_at_in_all = kij_internal_now_in_all();
 }
 
 /* Reads what has come: false if the port was lost. */
@@ -742,7 +749,7 @@ void kij_internal_link_start(kij_link *link) {
     link->ends_at = kij_internal_now() + link->timeout;
     link->end_size = link->is_asked ? QUESTION_SIZE : JOB_SIZE;
     link->tried_at = link->refreshed_at = link->questioned_at = link->heard_at = link->began_at = KIJ_NEVER;
-    link->looked_at = KIJ_NEVER;
+    link->looked_at = link->looked_at_in_all = KIJ_NEVER;
     /* A printer may still acknowledge jobs of a host that has ended. Those shouldn't have the numbers of these. */
     link->number = ((uint32_t)kij_internal_now() ^ (uint32_t)getpid() * 2654435761u >> 8) % NUMBERS;
     connect_port(link, link->timeout);
@@ -821,24 +828,46 @@ static void put_marker(kij_link *link) {
     send_parcel(link, NULL, 0, NULL);
 }
 
-void kij_internal_link_forget_order(kij_link *link) {
-    const kij_job *job = &link->paper;
+static void forget_order(kij_link *link, bool is_waiting) {
+    const kij_job *job = &link->paper[is_waiting];
     /* It was printed after it had failed, and isn't asked for again. */
-    if (link->has_job && job->is_done && job->data.size > 0) link->late++;
-    link->has_job = false;
+    if (link->has_job[is_waiting] && job->is_done && job->data.size > 0) link->late++;
+    link->has_job[is_waiting] = false;
+}
+
+void kij_internal_link_forget_orders(kij_link *link) {
+    forget_order(link, false);
+    forget_order(link, true);
+}
+
+/* Whether the order that is out is the one that failed. */
+static bool is_same(const kij_link *link, bool is_waiting) {
+    const kij_buffer *data = &link->paper[is_waiting].data, *fresh = &link->fresh;
+    if (!link->has_job[is_waiting] || data->size != fresh->size) return false;
+    return data->size == 0 || memcmp(data->bytes, fresh->bytes, data->size) == 0;
+}
+
+/* Whether the order that is out has failed before. Its job is in its place then. */
+static bool find_failed(kij_link *link, bool is_waiting) {
+    if (is_same(link, is_waiting)) return true;
+    forget_order(link, is_waiting);
+    if (!is_same(link, !is_waiting)) return false;
+    kij_job found = link->paper[!is_waiting];
+    link->paper[!is_waiting] = link->paper[is_waiting];
+    link->paper[is_waiting] = found;
+    link->has_job[is_waiting] = true;
+    link->has_job[!is_waiting] = false;
+    return true;
 }
 
 /* The job of the order that is out: the one that failed if it is the same, and how far that one has come. Null if the
    port was lost. */
-static kij_job *take_up(kij_link *link, bool is_once) {
-    kij_job *job = is_once ? &link->paper : &link->pulse;
+static kij_job *take_up(kij_link *link, bool is_once, bool is_waiting) {
+    kij_job *job = is_once ? &link->paper[is_waiting] : &link->pulse;
     if (!give_up(link)) return NULL;
-    bool is_same = is_once && link->has_job && job->data.size == link->fresh.size &&
-                   (job->data.size == 0 || memcmp(job->data.bytes, link->fresh.bytes, job->data.size) == 0);
-    if (!is_same) {
-        if (is_once) kij_internal_link_forget_order(link);
+    if (!is_once || !find_failed(link, is_waiting)) {
         begin(link, job, is_once);
-        link->has_job |= is_once;
+        link->has_job[is_waiting] |= is_once;
         return job;
     }
     if (is_due(link, job)) {
@@ -883,7 +912,7 @@ static size_t lines_of(const kij_buffer *data) {
     return count;
 }
 
-bool kij_internal_link_carry_out(kij_link *link, const kijolvar_wire_settings *wire, bool is_once) {
+bool kij_internal_link_carry_out(kij_link *link, const kijolvar_wire_settings *wire, bool is_once, bool is_waiting) {
     if (may_have_been_off(link)) lose_sent(link);
     link->began_at = kij_internal_now();
     link->ends_at = link->began_at + link->timeout;
@@ -893,7 +922,7 @@ bool kij_internal_link_carry_out(kij_link *link, const kijolvar_wire_settings *w
     if (code != KIJOLVAR_OK || link->fresh.size < link->end_size) return false;
     link->fresh.size -= link->end_size;
     memcpy(link->end, link->fresh.bytes + link->fresh.size, link->end_size);
-    kij_job *job = receive(link) ? take_up(link, is_once) : NULL;
+    kij_job *job = receive(link) ? take_up(link, is_once, is_waiting) : NULL;
     if (job == NULL || !post(link, job)) {
         lose(link);
         return false;
@@ -901,7 +930,7 @@ bool kij_internal_link_carry_out(kij_link *link, const kijolvar_wire_settings *w
     if (job->is_done) {
         if (!is_once) return true;
         link->lines += lines_of(&job->data);
-        link->has_job = false;
+        link->has_job[is_waiting] = false;
         return true;
     }
     drop(link);
@@ -912,7 +941,8 @@ bool kij_internal_link_carry_out(kij_link *link, const kijolvar_wire_settings *w
 
 void kij_internal_link_end(kij_link *link) {
     kij_internal_port_close(&link->port);
-    free(link->paper.data.bytes);
+    free(link->paper[false].data.bytes);
+    free(link->paper[true].data.bytes);
     free(link->pulse.data.bytes);
     free(link->fresh.bytes);
     free(link->out.bytes);

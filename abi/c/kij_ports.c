@@ -52,11 +52,15 @@ bool kij_internal_buffer_add(kij_buffer *buffer, const void *bytes, size_t size)
     return true;
 }
 
-int64_t kij_internal_now(void) {
+static int64_t now_by(clockid_t clock) {
     struct timespec now;
-    clock_gettime(CLOCK_MONOTONIC, &now);
+    clock_gettime(clock, &now);
     return (int64_t)now.tv_sec * 1000 + now.tv_nsec / 1000000;
 }
+
+int64_t kij_internal_now(void) { return now_by(CLOCK_MONOTONIC); }
+
+int64_t kij_internal_now_in_all(void) { return now_by(CLOCK_BOOTTIME); }
 
 void kij_internal_sleep(int64_t time) {
     struct timespec left;

@@ -92,7 +92,8 @@ static const kij_number_row own_codes[] = {
     {KIJ_NO_CATEGORY, KIJ_SYSTEM, "KIJ_SYSTEM",
      "The system refused the file of the totals; the extended code is errno."},
     {KIJ_NO_CATEGORY, KIJ_BAD_ARGUMENT, "KIJ_BAD_ARGUMENT", "An argument can't be passed on to the library."},
-    {KIJ_NO_CATEGORY, KIJ_WRONG_TYPE, "KIJ_WRONG_TYPE", "The property has another type."},
+    {KIJ_NO_CATEGORY, KIJ_WRONG_TYPE, "KIJ_WRONG_TYPE",
+     "The property has another type, or the device another category."},
     {KIJ_NO_CATEGORY, KIJ_IN_CALL, "KIJ_IN_CALL", "Another call of the same till is under way."},
     {KIJ_NO_CATEGORY, KIJ_BAD_ANSWER, "KIJ_BAD_ANSWER",
      "The library answered something that this version doesn't know."},
@@ -143,7 +144,7 @@ static const char *own_words(int why) {
 static const char *said_by_system(int why) {
     switch (why) {
     case EWOULDBLOCK: return "The file of the totals is in use: close the other program that has it open.";
-    case ENOENT: return "The file of the totals isn't there, or what creating it needs: its folder, and /proc.";
+    case ENOENT: return "The file of the totals isn't there. If it was to be created, its folder isn't, or /proc.";
     case EEXIST: return "The file of the totals is there already.";
     default: return own_words(why);
     }
@@ -155,6 +156,25 @@ const char *kij_strerror(kij_result result) {
     const kij_number_row *row = extended_row(result);
     if (row == NULL) row = code_row(result.code);
     return row == NULL ? "The code is unknown." : row->text;
+}
+
+/* Whether a row is of a call that was refused. */
+static bool is_reason(const kij_reason_row *row, const kij_refusal *refusal) {
+    kij_result result = refusal->result;
+    return row->verb == refusal->verb && row->code == result.code && row->extended == result.extended &&
+           (row->category == KIJ_NO_CATEGORY || row->category == result.category) &&
+           (row->word == NULL || strcmp(row->word, refusal->method->text) == 0);
+}
+
+static bool are_same(kij_result one, kij_result other) {
+    return one.code == other.code && one.extended == other.extended && one.category == other.category;
+}
+
+const char *kij_reason(const kij_till *till, kij_result result) {
+    size_t count = till != NULL && are_same(till->refusal.result, result) ? kij_internal_reason_count : 0;
+    for (const kij_reason_row *row = kij_internal_reasons; row < kij_internal_reasons + count; row++)
+        if (is_reason(row, &till->refusal)) return row->text;
+    return kij_strerror(result);
 }
 
 const char *kij_code_name(int code) {

@@ -38,6 +38,8 @@ static void close_file(const kij_till *till) {
 
 kij_result kij_open(const char *profile, const char *totals, int flags, kij_till **till) {
     if (till == NULL || flags < KIJ_EXISTING || flags > KIJ_CREATE_NEW) return plain(KIJ_BAD_ARGUMENT);
+    /* A path that is missing by mistake: totals in memory wouldn't outlive the till. */
+    if (totals == NULL && flags != KIJ_EXISTING) return plain(KIJ_BAD_ARGUMENT);
     if (kijolvar_version() != KIJOLVAR_VERSION) return plain(KIJ_WRONG_VERSION);
     kij_till *made = (kij_till *)calloc(1, sizeof *made);
     if (made == NULL) return plain(KIJ_NO_MEMORY);
@@ -291,8 +293,14 @@ kij_result kij_start(kij_till *till, kij_category category, const char *device, 
     result = kij_control_open(made, device);
     if (result.code == KIJ_OK && claiming == KIJ_CLAIMED) result = kij_control_claim(made, 0);
     if (result.code == KIJ_OK) result = kij_set_bool(made, KIJ_PROP_DEVICE_ENABLED, true);
-    if (result.code == KIJ_OK) *control = made;
-    else kij_discard(made);
+    if (result.code == KIJ_OK) {
+        *control = made;
+        return result;
+    }
+    /* It outlasts that the control is closed. */
+    kij_refusal refusal = till->refusal;
+    kij_discard(made);
+    till->refusal = refusal;
     return result;
 }
 

@@ -34,7 +34,7 @@ FAULTS = ["DamagedError", "DiskError", "DriverError", "Error", "ExchangeError", 
           "NoDeviceError", "NoMemoryError", "NoOrderError", "ProfileError", "SettingsError", "ThreadError",
           "TillClosedError", "TooManyControlsError", "TooSmallError", "UnformattedError", "UposError"]
 # Classes of errors that are a kind of an error of Python's too.
-BASES = {"E_NOEXIST": ", LookupError"}
+BASES = {"E_NOEXIST": ", KeyError"}
 # The function that makes a number of an argument that isn't one, by the argument's name. Others are integers.
 NUMBERS = {"handle": "handle_of"}
 
@@ -360,10 +360,10 @@ def class_of(name, base, summary, detail, chapter, constants_of, part, names):
 
 
 def reason_line(code, when):
-    line = f'        "{code}": "{" Or: ".join(when)}",'
+    line = f'        "{code}": "{when}",'
     if len(line) <= WIDTH:
         return line
-    text = textwrap.wrap(" Or: ".join(when), WIDTH - 16, break_on_hyphens=False)
+    text = textwrap.wrap(when, WIDTH - 16, break_on_hyphens=False)
     return "\n".join([f'        "{code}":', *(f'            "{part} "' for part in text[:-1]), f'            "{text[-1]}",'])
 
 
@@ -377,11 +377,7 @@ def reasons(found):
     lines = ["REASONS: dict[str, dict[str, str]] = {"]
     for name, errors in told:
         lines.append(f'    "{name}": {{')
-        whens = {}
-        for error in over_library.without_disk(errors):
-            if error["when"] not in whens.setdefault(error["code"], []):
-                whens[error["code"]].append(error["when"])
-        lines += [reason_line(code, when) for code, when in whens.items()]
+        lines += [reason_line(code, when) for code, when in over_library.reasons_of(errors).items()]
         lines.append("    },")
     head = HEAD.format("What each code means, by the names of the methods and properties.").rstrip("\n")
     return head + "\n\n" + "\n".join([*lines, "}"]) + "\n"

@@ -6,7 +6,8 @@ calls their methods to open a cover, use up the paper, pull a plug or make them 
 """
 from .cables import PtyCable, SilentHost, TcpCable
 from .display import Display
-from .printer import Cut, Feed, Line, Printer
+from .printer import Cut, Feed, HearingPrinter, LatePrinter, Line, Printer, first_strange
 from .scanner import Scanner
 
-__all__ = ["Cut", "Display", "Feed", "Line", "Printer", "PtyCable", "Scanner", "SilentHost", "TcpCable"]
+__all__ = ["Cut", "Display", "Feed", "HearingPrinter", "LatePrinter", "Line", "Printer", "PtyCable", "Scanner", "SilentHost",
+           "TcpCable", "first_strange"]

@@ -102,6 +102,9 @@ def main():
     reader.add_argument("--simple", action="store_true")
     reader.add_argument("--protocol", default="cd5220", choices=["cd5220", "escpos"])
     words = reader.parse_args()
+    if words.path is not None and os.path.lexists(words.path) and not os.path.islink(words.path):
+        # An emulator that was killed has left its link there.
+        reader.error(f"{words.path} is there already, and is no link: give another path")
     cable = TcpCable(words.tcp) if words.tcp is not None else PtyCable(words.path or f"/tmp/{words.kind}-{os.getpid()}")
     if words.kind == "printer":
         device = Printer(cable, words.columns or 42, words.lines, words.near, words.simple)

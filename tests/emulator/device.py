@@ -188,7 +188,8 @@ class Device:
             self._got += self.arrives(found)
 
     def _hears_kept(self):
-        """Gets what an adapter has for it, as far as there is room. Returns whether it got anything."""
+        """Gets what an adapter has for it, as far as there is room. Returns whether it got anything, which is still to
+        be worked off."""
         room = self.ROOM - len(self._got) if self.is_on and self.may_hear() else 0
         kept = bytes(self._kept[:max(room, 0)])
         del self._kept[:len(kept)]
@@ -236,10 +237,12 @@ class Device:
             with self.lock:
                 if self._is_ending:
                     return
-                has_more = self._hears_kept()
                 pause = self._works()
+                # There is room now for more of what an adapter has.
+                if self._hears_kept():
+                    continue
                 self._flush()
-                if has_more or self._sends:
+                if self._sends:
                     pause = 0.001
                 files = [self._wakes]
                 if self._count_room() > 0:

@@ -31,6 +31,20 @@ class Feed:
     lines: int
 
 
+def first_strange(receipt, runs, wanted):
+    """The place of the first item of a receipt that isn't as it is wanted, or None. The runs are those of a printer: from
+    each on, all that was sent has to be there again."""
+    # How many items are printed, and how many were before each run that isn't there again yet.
+    states, doubts = {(0, ())}, {run.start for run in runs}
+    for place, item in enumerate(receipt):
+        states |= {(left[at], left[:at]) for _, left in states for at in range(len(left))}
+        states = {(count + 1, left + (count,) * (place in doubts)) for count, left in states
+                  if count < len(wanted) and wanted[count] == item}
+        if not states:
+            return place
+    return None if (len(wanted), ()) in states else len(receipt)
+
+
 class Printer(Device):
     """A receipt printer and the drawer on its connector.
 
@@ -293,3 +307,33 @@ class Printer(Device):
         self.lines_left = max(0, self.lines_left - lines)
         self.line_done()
         self._changed()
+
+
+class HearingPrinter(Printer):
+    """A printer whose line holds bytes back only while it has no power: it hears questions while it is offline."""
+
+    def may_hear(self):
+        return self.is_on
+
+
+class LatePrinter(HearingPrinter):
+    """A printer whose first answer about its paper comes late while its cover is open."""
+
+    is_about_paper, kept = False, None
+
+    def _status_now(self, kind):
+        self.is_about_paper = kind == 4
+        return super()._status_now(kind)
+
+    def send(self, data):
+        if self.is_about_paper and self.is_cover_open and self.kept is None:
+            self.kept = bytes(data)
+        else:
+            super().send(data)
+        self.is_about_paper = False
+
+    def answers(self):
+        """Sends the answer."""
+        with self.lock:
+            super().send(self.kept)
+        self._wake()

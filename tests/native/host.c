@@ -18,6 +18,7 @@
    lines LINE;LINE   kij_carry_out: the answers, with `;` in place of line feeds
    print HEX         a typed call, by a control that the first one makes
    later HEX         the same with AsyncMode: the request waits
+   reason HEX        kij_reason of `print HEX`; nothing if that is done
    clear             clearOutput of that control
    release           it is released
    close             it is given back, and the next request makes another one
@@ -295,7 +296,7 @@ static void carry_out(char *lines) {
 }
 
 /* Prints bytes by a typed call, over a control that the first one makes. */
-static void print(bool is_later) {
+static kij_result print(bool is_later) {
     static uint8_t bytes[100000];
     char *digits = strtok(NULL, "\n");
     size_t size = digits == NULL ? 0 : bytes_of(digits, (char *)bytes);
@@ -303,7 +304,12 @@ static void print(bool is_later) {
     if (printer == NULL) result = kij_start(till, KIJ_POS_PRINTER, printer_name, KIJ_CLAIMED, &printer);
     if (result.code == KIJ_OK && is_later) result = kij_set_bool(printer, KIJ_PROP_ASYNC_MODE, true);
     if (result.code == KIJ_OK) result = kij_printer_print(printer, KIJ_PTR_S_RECEIPT, bytes, size);
-    answer(result, "ok");
+    return result;
+}
+
+static const char *reason(void) {
+    kij_result result = print(false);
+    return result.code == KIJ_OK ? "" : kij_reason(till, result);
 }
 
 static const char *swap(void) {
@@ -395,8 +401,9 @@ static void obey(char *line) {
     else if (strcmp(verb, "run") == 0) run();
     else if (strcmp(verb, "state") == 0) state();
     else if (strcmp(verb, "why") == 0) why();
-    else if (strcmp(verb, "print") == 0) print(false);
-    else if (strcmp(verb, "later") == 0) print(true);
+    else if (strcmp(verb, "print") == 0) answer(print(false), "ok");
+    else if (strcmp(verb, "later") == 0) answer(print(true), "ok");
+    else if (strcmp(verb, "reason") == 0) puts(reason());
     else if (strcmp(verb, "clear") == 0) answer(kij_printer_clear_output(printer), "ok");
     else if (strcmp(verb, "release") == 0) answer(kij_control_release(printer), "ok");
     else if (strcmp(verb, "close") == 0) puts(give_back());
@@ -438,7 +445,8 @@ int main(int count, char **words) {
         fprintf(stderr, "Usage: host PROFILE [TOTALS]\n");
         return 2;
     }
-    kij_result result = kij_open(text_of(words[1]), count > 2 ? words[2] : NULL, KIJ_CREATE, &till);
+    const char *totals = count > 2 ? words[2] : NULL;
+    kij_result result = kij_open(text_of(words[1]), totals, totals == NULL ? KIJ_EXISTING : KIJ_CREATE, &till);
     if (result.code != KIJ_OK) {
         fprintf(stderr, "%s\n", kij_strerror(result));
         return 1;

@@ -739,6 +739,109 @@ static void open_totals(const char *name, const char *path, int flags, int code,
     kij_close(till);
 }
 
+static void says(const char *name, const char *wanted, kij_result result) {
+    if (strcmp(wanted, kij_strerror(result)) == 0) return;
+    failed++;
+    printf("failed: %s\n  wanted: %s\n  found:  %s\n", name, wanted, kij_strerror(result));
+}
+
+/* A text is true of each call that gives its result. */
+static void try_texts(const char *folder) {
+    const char *missing = "The file of the totals isn't there. If it was to be created, its folder isn't, or /proc.";
+    const char *another = "The property has another type, or the device another category.";
+    char path[4096];
+    kij_till *till = NULL;
+    kij_control *drawer = NULL;
+    size_t needed = 0;
+    uint64_t place = 0;
+    bool is_open = false;
+    snprintf(path, sizeof path, "%s/folder-of-nobody/totals", folder);
+    says("a survey of no file", missing, kij_files(path, NULL, 0, &needed, &place));
+    says("a move of no file", missing, kij_migrate(path));
+    says("no file", missing, kij_open(NULL, path, KIJ_EXISTING, &till));
+    says("no folder", missing, kij_open(NULL, path, KIJ_CREATE, &till));
+    says("no folder for a new file", missing, kij_open(NULL, path, KIJ_CREATE_NEW, &till));
+    told("a till", KIJ_OK, kij_open(NULL, NULL, KIJ_EXISTING, &till).code);
+    says("a printer is no drawer", another, kij_show_drawer(till, "r1", &is_open));
+    told("a control", KIJ_OK, kij_start(till, KIJ_CASH_DRAWER, "d1", KIJ_UNCLAIMED, &drawer).code);
+    says("a number is no flag", another, kij_get_bool(drawer, KIJ_PROP_STATE, &is_open));
+    kij_close(till);
+}
+
+static void gives_reason(const char *name, const char *wanted, const kij_till *till, kij_result result) {
+    const char *found = kij_reason(till, result);
+    if (strcmp(wanted, found) == 0) return;
+    failed++;
+    printf("failed: the reason of %s\n  wanted: %s\n  found:  %s\n", name, wanted, found);
+}
+
+/* The reason is that of the call which a control refused last, and of its result alone. */
+static void try_reasons(void) {
+    const char *byte = "The station isn't the receipt; or the data has more than 4,096 bytes, a byte that isn't ASCII "
+                       "text, LF, CR or ESC, or a number out of range.";
+    const char *unclaimed = "The control hasn't claimed the device, which is an exclusive-use device.";
+    kij_till *till = NULL, *other = NULL;
+    kij_control *printer = NULL, *display = NULL, *drawer = NULL;
+    kij_result closed = {KIJ_E_CLOSED, 0, KIJ_POS_PRINTER};
+    int64_t number = 0;
+    told("a till", KIJ_OK, kij_open(NULL, NULL, KIJ_EXISTING, &till).code);
+    told("another till", KIJ_OK, kij_open(NULL, NULL, KIJ_EXISTING, &other).code);
+    kij_result refused = kij_start(till, KIJ_POS_PRINTER, "r9", KIJ_CLAIMED, &printer);
+    told("no such device", KIJ_E_NOEXIST, refused.code);
+    gives_reason("no such device", "No device of the control's category has the name.", till, refused);
+    refused = kij_start(till, KIJ_POS_PRINTER, "r1", KIJ_UNCLAIMED, &printer);
+    told("no claim", KIJ_E_NOTCLAIMED, refused.code);
+    gives_reason("no claim", unclaimed, till, refused);
+    told("a printer", KIJ_OK, kij_start(till, KIJ_POS_PRINTER, "r1", KIJ_CLAIMED, &printer).code);
+    told("a display", KIJ_OK, kij_start(till, KIJ_LINE_DISPLAY, "p1", KIJ_CLAIMED, &display).code);
+    told("a drawer", KIJ_OK, kij_start(till, KIJ_CASH_DRAWER, "d1", KIJ_UNCLAIMED, &drawer).code);
+    refused = kij_printer_print(printer, KIJ_PTR_S_RECEIPT, "Br\303\266tchen\n", KIJ_ZERO_ENDED);
+    told("a letter", KIJ_E_ILLEGAL, refused.code);
+    gives_reason("a letter", byte, till, refused);
+    gives_reason("another result", kij_strerror(closed), till, closed);
+    gives_reason("another till's result", kij_strerror(refused), other, refused);
+    gives_reason("a result without a till", kij_strerror(refused), NULL, refused);
+    told("a line", KIJ_OK, kij_printer_print(printer, KIJ_PTR_S_RECEIPT, "Brot\n", KIJ_ZERO_ENDED).code);
+    gives_reason("an earlier result", kij_strerror(refused), till, refused);
+    refused = kij_printer_print(display, KIJ_PTR_S_RECEIPT, "Brot\n", KIJ_ZERO_ENDED);
+    told("another category's call", KIJ_E_ILLEGAL, refused.code);
+    gives_reason("another category's call", kij_strerror(refused), till, refused);
+    refused = kij_set_int(display, KIJ_PROP_CURSOR_ROW, 99);
+    told("a row", KIJ_E_ILLEGAL, refused.code);
+    gives_reason("a row", "The value is out of its range.", till, refused);
+    refused = kij_set_int(drawer, KIJ_PROP_CURSOR_ROW, 0);
+    told("another category's property", KIJ_E_ILLEGAL, refused.code);
+    gives_reason("another category's property", kij_strerror(refused), till, refused);
+    refused = kij_get_int(drawer, KIJ_PROP_CURSOR_ROW, &number);
+    told("which has no value", KIJ_E_ILLEGAL, refused.code);
+    gives_reason("which has no value", kij_strerror(refused), till, refused);
+    told("an open cover", KIJ_OK, kij_input_cover(till, "r1", true).code);
+    refused = kij_printer_cut_paper(printer, 100);
+    told("a cut", KIJ_EPTR_COVER_OPEN, refused.extended);
+    gives_reason("a cut", "The cover is open.", till, refused);
+    kij_close(other);
+    kij_close(till);
+}
+
+/* A null path stands for memory with KIJ_EXISTING alone. With another flag it is a mistake, as getenv of a variable that
+   isn't set. */
+static void try_lost_path(void) {
+    kij_till *const none = (kij_till *)&failed;
+    kij_till *till = none;
+    int flags[] = {KIJ_CREATE, KIJ_CREATE_NEW, KIJ_EXISTING - 1, KIJ_CREATE_NEW + 1};
+    unsetenv("KIJ_TOTALS_OF_NOBODY");
+    for (size_t place = 0; place < sizeof flags / sizeof flags[0]; place++) {
+        kij_result result = kij_open(NULL, getenv("KIJ_TOTALS_OF_NOBODY"), flags[place], &till);
+        told("a path that is lost", KIJ_BAD_ARGUMENT, result.code);
+        told("writes no till", true, till == none);
+    }
+    open_totals("a path of no bytes", "", KIJ_CREATE, KIJ_SYSTEM, ENOENT);
+    open_totals("a new file of no path", "", KIJ_CREATE_NEW, KIJ_SYSTEM, ENOENT);
+    open_totals("totals in memory", NULL, KIJ_EXISTING, KIJ_OK, 0);
+    told("a survey of no path", KIJ_BAD_ARGUMENT, kij_files(NULL, NULL, 0, &(size_t){0}, &(uint64_t){0}).code);
+    told("a move of no path", KIJ_BAD_ARGUMENT, kij_migrate(NULL).code);
+}
+
 /* A process that was forked doesn't write the totals, which the one that opened them goes on changing. */
 static void try_forked_totals(const char *path) {
     kij_till *till = NULL;
@@ -920,6 +1023,9 @@ int main(int count, char **words) {
     try_patience();
     try_empty();
     try_given_back();
+    try_lost_path();
+    try_texts(words[1]);
+    try_reasons();
     try_totals(path);
     snprintf(forked, sizeof forked, "%s/totals-without-room", words[1]);
     try_disk_error(forked, &write_fault, ENOSPC);

@@ -131,7 +131,7 @@ class Bench:
         """What `files` of the program finds in a file: what the reader calls it, or its text."""
         self.cut.write_bytes(image)
         ran = subprocess.run([self.program, "files", "--disk", str(self.cut)], capture_output=True, text=True)
-        for words, found in ((": is shorter than", reader.SHORT), (": isn't formatted", reader.UNFORMATTED),
+        for words, found in ((": is shorter than", reader.SHORT), (": has no totals", reader.UNFORMATTED),
                              (": its totals are damaged at byte", reader.DAMAGED)):
             if ran.returncode == 4 and words in ran.stderr:
                 return found

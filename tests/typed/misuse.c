@@ -39,7 +39,7 @@ static void said_by_system(void) {
         {EROFS, "Read-only file system"},
         {ENOSPC, "No space left on device"},
         {EWOULDBLOCK, "The file of the totals is in use: close the other program that has it open."},
-        {ENOENT, "The file of the totals isn't there, or what creating it needs: its folder, and /proc."},
+        {ENOENT, "The file of the totals isn't there. If it was to be created, its folder isn't, or /proc."},
         {EEXIST, "The file of the totals is there already."},
         {0, "The system refused the file of the totals; the extended code is errno."},
         {-5, "The system refused the file of the totals; the extended code is errno."},

@@ -8,11 +8,13 @@ from types import TracebackType
 from typing import TYPE_CHECKING, Any, ClassVar, Optional, Self, SupportsIndex, TypeVar, Union
 
 from . import _events
-from ._constants import E_EXTENDED, KIJOLVAR_CUT, KIJOLVAR_NO_MEMORY, ErrorReply
+from ._constants import E_EXTENDED, E_OFFLINE, KIJOLVAR_CUT, KIJOLVAR_NO_MEMORY, ErrorReply
 from ._events import ErrorEvent, Event
 from ._faults import LineError, NoMemoryError, UposError
 from ._reasons import REASONS
+from ._unique import Unique
 from .errors import BY_CODE, BY_EXTENDED, ClosedError
+from .ports import reason_of
 
 if TYPE_CHECKING:
     from .till import Till
@@ -77,7 +79,7 @@ def device_word(name: str) -> bytes:
     return word
 
 
-class Control:
+class Control(Unique):
     """A handle on a device. Each control counts as an application of its own.
 
     You get an open one from the till, as `till.drawer("d1")`. It is closed at the end of a `with` block, and soon after
@@ -88,6 +90,7 @@ class Control:
     __slots__ = ("_till", "_name", "_carry_out", "_call", "_words", "_get", "_set", "_device", "_last_device",
                  "_listener", "__weakref__")
 
+    _noun = "a control"
     category: ClassVar[str] = ""
     is_exclusive: ClassVar[bool] = False
 
@@ -123,6 +126,10 @@ class Control:
         where = f"on {self._device!r}" if self._device is not None else "closed"
         return f"<kijolvar.{type(self).__name__} {where}>"
 
+    def __deepcopy__(self, memo: dict[int, Any]) -> Self:
+        """Returns the control itself: an event that is copied (`dataclasses.asdict`) is still one of this control."""
+        return self
+
     def __enter__(self) -> Self:
         return self
 
@@ -143,6 +150,9 @@ class Control:
             if code == E_EXTENDED:
                 kind = BY_EXTENDED.get((self.category, extended), kind)
             reason = REASONS.get(call, {}).get(kind.name, "")
+            fault = self._till._drives.port_error(self._device) if code == E_OFFLINE else None
+            if fault is not None:
+                reason = f"{(reason or kind.summary).rstrip('.')}: {reason_of(fault)}."
             return kind(code, extended, f"{call} of {self.category} {self._device or self.name}", reason)
         if answer == b"memory\n":
             return NoMemoryError(KIJOLVAR_NO_MEMORY, f"{call}: there was no memory, and nothing was done")

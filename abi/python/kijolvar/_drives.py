@@ -16,7 +16,7 @@ from ._faults import DriverError, InCallError, InputError, LineError, NoDeviceEr
 from ._questions import ProfileDevice
 from ._session import Session, is_called
 from .drivers import Driver, Scan
-from .ports import BESIDE
+from .ports import BESIDE, PortError
 
 if TYPE_CHECKING:
     from .till import Till
@@ -140,6 +140,11 @@ class Drives:
         if drive is not None:
             self._by_word.pop(drive.word, None)
             drive.driver.close()
+
+    def port_error(self, name: str | None) -> PortError | None:
+        """Why the port of a device's driver couldn't be opened; None if it is open, or there is no driver or port."""
+        drive = None if name is None else self._drives.get(name)
+        return None if drive is None else drive.driver.port_error
 
     def attach(self, name: str, line: bytes) -> bytes:
         """Carries out a line that attaches a peripheral to a device, and returns the answer. If the device has a

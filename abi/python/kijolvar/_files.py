@@ -10,11 +10,27 @@ from collections.abc import Iterator
 from typing import BinaryIO, Literal
 
 from ._constants import KIJOLVAR_DISK_LENGTH
+from ._faults import FormattedError, MovedError, TooSmallError, UnformattedError
 from ._library import Path
 from ._session import Session, read_whole, write_whole
 
 # How often a file is opened whose name another program gives to another file meanwhile.
 _TRIES = 10
+
+
+@contextlib.contextmanager
+def naming(path: str) -> Iterator[None]:
+    """A block whose faults name the file of totals: what the system refuses, and what the library says of the file."""
+    try:
+        yield
+    except OSError as fault:
+        named = OSError(fault.errno, fault.strerror, path)
+        # What a signal's handler raises may have no number, or be of another class.
+        if fault.errno is None or fault.filename == path or type(named) is not type(fault):
+            raise
+        raise named from None
+    except (FormattedError, MovedError, TooSmallError, UnformattedError) as fault:
+        raise type(fault)(fault.library_code, f"{path}: {fault.text}") from None
 
 
 @contextlib.contextmanager
@@ -35,7 +51,8 @@ def _lock(totals: BinaryIO, path: str, how: int = fcntl.LOCK_EX) -> None:
 
 
 def _in_use(code: int, path: str) -> BlockingIOError:
-    return BlockingIOError(code, "is in use: close the other program that has it open", path)
+    why = "is in use: close the other program, or the other till of this one, that has it open"
+    return BlockingIOError(code, why, path)
 
 
 def _locked(path: str, mode: Literal["rb", "r+b"], how: int) -> BinaryIO:
@@ -80,7 +97,7 @@ def open_totals(path: Path) -> BinaryIO:
         BlockingIOError: Another till or program has the file open.
     """
     name = os.fspath(path)
-    with contextlib.ExitStack() as undo, _folder(name) as folder:
+    with contextlib.ExitStack() as undo, _folder(name) as folder, naming(name):
         totals = undo.enter_context(_locked(name, "r+b", fcntl.LOCK_EX))
         _sync_first(totals)
         os.fsync(folder)
@@ -96,10 +113,11 @@ def create_totals(library: ctypes.CDLL, path: Path, profile: bytes = b"") -> Bin
 
     Raises:
         FileExistsError: Anything has the name already.
+        OSError: The file can't be made, as on a disk that is full or read-only.
         ProfileError: The profile is refused.
     """
     name = os.fspath(path)
-    with contextlib.ExitStack() as undo, _folder(name) as folder:
+    with contextlib.ExitStack() as undo, _folder(name) as folder, naming(name):
         unnamed = os.open(".", os.O_RDWR | os.O_TMPFILE, 0o600, dir_fd=folder)
         totals = undo.enter_context(open(unnamed, "r+b", buffering=0))
         _lock(totals, name)
@@ -115,7 +133,7 @@ def create_totals(library: ctypes.CDLL, path: Path, profile: bytes = b"") -> Bin
 
 def move_totals(library: ctypes.CDLL, path: Path) -> None:
     """Moves the totals in a file to layout 2."""
-    with open_totals(path) as totals:
+    with open_totals(path) as totals, naming(os.fspath(path)):
         Session(library, b"", totals, begin="kijolvar_migrate_file").close()
 
 
@@ -128,12 +146,9 @@ def read_totals(path: Path) -> bytes:
         OSError: It is no regular file, or can't be synced or read.
     """
     name = os.fspath(path)
-    with _locked(name, "rb", fcntl.LOCK_SH) as totals:
-        try:
-            _sync_first(totals)
-            return read_whole(totals.fileno())
-        except OSError as fault:
-            raise OSError(fault.errno, fault.strerror, name) from None
+    with naming(name), _locked(name, "rb", fcntl.LOCK_SH) as totals:
+        _sync_first(totals)
+        return read_whole(totals.fileno())
 
 
 def _open_at_once(path: str, flags: int) -> int:

@@ -7,7 +7,7 @@ import random
 import re
 import time
 from collections import deque
-from collections.abc import Callable
+from collections.abc import Callable, Iterable
 from dataclasses import dataclass
 from time import CLOCK_BOOTTIME, clock_gettime
 from typing import TYPE_CHECKING
@@ -72,6 +72,11 @@ class Wire:
         """How many of its orders the till was told as done. It changes before an order that is done is reported."""
         return self._session.reports[self._device]
 
+    @property
+    def is_waiting(self) -> bool:
+        """Whether the order that is out is output that waits (AsyncMode)."""
+        return self._session.is_working
+
     def order(self, job: int) -> bytes:
         """The bytes of the order that is out. Behind them stands what asks for an acknowledgement."""
         return self._session.order_bytes(self._settings, False, job)
@@ -128,9 +133,9 @@ class Job:
         """Whether the till was told that it is done."""
         return self.told_at is not None and self.told_at[0].reports != self.told_at[1]
 
-    def is_late(self, now: Job | None) -> bool:
-        """Whether it puts something on the paper that isn't asked for any more."""
-        return self.is_once and self.data != b"" and self is not now
+    def is_late(self, failed: Iterable[Job]) -> bool:
+        """Whether it puts something on the paper that isn't asked for any more, as those that have failed may be."""
+        return self.is_once and self.data != b"" and all(self is not job for job in failed)
 
 
 class _Parcel:
@@ -194,8 +199,9 @@ class PrinterLink:
         self.told: list[Told] = []
         self.statuses = self.late = self.lines = 0
         self.signs: dict[str, str] = {}
-        # What was begun last for the paper, and isn't reported as done.
-        self._failed: Job | None = None
+        # What was begun last for the paper, and isn't reported as done: of output that waits (AsyncMode), and of other
+        # orders. One of these may come before output that has failed is tried again.
+        self._failed: dict[bool, Job] = {}
         # A printer may still acknowledge jobs of a host that has ended. Those shouldn't have the numbers of these.
         self._number = random.randrange(_NUMBERS)
         # What asks for an acknowledgement, as the library put it behind the last order.
@@ -253,9 +259,9 @@ class PrinterLink:
         """Sends the order that is out, and returns whether the printer acknowledged it. It has failed once the printer
         has acknowledged nothing for the timeout.
 
-        If an order failed and the next one is the same, only what wasn't printed is sent again, unless it was given up.
-        An order that is done has failed, too, if an interrupt comes before its report. With is_once false it is sent
-        whole.
+        If an order failed and the next one is the same, it goes on with what isn't acknowledged, unless it was given
+        up. Output that waits has a next one of its own. An order that is done has failed, too, if an interrupt comes
+        before its report. With is_once false it is sent whole.
         """
         if is_called(self, "poll"):
             # A signal's handler orders something by another driver of the line.
@@ -270,9 +276,8 @@ class PrinterLink:
         self._question = data[-self._end_size:]
         try:
             self._receive()
-            if self._failed is not None and self._failed.is_reported:
-                self._failed = None
-            job = self._taken_up(data[:-self._end_size], is_once)
+            self._failed = {key: job for key, job in self._failed.items() if not job.is_reported}
+            job = self._taken_up(data[:-self._end_size], is_once, wire.is_waiting)
             self._waits_until_it_is_back()
             if not (job.is_done or job.is_torn or self.is_stopped or self._is_due(job)) and self._has_time():
                 self._post(job)
@@ -301,7 +306,11 @@ class PrinterLink:
 
     def give_up(self) -> None:
         """What has failed isn't asked for any more: an order from now on is a new one, also if it is the same."""
-        failed, self._failed = self._failed, None
+        for is_waiting in (False, True):
+            self._give_up_one(is_waiting)
+
+    def _give_up_one(self, is_waiting: bool) -> None:
+        failed = self._failed.pop(is_waiting, None)
         if failed is not None and failed.is_done and failed.data and not failed.is_reported:
             # It was printed after it had failed.
             self.late += 1
@@ -310,17 +319,18 @@ class PrinterLink:
         """Whether the time of the order isn't over."""
         return time.monotonic() < self._ends_at
 
-    def _taken_up(self, data: bytes, is_once: bool) -> Job:
+    def _taken_up(self, data: bytes, is_once: bool, is_waiting: bool) -> Job:
         """The job of an order: the one that failed if the order is the same, and how far that one has come."""
         if not is_once:
             return Job(data, is_once)
-        failed = self._failed
-        if failed is None or failed.data != data:
-            self.give_up()
-            self._failed = Job(data, is_once)
-            return self._failed
-        self._catches_up(failed)
-        return failed
+        found = [key for key in (is_waiting, not is_waiting) if key in self._failed and self._failed[key].data == data]
+        if not found or found[0] != is_waiting:
+            self._give_up_one(is_waiting)
+            self._failed[is_waiting] = self._failed.pop(found[0]) if found else Job(data, is_once)
+        job = self._failed[is_waiting]
+        if found:
+            self._catches_up(job)
+        return job
 
     def _catches_up(self, job: Job) -> None:
         """Finds out how far a job has come that failed."""
@@ -394,8 +404,10 @@ class PrinterLink:
     def _is_held(self) -> bool:
         """Whether something of a job is due of which the line may keep a part. One that is offline says that it goes
         on."""
-        is_any = any(parcel.job is not None for parcel in self._due)
-        return is_any and self.port.holds_back and not self._is_offline
+        return self._may_keep_a_part() and not self._is_offline
+
+    def _may_keep_a_part(self) -> bool:
+        return self.port.holds_back and any(parcel.job is not None for parcel in self._due)
 
     def _tears(self) -> None:
         """The printer may have lost a part of what is due, and the line may have kept the rest: nothing of it counts
@@ -567,7 +579,7 @@ class PrinterLink:
                     job.is_torn = True
                 elif parcel.done > job.done:
                     job.done = parcel.done
-                    self.late += job.is_done and job.is_late(self._failed)
+                    self.late += job.is_done and job.is_late(self._failed.values())
             self._due.popleft()
 
     def _puts(self, data: bytes) -> None:
@@ -779,6 +791,10 @@ class AskedLink(PrinterLink):
         """It doesn't say by itself that it goes on. Without a cause it may as well be off."""
         return self.is_stopped
 
+    def _is_held(self) -> bool:
+        """It may also be off and on again after it has told why it is offline, and then doesn't say so."""
+        return self._may_keep_a_part()
+
     def _end(self, number: int) -> bytes:
         return self._question
 
@@ -846,9 +862,9 @@ class AskedLink(PrinterLink):
         self._rounds += asked == _PAPER
         self._asks_next(asked)
 
-    def _taken_up(self, data: bytes, is_once: bool) -> Job:
+    def _taken_up(self, data: bytes, is_once: bool, is_waiting: bool) -> Job:
         self._gives_up()
-        return super()._taken_up(data, is_once)
+        return super()._taken_up(data, is_once, is_waiting)
 
     def _is_due(self, job: Job) -> bool:
         """Whether any acknowledgement may still come. It wouldn't say which job it is for."""

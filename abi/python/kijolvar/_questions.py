@@ -15,6 +15,8 @@ from ._library import Path
 
 Profile = Union[str, "os.PathLike[str]"]
 _ROOM = 4096
+# What a line of a profile has, and hardly any path.
+_NO_PATH = frozenset("=[]#\"")
 
 
 def text_of(profile: Profile | None) -> str:
@@ -59,10 +61,21 @@ def explain(library: ctypes.CDLL, text: str) -> LibraryFault:
         return ProfileError(reason)
     if code == KIJOLVAR_BAD_TEXT:
         before = profile[:at.value].decode(errors="replace")
-        if "\n" not in text and os.path.exists(text):
-            reason += ": a str is the text of a profile; pass the path of a file as a pathlib.Path"
+        if "\n" not in text:
+            reason += _hint(text)
         return ProfileError(reason, *_place(before))
     return library_fault(code)
+
+
+def _hint(text: str) -> str:
+    """What else is wrong if a refused text of one line is the path of a file, or looks like one."""
+    if os.path.exists(text):
+        missing = ""
+    elif _NO_PATH.isdisjoint(text):
+        missing = f" there is no file {text!r}, and"
+    else:
+        return ""
+    return f":{missing} a str is the text of a profile; pass the path of a file as a pathlib.Path"
 
 
 @dataclass(frozen=True)
@@ -156,8 +169,9 @@ def files(path: Path, library: Path | ctypes.CDLL | None = None) -> TotalsConten
     code, told = _ask(library_of(library).kijolvar_survey, _files.read_totals(path), ctypes.byref(at))
     if code == KIJOLVAR_DAMAGED:
         raise DamagedError(told, at.value)
-    if code != KIJOLVAR_OK:
-        raise library_fault(code)
+    with _files.naming(os.fspath(path)):
+        if code != KIJOLVAR_OK:
+            raise library_fault(code)
     lines = [line.split(" ", 1) for line in told.splitlines()]
     layout, slot, sequence, records, room = (word[1] for word in lines[:5])
     return TotalsContents(int(layout), int(slot), int(sequence), int(records), None if room == "none" else int(room),

@@ -17,6 +17,7 @@ from ._constants import (KIJOLVAR_CUT, KIJOLVAR_DISK_FAILED, KIJOLVAR_DISK_LENGT
                          KIJOLVAR_SYNC, KIJOLVAR_UNDONE, KIJOLVAR_WAITS, KIJOLVAR_WRITE)
 from ._faults import NO_THREAD, NoMemoryError, library_fault
 from ._library import Raw, by_addresses, carrier, check
+from ._unique import Unique
 from ._wire import RawSettings, Reply
 from .errors import InCallError, InOrderError, ThreadError, TillClosedError
 
@@ -106,7 +107,7 @@ def _as_call(method: Callable[Concatenate[Session, P], T]) -> Callable[Concatena
     return as_call
 
 
-class Session:
+class Session(Unique):
     """A till over a profile's text and an open file of totals, or totals in memory if there is none.
 
     Only the thread that made it may use it, in its own process: one that is forked has the till as a closed one. A file
@@ -119,6 +120,8 @@ class Session:
     If the till has opened the file itself (`owns_totals`), a process that is forked has that as a closed one, too: its
     lock ends with the till, though the process goes on.
     """
+
+    _noun = "a session"
 
     def __init__(self, library: ctypes.CDLL, profile: bytes, totals: BinaryIO | None = None, *,
                  begin: str = "kijolvar_open_file", owns_totals: bool = False) -> None:
@@ -153,6 +156,8 @@ class Session:
         # The devices that are driven, and the orders of hosted devices that came before one of these.
         self._driven: set[bytes] = set()
         self._hosted: deque[bytes] = deque()
+        #: Whether orders are of output that waits: the line is one that works on it.
+        self.is_working = False
         #: Carries out an order of a driven device: whether it is done, and what happened at the device if it isn't.
         self.serve: Callable[[bytes], tuple[bool, bytes]] | None = None
         #: Is called once the till has taken what became of the order: whether it is done, and the till's answers to
@@ -432,6 +437,7 @@ class Session:
             else:
                 break
             code = self._call_again(lines)
+        self.is_working = lines.startswith(b"work ") and lines.count(b"\n", 0, -1) == 0
         text = self._told(code)
         if self._has_served and self.served is not None:
             self._has_served = False

@@ -21,12 +21,13 @@ from collections import deque
 from dataclasses import dataclass
 from typing import TYPE_CHECKING, Literal, Union
 
+from ._codes import kind_of
 from ._devices import Order
 from ._library import Path
 from ._links import AskedLink, PrinterLink, Wire
 from ._questions import ProfileDevice
 from ._wire import WireSettings
-from .ports import FilePort, MinorFaults, Port, PortError, port_of
+from .ports import FilePort, MinorFaults, Port, PortError, check_choice, port_of
 
 if TYPE_CHECKING:
     from .till import Till
@@ -76,6 +77,12 @@ class Driver:
         """Whether the device is there. If not, the till takes it as switched off, once it has taken what `scans`
         returns."""
         return True
+
+    @property
+    def port_error(self) -> PortError | None:
+        """Why the driver's port couldn't be opened the last time; None once it is open, or if there is no port. An
+        OfflineError of a call names it."""
+        return None
 
     @property
     def is_quiet(self) -> bool:
@@ -143,10 +150,11 @@ class EscPosPrinter(Driver):
     """A receipt printer with ESC/POS, and the drawer on its connector.
 
     An order counts as done once the printer has acknowledged it (GS ( H). If an order failed and the next one is the
-    same, as a retry is, only the lines and cuts that the printer hasn't acknowledged are sent again, also if the
-    control was released or closed meanwhile. It is a new order, of which all is printed, if the application has given
-    up the one that failed: with `clear_output`, or with the reply ER_CLEAR to its ErrorEvent. Once a line has opened a
-    control (`Till.carry_out`), each gives up the failed orders of all printers.
+    same, as a retry is, it goes on with the first line or cut that the printer hasn't acknowledged, also if the
+    control was released or closed meanwhile. Output that waits (AsyncMode) does so though other orders were printed at
+    once meanwhile. It is a new order, of which all is printed, if the application has given up the one that failed:
+    with `clear_output`, or with the reply ER_CLEAR to its ErrorEvent. Once a line has opened a control
+    (`Till.carry_out`), each gives up the failed orders of all printers.
 
     A serial line with flow control keeps what was sent while the printer is off. If the printer says nothing for 2
     seconds, or for the timeout if that is shorter, the order has failed, and what isn't acknowledged of it is printed
@@ -185,8 +193,7 @@ class EscPosPrinter(Driver):
                  cutter: Cutter = "both", feed: int = 3, pin: int = 2, pulse: tuple[int, int] = (25, 250),
                  is_open_high: bool = True, lines: int = _MOST_LINES, is_asked: bool = False, timeout: float = 5.0,
                  pause: float = 1.0) -> None:
-        if cutter not in _CUTTERS:
-            raise ValueError(f"no such cutter: {cutter!r}")
+        check_choice("cutter", cutter, _CUTTERS)
         if not (0 <= feed <= 255 and pin in (2, 5) and all(0 <= time <= 255 for time in pulse)):
             raise ValueError("feed and the times of the pulse are 0 to 255, and the pin is 2 or 5")
         if not 1 <= lines <= _MOST_LINES:
@@ -217,6 +224,10 @@ class EscPosPrinter(Driver):
     @property
     def is_online(self) -> bool:
         return self.link.is_online
+
+    @property
+    def port_error(self) -> PortError | None:
+        return self.link.port.open_error
 
     def begin(self, till: Till, device: ProfileDevice) -> None:
         chars, near = device.chars or 0, device.near or 0
@@ -333,6 +344,10 @@ class EscPosDrawer(Driver):
         return self._printer.is_online
 
     @property
+    def port_error(self) -> PortError | None:
+        return self._printer.port_error
+
+    @property
     def is_quiet(self) -> bool:
         link = self._printer.link
         return link.statuses == self._compared and self._kicked_at is None and link.is_online
@@ -414,8 +429,7 @@ class SerialDisplay(Driver):
 
     def __init__(self, port: Union[Port, Path], protocol: Protocol = "cd5220", *, timeout: float = 2.0,
                  pause: float = 1.0) -> None:
-        if protocol not in _PROTOCOLS:
-            raise ValueError(f"no such protocol: {protocol!r}")
+        check_choice("protocol", protocol, _PROTOCOLS)
         _check_timeout(timeout)
         _check_pause("the pause", pause)
         self.port, self._timeout, self._pause = port_of(port, flow="none"), timeout, pause
@@ -431,6 +445,10 @@ class SerialDisplay(Driver):
     @property
     def is_online(self) -> bool:
         return self.port.is_open
+
+    @property
+    def port_error(self) -> PortError | None:
+        return self.port.open_error
 
     @property
     def is_quiet(self) -> bool:
@@ -459,8 +477,9 @@ class SerialDisplay(Driver):
 
     def _bytes(self, till: Till) -> bytes:
         """The bytes of the order that is out, with all rows if nobody knows what the display shows."""
-        is_new = self._is_new or time.monotonic() - self._shown_at >= _UNSEEN
-        self._shown_at = time.monotonic()
+        # The time in which the machine was suspended counts, too.
+        now = time.clock_gettime(time.CLOCK_BOOTTIME)
+        is_new, self._shown_at = self._is_new or now - self._shown_at >= _UNSEEN, now
         return till.order_bytes(self._settings, is_new) or till.order_bytes(self._settings, True)
 
     def reported(self) -> None:
@@ -502,7 +521,7 @@ class Scan:
     """A code that was read.
 
     Attributes:
-        kind: The type of the code (ScanDataType), 0 if it isn't known.
+        kind: The type of the code (`ScanDataType`), 0 if it isn't known.
         data: All that came, without the terminator.
         label: The code alone.
     """
@@ -512,10 +531,6 @@ class Scan:
     label: bytes
 
 
-# The types of codes by the letter of an AIM identifier, and by its letter and digit.
-_AIM = {b"A": 108, b"C": 110, b"E": 104, b"F": 107, b"G": 109, b"I": 106, b"L": 201, b"Q": 204, b"S": 105, b"U": 202,
-        b"d": 203, b"e": 131, b"z": 206}
-_AIM_DIGIT = {b"C1": 120, b"E3": 119, b"E4": 103, b"o1": 121, b"o2": 122}
 # The longest code, and the highest type.
 _LONGEST, _HIGHEST_KIND = 4096, 999
 # How long the rest of a code may take, in seconds.
@@ -692,6 +707,10 @@ class WedgeScanner(Driver):
         # What came before the port was lost is told first.
         return self.port.is_open or bool(self._found) or self._has_failed
 
+    @property
+    def port_error(self) -> PortError | None:
+        return self.port.open_error
+
     def start(self, device: ProfileDevice) -> None:
         self.poll()
 
@@ -783,9 +802,7 @@ class WedgeScanner(Driver):
 
     def _scan(self, code: bytes) -> Scan:
         if code[:1] == b"]" and len(code) > 3:
-            name = code[1:3]
-            kind = _AIM_DIGIT.get(name, _AIM.get(name[:1], 501))
-            return Scan(kind, code, code[3:])
+            return Scan(kind_of(code[1:3]), code, code[3:])
         return Scan(self._kind, code, code)
 
     def happened(self) -> list[str]:

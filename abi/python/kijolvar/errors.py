@@ -90,7 +90,7 @@ class OfflineError(UposError):
     summary = "The device is off."
 
 
-class NoExistError(UposError, LookupError):
+class NoExistError(UposError, KeyError):
     """E_NOEXIST (109): there is no device or file of that name.
 
     UnifiedPOS 1.16, chapter Common Properties, Methods and Events.

@@ -25,6 +25,7 @@ from types import TracebackType
 from typing import Any, Literal, Protocol, Union
 
 from ._library import Path
+from ._unique import Unique
 
 Parity = Literal["none", "even", "odd"]
 Flow = Literal["none", "rts-cts", "xon-xoff"]
@@ -82,6 +83,12 @@ class _Beside(threading.local):
 BESIDE = _Beside()
 
 
+def reason_of(fault: BaseException) -> str:
+    """What the system says of a fault, without its number and path."""
+    said = fault.args[1] if len(fault.args) > 1 else None
+    return said if isinstance(said, str) else str(fault)
+
+
 def check_wait(name: str, seconds: float) -> None:
     """Refuses NaN as the time for which a call waits."""
     if math.isnan(seconds):
@@ -96,7 +103,13 @@ def _milliseconds(seconds: float) -> float | None:
     return 0
 
 
-class Port:
+def check_choice(name: str, value: str, choices: Sequence[str]) -> None:
+    """Refuses what isn't one of some words, and says which there are."""
+    if value not in choices:
+        raise ValueError(f"{name} is {', '.join(map(repr, choices[:-1]))} or {choices[-1]!r}: not {value!r}")
+
+
+class Port(Unique):
     """A port. Use FilePort, SerialPort or TcpPort, or `port_of` with the name of one.
 
     Attributes:
@@ -107,12 +120,14 @@ class Port:
             needs. If not, such a byte is dropped: 0 may be a printer's answer that all is well.
     """
 
+    _noun = "a port"
     is_patient = False
     keeps_faults = True
 
     def __init__(self, name: str) -> None:
         self.name = name
         self._file: int | None = None
+        self._open_error: PortError | None = None
         # The process that has opened it.
         self._process = 0
         # What waits until bytes can be read, and until they can be read or written.
@@ -132,6 +147,11 @@ class Port:
     def is_open(self) -> bool:
         """Whether the port is open."""
         return self._file is not None
+
+    @property
+    def open_error(self) -> PortError | None:
+        """Why the last `open` failed; None if the port is open, or nobody has tried."""
+        return None if self.is_open else self._open_error
 
     @property
     def is_opening(self) -> bool:
@@ -188,6 +208,17 @@ class Port:
         check_wait("seconds", seconds)
         if self._file is not None:
             return
+        try:
+            self._open(seconds)
+        except PortError as fault:
+            if not _is_of_handler(fault):
+                # Without the trace, which refers to the callers.
+                self._open_error = PortError(*fault.args)
+            raise
+        self._open_error = None
+
+    def _open(self, seconds: float) -> None:
+        """Opens the port, which is closed."""
         file = None
         try:
             file = self._opened(seconds)
@@ -201,7 +232,7 @@ class Port:
             if _is_of_handler(fault):
                 raise
             code = fault.args[0] if fault.args else errno.EIO
-            why = "is in use" if code == errno.EBUSY else f"can't be opened: {fault}"
+            why = "is in use" if code == errno.EBUSY else f"can't be opened: {reason_of(fault)}"
             raise PortError(code, f"{self.name} {why}") from fault
         finally:
             if file is not None and self._file is None:
@@ -338,7 +369,7 @@ class Port:
         self.close()
         if isinstance(fault, PortError):
             raise fault
-        raise PortError(errno.EIO, f"{self.name} was lost: {fault}") from fault
+        raise PortError(errno.EIO, f"{self.name} was lost: {reason_of(fault)}") from fault
 
     def _opened(self, seconds: float) -> int:
         raise NotImplementedError
@@ -539,8 +570,8 @@ class SerialPort(FilePort):
             raise ValueError(f"no serial line has {speed} bits per second")
         if bits not in (7, 8) or stops not in (1, 2):
             raise ValueError("a byte has 7 or 8 bits, and 1 or 2 stop bits")
-        if parity not in ("none", "even", "odd") or flow not in ("none", "rts-cts", "xon-xoff"):
-            raise ValueError("parity is none, even or odd; flow is none, rts-cts or xon-xoff")
+        check_choice("parity", parity, ("none", "even", "odd"))
+        check_choice("flow", flow, ("none", "rts-cts", "xon-xoff"))
         self._speed, self._bits, self._parity, self._stops, self._flow = found, bits, parity, stops, flow
 
     @property

@@ -27,6 +27,7 @@ from ._faults import (Error, LibraryFault, LineError, NameInUseError, NoDeviceEr
 from ._library import Path
 from ._questions import Profile, ProfileDevice, devices, explain, library_of, text_of
 from ._session import Session
+from ._unique import Unique
 from ._wire import Reply, WireSettings, behind, expected
 from .drivers import Driver
 from .ports import check_wait
@@ -47,7 +48,7 @@ class Printer(POSPrinter):
         self.print_normal(PTR_S_RECEIPT, data)
 
 
-class Till:
+class Till(Unique):
     """The devices of a shop counter, simulated or the host's, and the controls on them. `kijolvar.open` makes one.
 
     `till.drawer("d1")`, `till.scanner("s1")`, `till.display("p1")`, `till.printer("r1")` and `till.totals("t1")` are
@@ -58,6 +59,8 @@ class Till:
     One call at a time: a signal's handler that calls the till while a call is under way gets an InCallError. It may
     close the till.
     """
+
+    _noun = "a till"
 
     def __init__(self, session: Session, totals: BinaryIO | None = None, *, where: str = "in memory",
                  owns_totals: bool = False, devices: Callable[[], list[ProfileDevice]] | None = None) -> None:
@@ -357,7 +360,8 @@ class Till:
         device has done it. If it hasn't, the call raises FailureError (no answer), OfflineError, CoverOpenError or
         ReceiptEmptyError.
 
-        Hardware that isn't there is no error: the device is off until it is. The till closes the port at its end.
+        Hardware that isn't there is no error: the device is off until it is, and `driver.port_error` says why its port
+        can't be opened. The till closes the port at its end.
 
         A spare that is attached to the device later (`Device.attach`, or a line) has the driver then.
 
@@ -528,7 +532,9 @@ def open(profile: Profile | None = None, totals: Path | BinaryIO | None = None, 
         file, owns, where = _file_of(found, totals, may_create, text.encode())
         if owns and file is not None:
             undo.enter_context(file)
-        session = Session(found, text.encode(), file, owns_totals=owns)
+        name = getattr(file, "name", None)
+        with _files.naming(name) if isinstance(name, str) else contextlib.nullcontext():
+            session = Session(found, text.encode(), file, owns_totals=owns)
         undo.pop_all()
     return Till(session, file, where=where, owns_totals=owns, devices=functools.partial(devices, text or None, found))
 

@@ -2,23 +2,31 @@
 from __future__ import annotations
 
 import contextlib
-from collections.abc import Iterator
+from collections.abc import Iterator, Mapping
 from types import TracebackType
-from typing import SupportsIndex
+from typing import SupportsIndex, TypeVar, overload
 
 from ._constants import E_NOEXIST
 from ._control import Text, is_answer_lost, undoing
 from ._controls import HardTotals
 from ._faults import Error
+from ._unique import Unique
 from .errors import DisabledError, IllegalError, NoExistError
 
 
-class Totals(HardTotals):
+D = TypeVar("D")
+# What asking for a file raises if there is none. No file has a name that isn't ASCII, or is too long for a line.
+_NO_FILE = NoExistError, UnicodeEncodeError, OverflowError
+
+
+class Totals(HardTotals, Mapping[bytes, "TotalsFile"]):
     """Hard Totals: small files that survive a loss of power, as a mapping of names to files.
 
     `totals["SALES"]` is a file, `"SALES" in totals` says whether there is one, `len(totals)` counts them, a loop gives
-    their names in the order of creation, and `del totals["SALES"]` deletes one. `create` makes one. The standard's
-    methods are there too.
+    their names as bytes in the order of creation, and `del totals["SALES"]` deletes one. `create` makes one. `get`,
+    `keys`, `values` and `items` are those of any mapping. The standard's methods are there too.
+
+    Two objects are equal only if they are the same control.
 
     A change is on the disk before its call returns. Changes in `with totals.transaction():` are made all together.
     """
@@ -26,8 +34,11 @@ class Totals(HardTotals):
     __slots__ = ()
 
     def __getitem__(self, name: Text) -> TotalsFile:
-        """The file of a name. Raises NoExistError, which is a LookupError, if there is none."""
-        handle, size = self.find(name)
+        """The file of a name. Raises NoExistError, which is a KeyError, if there is none."""
+        try:
+            handle, size = self.find(name)
+        except NoExistError as fault:
+            raise NoExistError(fault.code, 0, fault.call, f"No file has the name {_shown(name)}.") from None
         return TotalsFile(self, handle, size, _name(name))
 
     def __contains__(self, name: object) -> bool:
@@ -35,10 +46,28 @@ class Totals(HardTotals):
             return False
         try:
             self.find(name)
-        except (NoExistError, UnicodeEncodeError, OverflowError):
-            # No file has a name that isn't ASCII, or is too long for a line.
+        except _NO_FILE:
             return False
         return True
+
+    @overload
+    def get(self, name: Text, /) -> TotalsFile | None: ...
+
+    @overload
+    def get(self, name: Text, /, default: TotalsFile | D) -> TotalsFile | D: ...
+
+    def get(self, name: Text, /, default: object = None) -> object:
+        """The file of a name, or the default if there is none."""
+        try:
+            return self[name]
+        except _NO_FILE:
+            return default
+
+    def __eq__(self, other: object) -> bool:
+        return self is other
+
+    def __hash__(self) -> int:
+        return object.__hash__(self)
 
     def __delitem__(self, name: Text) -> None:
         self.delete(name)
@@ -103,13 +132,15 @@ class Totals(HardTotals):
                 self.device_enabled = False
 
 
-class TotalsFile:
+class TotalsFile(Unique):
     """A file of Hard Totals. Wherever a handle is asked for, you can pass the file. `bytes(file)` is all that it has.
 
     Attributes:
         handle: The file's handle.
         size: How many bytes it has; that never changes.
     """
+
+    _noun = "a file of totals"
 
     def __init__(self, totals: Totals, handle: int, size: int, name: bytes) -> None:
         self._totals, self.handle, self.size, self._name = totals, handle, size, name
@@ -228,6 +259,11 @@ class FileClaim:
             # The block may have released it, or deleted the file.
             with undoing(value), contextlib.suppress(IllegalError):
                 self._file.release()
+
+
+def _shown(name: Text) -> str:
+    """A file's name in a message."""
+    return _name(name).decode("ascii", "backslashreplace")
 
 
 def _name(name: Text) -> bytes:

@@ -7,7 +7,8 @@ use Rattle.pos_service.specs.declared.peripheral.Peripheral.{Ghosts}
 use Rattle.pos_drive.specs.Courses.{reported_course}
 use Rattle.pos_drive.specs.declared.courses.Course.{Course}
 use Rattle.pos_counter.specs.Counters.{Stays}
-use Rattle.pos_counter.specs.Hosts.{changed_pending, hosts_in}
+use Rattle.pos_counter.specs.HostTallies.{LeavesHostAlone, hears}
+use Rattle.pos_counter.specs.Hosts.{changed_pending, hosts_in, progress_in}
 use Rattle.pos_counter.specs.declared.counter.Counter.{Counter}
 use Rattle.pos_script.specs.Lines.{lines_of}
 use Rattle.pos_totals.specs.Views.{TotalsView}
@@ -59,20 +60,22 @@ module _ (bound : DiskGhosts HostedDisk) (hosts : Device → Course) (peripheral
   reports_from : (is_done : Bool) {old same : Counter HostedDisk Device} (new : Counter HostedDisk Device) → same ≡ old
       → Stays peripherals same new
       → hosts_in hosts new ≡ changed_pending (reported_course is_done) (hosts_in hosts same)
+      → new.tally ≡ hears is_done (progress_in hosts same) same.tally
       → IsReported hosts peripherals is_done old new
-  reports_from is_done new is stays course =
+  reports_from is_done new is stays course tally =
       subst (λ (c : Counter HostedDisk Device). IsReported hosts peripherals is_done c new) is
-      (record { stays = stays; course = course })
+      (record { stays = stays; course = course; tally = tally })
 
   pub takes_done : {old before begun : TillState} {reported : Counter HostedDisk Device} {new : TillState}
       {inputs : List ℕ} (these : List (Vec ℕ Global)) → before ≡ record old { held = before.held }
       → BeginsAnswer before begun → Stays peripherals begun.counter reported
       → hosts_in hosts reported ≡ changed_pending (reported_course true) (hosts_in hosts begun.counter)
+      → reported.tally ≡ hears true (progress_in hosts begun.counter) begun.counter.tally
       → lines_in these ≡ lines_of inputs → before.held.items ≡ behind_first these old.held.items
       → AreHeld old.held.items → GoesOn bound hosts peripherals reported (session_in peripherals begun)
       (given_to begun.answer) begun.held.items new → KeepsRest (record begun { counter = reported }) new
       → TakesDone bound hosts peripherals old inputs new
-  takes_done {old} {before} {begun} {reported} {new} these is begins stays course are inserted each go rest =
+  takes_done {old} {before} {begun} {reported} {new} these is begins stays course told are inserted each go rest =
       let counter : begun.counter ≡ old.counter =
       ap (λ (k : TillState). k.counter) begins.stays ∙ ap (λ (k : TillState). k.counter) is in
       let session : session_in peripherals begun ≡ session_in peripherals old =
@@ -82,7 +85,7 @@ module _ (bound : DiskGhosts HostedDisk) (hosts : Device → Course) (peripheral
       let held : begun.held.items ≡ before.held.items = ap (λ (k : TillState). k.held.items) begins.stays in
       record {
         reported = reported;
-        reports = reports_from true reported counter stays course;
+        reports = reports_from true reported counter stays course told;
         lines = before.held.items;
         are = ap lines_in inserted ∙ lines_behind these old.held.items each.each
             ∙ ap (λ (ls : List (List ℕ)). behind_first ls (lines_in old.held.items)) are;
@@ -132,7 +135,8 @@ module _ (bound : DiskGhosts HostedDisk) (hosts : Device → Course) (peripheral
       → BeginsAnswer old begun → RunsGivenLines bound peripherals begun.counter (session_in peripherals begun)
       (lines_of inputs) (given_to begun.answer) between result left fed → is_ok result ≡ true
       → fixed_of fed.totals.disk ≡ fixed_of (disk_of begun) → Stays peripherals fed reported
-      → hosts_in hosts reported ≡ changed_pending (reported_course false) (hosts_in hosts fed) → mid ≡ record begun {
+      → hosts_in hosts reported ≡ changed_pending (reported_course false) (hosts_in hosts fed)
+      → reported.tally ≡ hears false (progress_in hosts fed) fed.tally → mid ≡ record begun {
         counter = reported;
         names = mid.names;
         spares = mid.spares;
@@ -140,14 +144,15 @@ module _ (bound : DiskGhosts HostedDisk) (hosts : Device → Course) (peripheral
         outcome = mid.outcome;
       } → GoesOn bound hosts peripherals reported left between begun.held.items new → KeepsRest mid new → TakesFailure
       bound hosts peripherals old inputs new
-  takes_failure {old} {begun} {fed} {reported} left between result {new} begins done all file stays course is go rest =
+  takes_failure {old} {begun} {fed} {reported} left between result {new} begins done all file stays course told is go
+      rest =
       record {
         fed = fed;
         session = left;
         between = between;
         carries = all_carried result all (carries_from old begun fed left _ between result begins done);
         reported = reported;
-        reports = record { stays = stays; course = course };
+        reports = record { stays = stays; course = course; tally = told };
         go_on = goes_from left _ new refl refl (ap (λ (k : TillState). k.held.items) begins.stays) go;
         rest = rest_from (ap (λ (k : TillState). fixed_of (disk_of k)) is ∙ ap (λ (t : TotalsView HostedDisk).
             fixed_of t.disk) stays.totals ∙ file ∙ ap (λ (k : TillState). fixed_of (disk_of k)) begins.stays)
@@ -187,6 +192,8 @@ module _ (bound : DiskGhosts HostedDisk) (hosts : Device → Course) (peripheral
             peripherals old.counter (session_in peripherals old) (lines_of inputs)
             (given_with [] (given_to old.answer).faults) (given_to mid.answer) (Err tt) x fed) session whole);
         stays = subst (λ (c : Counter HostedDisk Device). Stays peripherals c new.counter) counter drops.counter;
+        tally = subst (λ (c : Counter HostedDisk Device). LeavesHostAlone c.tally new.counter.tally) counter
+            drops.tally;
         held = drops.held;
         left = ap (λ (k : TillState). k.left) drops.stays;
         rest = record {

@@ -7,6 +7,7 @@ use Rattle.pos_service.specs.declared.peripheral.Peripheral.{Ghosts}
 use Rattle.pos_drive.specs.declared.courses.Course.{Course}
 use Rattle.pos_counter.specs.declared.counter.Counter.{Counter}
 use Rattle.pos_counter.specs.Counters.{IsCounterSound, Stays}
+use Rattle.pos_counter.specs.HostTallies.{LeavesHostAlone}
 use Rattle.pos_script.specs.Lines.{lines_of}
 use Rattle.pos_streams.specs.Streams.{Given, given_with}
 use Rattle.pos_streams.specs.Transfers.{given_to}
@@ -47,10 +48,11 @@ pub record BeginsAnswer (old new : TillState) : Type 0 where
   pub stays : new ≡ record old { told = false; answer = new.answer }
   pub answer : given_to new.answer ≡ given_with [] (given_to old.answer).faults
 
--- no line is held, and no order waits for its report
+-- no line is held, and no order is pending; the host was given none, and no report was taken
 pub record DropsHeld (peripherals : Ghosts Device) (old new : TillState) : Type 0 where
   pub stays : new ≡ record old { counter = new.counter; held = new.held; left = Printed }
   pub counter : Stays peripherals old.counter new.counter
+  pub tally : LeavesHostAlone old.counter.tally new.counter.tally
   pub held : new.held.items ≡ []
 
 -- How lines ended is noted. Where memory ran out for what one prints, none is held any more.

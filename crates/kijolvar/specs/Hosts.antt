@@ -44,6 +44,7 @@ pub record IsDriven (hosts : Device → Course) (peripherals : Ghosts Device) (o
     (new : TillState) : Type 0 where
   pub code_told : code ≡ ok
   pub counter : Stays peripherals old.counter new.counter
+  pub tally : new.counter.tally ≡ old.counter.tally
   pub course : hosts_in hosts new.counter ≡ changed_named driven_course name (hosts_in hosts old.counter)
   pub stays : new ≡ record old { counter = new.counter; is_driven = true }
 

@@ -6,6 +6,7 @@ use Rattle.pos_drive.specs.Courses.{handed_out_course}
 use Rattle.pos_drive.specs.declared.courses.Progress.TheVariants as progress
 use Rattle.pos_drive.specs.declared.courses.Course.{Course}
 use Rattle.pos_counter.specs.Counters.{Stays}
+use Rattle.pos_counter.specs.HostTallies.{gives}
 use Rattle.pos_counter.specs.Hosts.{changed_pending, hosts_in, progress_in, waiting_in}
 use Rattle.kijolvar.specs.declared.device.Device.{Device}
 use Rattle.kijolvar.specs.declared.till_state.TillState.{TillState}
@@ -16,7 +17,8 @@ use Rattle.kijolvar.specs.Orders.{Refills, WritesOrder, order_lines, order_text}
 use Rattle.kijolvar.specs.TillDisks.{IsInFile}
 use Rattle.kijolvar.specs.Tills.{WritesNothing, Undone, disk_of, settlement_of}
 
--- The order of a driven device is given to the host: its line is written, and the host has it from then on.
+-- The order of a driven device is given to the host, which counts: its line is written, and the host has it from then
+-- on.
 pub record GivesOrder (hosts : Device → Course) (peripherals : Ghosts Device) (old : TillState)
     (line before after : List ℕ)
     (needed code : ℕ) (new : TillState) : Type 0 where
@@ -25,6 +27,7 @@ pub record GivesOrder (hosts : Device → Course) (peripherals : Ghosts Device) 
   pub code_told : code ≡ order_told
   pub length_told : needed ≡ length line
   pub counter : Stays peripherals old.counter new.counter
+  pub tally : new.counter.tally ≡ gives (progress_in hosts old.counter) old.counter.tally
   pub course : hosts_in hosts new.counter ≡ changed_pending handed_out_course (hosts_in hosts old.counter)
   pub once : progress_in hosts new.counter ≡ progress.HandedOut
   pub stays : new ≡ record old { counter = new.counter; orders = new.orders }

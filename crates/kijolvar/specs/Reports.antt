@@ -9,6 +9,7 @@ use Rattle.pos_drive.specs.declared.courses.Progress.TheVariants as progress
 use Rattle.pos_drive.specs.declared.courses.Course.{Course}
 use Rattle.pos_counter.specs.declared.counter.Counter.{Counter}
 use Rattle.pos_counter.specs.Counters.{Stays}
+use Rattle.pos_counter.specs.HostTallies.{LeavesHostAlone, hears}
 use Rattle.pos_counter.specs.Hosts.{changed_pending, hosts_in, progress_in}
 use Rattle.pos_script.specs.Lines.{lines_of}
 use Rattle.pos_streams.specs.Streams.{Given, given_with}
@@ -27,12 +28,13 @@ use Rattle.kijolvar.specs.LineAnswers.{AnswersAs}
 use Rattle.kijolvar.specs.TillDisks.{HostedDisk}
 use Rattle.kijolvar.specs.Tills.{KeepsRest, Undone, session_in, settlement_of}
 
--- The first device with an order takes the report that it is done, or is not, if the host has that order. Nothing else
--- changes.
+-- The first device with an order takes the report that it is done, or is not, if the host has that order. It is
+-- counted as the one that it is, and nothing else changes.
 pub record IsReported (hosts : Device → Course) (peripherals : Ghosts Device) (is_done : Bool)
     (old new : Counter HostedDisk Device) : Type 0 where
   pub stays : Stays peripherals old new
   pub course : hosts_in hosts new ≡ changed_pending (reported_course is_done) (hosts_in hosts old)
+  pub tally : new.tally ≡ hears is_done (progress_in hosts old) old.tally
 
 -- Lines that found no memory go on.
 pub record Resumes (bound : DiskGhosts HostedDisk) (hosts : Device → Course) (peripherals : Ghosts Device)
@@ -74,6 +76,7 @@ pub record CutsInputs (bound : DiskGhosts HostedDisk) (hosts : Device → Course
       (lines_of inputs) (given_with [] (given_to old.answer).faults) (given_to new.answer) (Err tt)
       (session_in peripherals new) fed
   pub stays : Stays peripherals fed new.counter
+  pub tally : LeavesHostAlone fed.tally new.counter.tally
   pub held : new.held.items ≡ []
   pub left : new.left ≡ Printed
   pub rest : KeepsRest old new

@@ -14,6 +14,11 @@ use Rattle.pos_run.specs.declared.scripts.RunFault.{RunFault}
 use Rattle.pos_store.specs.Standing.{Standing, LeavesOneOf}
 use Rattle.pos_console.specs.TotalsRuns.{RunsOverTotals, TotalsLeave}
 
+-- what was left as it was, and closed then, was closed as it was
+pub closed_unchanged : {B : Type 0} (below : FileGhosts B) {totals after : Mirror (FileDisk B)}
+    → below.closed after.below.file → after ≡ totals → below.closed totals.below.file
+closed_unchanged {B} below closed same = subst (λ (m : Mirror (FileDisk B)). below.closed m.below.file) same closed
+
 module _ {B : Type 0} (below : FileGhosts B) (contents : Contents) (totals : Mirror (FileDisk B))
     (new : IsNewMirror totals) (streams : Streams) (result : Result (Unit {0}) RunFault) (after : Mirror (FileDisk B))
     (mirrored : IsMirrored below.calls after) (cuts : (is : IsMirrored below.calls after) (bytes : List ℕ)
@@ -31,16 +36,17 @@ module _ {B : Type 0} (below : FileGhosts B) (contents : Contents) (totals : Mir
         (subst (λ (t : ℕ). (mirror_state after).left_since t bytes) (sym begins) (cuts is bytes cut));
   }
 
-  pub totals_leave : (mirrors : DiskGhosts (Mirror (FileDisk B)))
+  pub totals_leave : below.closed after.below.file → (mirrors : DiskGhosts (Mirror (FileDisk B)))
       → RunsSimulated mirrors contents totals streams result after
       → ((left : List Standing) → LeavesOneOf left (mirror_state totals)
       → RunsThroughProfile contents left (mirror_state totals) (mirror_state after) streams result)
       → TotalsLeave below mirrors contents totals streams result
-  totals_leave mirrors keys runs = inr (
+  totals_leave closed mirrors keys runs = inr (
     after,
     record {
       file = mirrored;
       runs = λ left leaves. over_totals left (runs left leaves);
       keys = keys;
+      closed = closed;
     },
   )

@@ -48,7 +48,7 @@ RunsOpened below mirrors (Err why) streams result = (result ≡ Err why) × AreU
 abbrev pub RunsFiles : {F B : Type 0} → Ghosts F B → FileGhosts B → DiskGhosts (Mirror (FileDisk B)) → F → List ℕ
     → List ℕ → Streams → Result (Unit {0}) Fault → Type 0
 RunsFiles {F} {B} files below mirrors them profile disk streams result =
-    (opened : Result (Contents × Mirror (FileDisk B)) Fault) × OpensRun files them profile disk opened
+    (opened : Result (Contents × Mirror (FileDisk B)) Fault) × OpensRun files below them profile disk opened
     × RunsOpened below mirrors opened streams result
 
 -- what is answered of the disk in the file at a path, to the program
@@ -60,13 +60,13 @@ EndsAtDisk path (Err cause) other = ⊥
 -- it formats the totals in the file at a path
 abbrev pub EndsFormat : {F B : Type 0} → Ghosts F B → FileGhosts B → F → List ℕ → Result (Unit {0}) Fault → Type 0
 EndsFormat files below them path result =
-    (answer : Result (Unit {0}) FileFault) × FormatsFile files below.calls them path answer
+    (answer : Result (Unit {0}) FileFault) × FormatsFile files below them path answer
     × EndsAtDisk path answer result
 
 -- it moves the totals in the file at a path to layout 2
 abbrev pub EndsMove : {F B : Type 0} → Ghosts F B → FileGhosts B → F → List ℕ → Result (Unit {0}) Fault → Type 0
 EndsMove files below them path result =
-    (answer : Result (Unit {0}) FileFault) × MigratesFile files below.calls them path answer
+    (answer : Result (Unit {0}) FileFault) × MigratesFile files below them path answer
     × EndsAtDisk path answer result
 
 -- all of a text was given to the sink, which was flushed
@@ -83,12 +83,12 @@ TellsBytes path bytes (Ok text) = IsTold bytes text
 TellsBytes path bytes (Err (fault.Disk at cause)) = (at.now ≡ path) × IsBroken bytes cause
 TellsBytes path bytes (Err other) = ⊥
 
--- what it tells of totals that were only read: of the bytes that the one read of their file gave; or why they can't be
--- read
+-- what it tells of totals that were only read: of the bytes that the one read of their file gave, which was closed
+-- then; or why they can't be read
 abbrev pub TellsOpened : {B : Type 0} → FileGhosts B → List ℕ → Result (Mirror (FileDisk B)) FileFault
     → Result (List ℕ) Fault → Type 0
 TellsOpened below path (Ok totals) told =
-    AreRead below.calls totals × TellsBytes path totals.memory.present.reading told
+    AreRead below.calls totals × below.closed totals.below.file × TellsBytes path totals.memory.present.reading told
 TellsOpened below path (Err cause) (Err (fault.Disk at why)) = (at.now ≡ path) × (why ≡ cause)
 TellsOpened below path (Err cause) other = ⊥
 

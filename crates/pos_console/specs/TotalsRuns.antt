@@ -30,10 +30,12 @@ pub record TotalsRun {B : Type 0} (below : FileGhosts B) (mirrors : DiskGhosts (
   pub runs : (left : List Standing) → LeavesOneOf left (mirror_state totals)
       → RunsOverTotals below contents left totals after streams result
   pub keys : RunsSimulated mirrors contents totals streams result after
+  -- and then the file was closed
+  pub closed : below.closed after.below.file
 
--- there was no memory, and nothing was read or written; or it is such a run
+-- there was no memory, nothing was read or written, and the file was closed as it was; or it is such a run
 abbrev pub TotalsLeave : {B : Type 0} → FileGhosts B → DiskGhosts (Mirror (FileDisk B)) → Contents
     → Mirror (FileDisk B) → Streams → Result (Unit {0}) RunFault → Type 0
 TotalsLeave {B} below mirrors contents totals streams result =
-    FindsNoMemory streams result
+    (FindsNoMemory streams result × below.closed totals.below.file)
     ⊎ ((after : Mirror (FileDisk B)) × TotalsRun below mirrors contents totals after streams result)

@@ -6,7 +6,7 @@ ghost use Rattle.pos_console.specs.Program.{IsCutOff, IsWritten, PrintsFile, Tel
 ghost use Rattle.pos_console.specs.Surveys.{IsBroken, IsTold, PrintsBreak};
 
 use pos_file::BlockFile;
-use pos_program::{Fault, FileFault, NamedFiles};
+use pos_program::{Fault, FileFault, NamedFiles, close_totals};
 use pos_run::AnswerWriter;
 use pos_script::write_bytes;
 use pos_streams::{Sink, WriteFault};
@@ -73,7 +73,11 @@ fn text_of_file<'a, F: NamedFiles>(
     ensures { TellsFile F.NamedFiles ⟦<F::File as BlockFile>⟧ files.now path.entry.now (bytes_of result) }
 {
     match files.read_disk(path) {
-        Ok(totals) => text_of_bytes(alloc, path, totals.bytes()),
+        Ok(totals) => {
+            let told = text_of_bytes(alloc, path, totals.bytes());
+            close_totals(totals);
+            told
+        }
         Err(cause) => Err(Fault::Disk { path, cause }),
     }
 }

@@ -6,7 +6,7 @@ ghost use Rattle.pos_run.specs.Streams.{streams_of};
 use pos_disk::Disk;
 use pos_file::BlockFile;
 use pos_profile::Profile;
-use pos_program::{TotalsDisk, file_is_mirrored};
+use pos_program::{TotalsDisk, close_totals, file_is_mirrored};
 use pos_run::{AnswerWriter, RunFault, ScriptReader, run_over_profile};
 use pos_streams::{Sink, Source};
 use std::alloc::Global;
@@ -30,5 +30,6 @@ pub fn run_over_totals<R: Source, W: Sink, F: BlockFile + Drop>(
 {
     let (outcome, after) = run_over_profile(alloc, reader, writer, profile, totals);
     file_is_mirrored(&after);
+    close_totals(after);
     outcome
 }

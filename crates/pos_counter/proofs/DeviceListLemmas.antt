@@ -52,7 +52,7 @@ served_kind : (d : Registered) {was : PeripheralState} → IsServed d → d.peri
 served_kind d served is = search rules
 
 -- what stands at a place serves a device there, and is of its kind
-served_at : (list : List Registered) (place : ℕ) {was : PeripheralState} → AllByRecursion IsServed list
+pub served_at : (list : List Registered) (place : ℕ) {was : PeripheralState} → AllByRecursion IsServed list
     → standing_at list place ≡ Some was
     → (d : Registered) × (slice_get list place ≡ Some d) × (d.peripheral ≡ Some was) × (d.kind ≡ was.kind)
 served_at [] place served is = absurd cc

@@ -22,3 +22,4 @@ pub mod ServedLemmas
 pub mod PaperLemmas
 mod MoveLemmas
 pub mod NextEventLemmas
+pub mod OrderLemmas

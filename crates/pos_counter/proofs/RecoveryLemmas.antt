@@ -95,7 +95,8 @@ module _ {D : Type 0} (bound : DiskGhosts D) (old new : TotalsView D) (off : old
 -- ---- a call that recovers totals that are off
 
 module _ {D P : Type 0} (bound : DiskGhosts D) (peripherals : Ghosts P) (old new : Counter D P)
-    (sound : IsCounterSound peripherals old) (devices : AreDevicesSound peripherals new.devices) (n : ℕ) (p : Property)
+    (tally : new.tally ≡ old.tally) (sound : IsCounterSound peripherals old)
+    (devices : AreDevicesSound peripherals new.devices) (n : ℕ) (p : Property)
     (v : Value) (there : Asking old.controls.items n p v old.totals.totals.mode) where
   abbrev c : Control
   c = there.control
@@ -151,6 +152,7 @@ module _ {D P : Type 0} (bound : DiskGhosts D) (peripherals : Ghosts P) (old new
       ));
       unchanged = λ undone was ready. absurd (rw there.off at was);
       kept = recovers.kept;
+      tally = tally;
     };
     sound = sound;
   })

@@ -2,7 +2,8 @@
 use Rattle.pos_counter.proofs.Common.{◌++◌, Counter, DiskGhosts, Ghosts, IsLeftDuring, IsRun, IsStep, IsStepBeside}
 use Rattle.pos_counter.proofs.Common.{Leaves, List, Machine, MayLeave, Run, RunsFrom, Standing, StandsForEither}
 use Rattle.pos_counter.proofs.Common.{StandsForOneOf, Step, [], arith, inl, inr, length, machine_of_counter, part_of}
-use Rattle.pos_counter.proofs.Common.{refl, request_of, response_of, rules, steps_of, subst, sym, ℕ, ◌∷◌, ◌≡◌}
+use Rattle.pos_counter.proofs.Common.{ap, refl, request_of, response_of, rules, steps_of, subst, sym, ℕ, ◌∙◌, ◌∷◌}
+use Rattle.pos_counter.proofs.Common.{◌≡◌}
 use Rattle.pos_counter.specs.Steps as machine
 use Rattle.pos_disk.proofs.MomentLemmas.{followed_by, started, weaker}
 use Rattle.pos_service.specs.declared.request.Request.{Request}
@@ -54,6 +55,12 @@ module _ {D P : Type 0} (bound : DiskGhosts D) (peripherals : Ghosts P) where
       → IsRun bound peripherals a (steps ++ more) c
   runs_join a b c [] more first second = subst (λ m. IsRun bound peripherals m more c) first second
   runs_join a b c (s ∷ steps) more first second = (first.0, first.1, runs_join first.0 b c steps more first.2 second)
+
+  -- nothing passes between a counter and its host in a run
+  pub run_tally : (a b : Counter D P) (steps : List (machine.Request × machine.Response))
+      → IsRun bound peripherals a steps b → b.tally ≡ a.tally
+  run_tally a b [] run = ap (λ (c : Counter D P). c.tally) run
+  run_tally a b (s ∷ steps) run = run_tally run.0 b steps run.2 ∙ run.1.tally
 
   -- the machine's run, and what the disk may leave after it
   abbrev pub MachineRuns : List Standing → Counter D P → List (machine.Request × machine.Response) → Counter D P

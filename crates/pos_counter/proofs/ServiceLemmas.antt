@@ -31,19 +31,20 @@ module _ {D P : Type 0} {peripherals : Ghosts P} {old new : Counter D P} where
 
   -- a step in which the totals have no part, and what a sound counter is behind it
   pub steps_beside : {q : Request} {r : Response} → IsCounterSound peripherals old
-      → AreDevicesSound peripherals new.devices → new.totals ≡ old.totals
+      → AreDevicesSound peripherals new.devices → new.totals ≡ old.totals → new.tally ≡ old.tally
       → ((part : TotalsPart) → Step (machine peripherals old part) q r (machine peripherals new part))
       → record { step : IsStepBeside peripherals old q r new; sound : IsCounterSound peripherals new }
-  steps_beside {q} {r} sound devices totals step =
+  steps_beside {q} {r} sound devices totals tally step =
       let part = part_with old.totals.totals [] 0 in
       record {
-        step = record { step = step; totals = totals };
+        step = record { step = step; totals = totals; tally = tally };
         sound = still_sound q r part part sound devices (step part);
       }
 
 module _ {D P : Type 0} (bound : DiskGhosts D) (peripherals : Ghosts P) (old new : Counter D P) (q : Request)
     (r : Response) where
-  module _ (totals : Totals) (only : OnlyNow bound old.totals.disk) (disk : new.totals.disk ≡ old.totals.disk)
+  module _ (tally : new.tally ≡ old.tally) (totals : Totals) (only : OnlyNow bound old.totals.disk)
+      (disk : new.totals.disk ≡ old.totals.disk)
       (is : new.totals.totals ≡ totals) (same : (left : List Standing)
       → settled totals.layout totals.mode left ≡ settled old.totals.totals.layout old.totals.totals.mode left) where
     -- the step is one for whatever the machine has of the disk
@@ -74,10 +75,11 @@ module _ {D P : Type 0} (bound : DiskGhosts D) (peripherals : Ghosts P) (old new
   beside_is_step only beside = search (rules, quiet_step)
 
   -- and what a sound counter serves
-  pub stays_serves : OnlyNow bound old.totals.disk → IsCounterSound peripherals old → new.totals ≡ old.totals
+  pub stays_serves : new.tally ≡ old.tally → OnlyNow bound old.totals.disk → IsCounterSound peripherals old
+      → new.totals ≡ old.totals
       → AreDevicesSound peripherals new.devices
       → ((part : TotalsPart) → Step (machine peripherals old part) q r (machine peripherals new part))
       → Serves bound peripherals old q r new
-  stays_serves only sound totals devices step =
-      let both = steps_beside sound devices totals step in
+  stays_serves tally only sound totals devices step =
+      let both = steps_beside sound devices totals tally step in
       record { step = beside_is_step only both.step; sound = both.sound }

@@ -42,7 +42,7 @@ pub files_serve : {D P : Type 0} (bound : DiskGhosts D) (peripherals : Ghosts P)
     → Serves bound peripherals old (CallOf n asked) (answered outcome) (record old { totals = now })
 files_serve bound peripherals old {now} n c asked outcome own at is lets only (inl quiet) sound =
     quiet_serves bound peripherals old (record old { totals = now }) (CallOf n asked)
-    (answered outcome) now.totals only quiet.disk refl quiet.is_settled sound sound.devices
+    (answered outcome) refl now.totals only quiet.disk refl quiet.is_settled sound sound.devices
     (λ left failures so. called_step (machine peripherals old (part_with old.totals.totals left failures)) n c asked own
     at is (lets left failures) (part_with now.totals left failures) outcome (quiet.answer left failures so))
 files_serve bound peripherals old {now} n c asked outcome own found is lets only (inr puts) sound = record {
@@ -64,6 +64,7 @@ files_serve bound peripherals old {now} n c asked outcome own found is lets only
       | inr same ↦ same
     ];
     kept = puts.kept;
+    tally = refl;
   };
   sound = record { machine = sound.machine; devices = sound.devices };
 }

@@ -35,12 +35,14 @@ pub record Begins {D P : Type 0} (peripherals : Ghosts P)
         disk = disk;
         totals = record { layout = Layout1; mode = Off; tail = 0; next = 1; area = None; transactions = [] };
       }
+  pub tally : counter.tally ≡ record { given = 0; done = 0; not_done = 0; forgotten = 0 }
 
 -- From an old counter to a new one, a step in which the totals have no part: the request gets this response.
 pub record IsStepBeside {D P : Type 0} (peripherals : Ghosts P) (old : Counter D P)
     (request : Request) (response : Response) (new : Counter D P) : Type 0 where
   pub step : (part : TotalsPart) → Step (machine peripherals old part) request response (machine peripherals new part)
   pub totals : new.totals ≡ old.totals
+  pub tally : new.tally ≡ old.tally
 
 -- From an old counter to a new one, a step, for all that the disk may leave before it: the request gets this response.
 pub record IsStep {D P : Type 0} (bound : DiskGhosts D) (peripherals : Ghosts P)
@@ -61,6 +63,8 @@ pub record IsStep {D P : Type 0} (bound : DiskGhosts D) (peripherals : Ghosts P)
       ⊎ ChangesTotalsAlone (machine peripherals old (part_with old.totals.totals left failures)) request
       (machine peripherals new (part_with new.totals.totals left failures))
   pub kept : KeepsDisk bound old.totals.disk new.totals.disk
+  -- a host gets no order in it and reports nothing, and nothing is forgotten of what it has reported
+  pub tally : new.tally ≡ old.tally
 
 -- the bytes stand for what a crash leaves before a run, between two of its steps, or after it
 abbrev pub IsLeftDuring : (old : Machine) (steps : List (Request × Response)) (new : Machine)

@@ -6,6 +6,7 @@ pub mod Errands
 pub mod Examples
 pub mod FileCalls
 pub mod History
+pub mod HostTallies
 pub mod Hosts
 pub mod Paper
 pub mod KeptDevices
@@ -13,6 +14,7 @@ pub mod Leaving
 pub mod Machine
 pub mod Moves
 pub mod NextEvent
+pub mod Orders
 pub mod Prefixes
 pub mod Reopening
 pub mod Responses

@@ -21,6 +21,7 @@ pub record TearsAt {D P : Type 0} (peripherals : Ghosts P) (name : List ℕ) (ol
   pub machine : (part : TotalsPart) → OnHardware (machine peripherals old part)
       (place_of (devices_in peripherals old.devices) name) (λ place. IsTorn) (machine peripherals new part)
   pub totals : new.totals ≡ old.totals
+  pub tally : new.tally ≡ old.tally
 
 -- No device has the name, or nothing serves it, and nothing has changed.
 pub record FindsNone {D P : Type 0} (peripherals : Ghosts P) (name : List ℕ) (old new : Counter D P) : Type 0 where
@@ -32,4 +33,4 @@ pub record FindsNone {D P : Type 0} (peripherals : Ghosts P) (name : List ℕ) (
 abbrev pub TearsOff : {D P : Type 0} → Ghosts P → List ℕ → Counter D P → Result Bool NoMemory → Counter D P → Type 0
 TearsOff peripherals name old outcome new = MatchResult outcome
     (λ found. MatchBool found (TearsAt peripherals name old new) (FindsNone peripherals name old new))
-    (λ want. Stays peripherals old new)
+    (λ want. Stays peripherals old new × (new.tally ≡ old.tally))

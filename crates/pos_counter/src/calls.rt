@@ -6,7 +6,10 @@ ghost use Rattle.pos_service.specs.Hardware.{hardware_of, StaysInService};
 ghost use Rattle.pos_common.specs.KeptControls.{controls_of};
 ghost use Rattle.pos_counter.specs.KeptDevices.{AreDevicesSound, devices_in};
 ghost use Rattle.pos_counter.specs.AtDevices.{CallsAt, IsDoneAt, MayBeCalled, MayCall};
-ghost use Rattle.pos_counter.specs.Counters.{IsStep, IsCounterSound, Serves};
+ghost use Rattle.pos_counter.specs.Counters.{IsStep, IsCounterSound, Serves, machine};
+ghost use Rattle.pos_counter.specs.Orders.{CountsAt, OrdersAt, OrdersOfCall, orders_in};
+ghost use Rattle.pos_counter.specs.Totals.{TotalsPart};
+ghost use Rattle.pos_profile.specs.Registries.{devices as registered};
 ghost use Rattle.pos_counter.specs.Responses.{answered};
 ghost use Rattle.pos_counter.specs.Steps.{CallOf};
 
@@ -26,13 +29,17 @@ impl<D: Disk, P: Peripheral> Counter<D, P> {
     /// change that isn't buffered, a commit that has changes, and an enabling of Hard Totals that are off. Over any
     /// disk, honest or not, all others are steps, and these change nothing but the totals and their control.
     ///
+    /// A call that gives a device an order gives it exactly one, and any other gives none.
+    ///
     /// # Errors
     ///
-    /// [`NoMemory`] if memory ran out. Then nothing has changed. Refused with E_ILLEGAL if there is no control of this
-    /// number, otherwise as the call's table says.
+    /// [`NoMemory`] if memory ran out. Then nothing has changed, but the order may have been counted. Refused with
+    /// E_ILLEGAL if there is no control of this number, otherwise as the call's table says.
     pub fn call(&mut self, number: usize, call: &Call) -> Result<Answer, NoMemory>
         requires sound { IsCounterSound P.Peripheral self.old }
         ensures step { IsStep D.Disk P.Peripheral self.old (CallOf number call.now) (answered result) self.new }
+        ensures orders { (part : TotalsPart) → OrdersOfCall (machine P.Peripheral self.old part) number call.now result
+            (orders_in P.Peripheral self.old.devices) (orders_in P.Peripheral self.new.devices) }
         ensures sound { IsCounterSound P.Peripheral self.new }
     {
         if number >= self.controls.len() {
@@ -59,7 +66,9 @@ impl<D: Disk, P: Peripheral> Counter<D, P> {
         requires in_range { number < length self.old.controls.items }
         requires own { is_common call.now ≡ false }
         requires sound { IsCounterSound P.Peripheral self.old }
-        ensures { Serves D.Disk P.Peripheral self.old (CallOf number call.now) (answered result) self.new }
+        ensures served { Serves D.Disk P.Peripheral self.old (CallOf number call.now) (answered result) self.new }
+        ensures orders { (part : TotalsPart) → OrdersOfCall (machine P.Peripheral self.old part) number call.now result
+            (orders_in P.Peripheral self.old.devices) (orders_in P.Peripheral self.new.devices) }
     {
         match self.controls[number].device() {
             None => Ok(Answer::Refused(Code::Closed, 0)),
@@ -87,7 +96,8 @@ impl<D: Disk, P: Peripheral> Counter<D, P> {
             control.device ≡ Some open_device.Totals) }
         requires own { is_common call.now ≡ false }
         requires sound { IsCounterSound P.Peripheral self.old }
-        ensures { Serves D.Disk P.Peripheral self.old (CallOf number call.now) (answered result) self.new }
+        ensures served { Serves D.Disk P.Peripheral self.old (CallOf number call.now) (answered result) self.new }
+        ensures devices { self.new.devices ≡ self.old.devices }
     {
         let control = &self.controls[number];
         let needs = call.needs(Category::HardTotals);
@@ -104,6 +114,7 @@ impl<D: Disk, P: Peripheral> Counter<D, P> {
 ///
 /// As of `Counter::call`.
 #[inline(always)]
+#[tactic(auto, using(crate::proofs::DeviceListLemmas::done_there, crate::proofs::OrderLemmas::counts_there))]
 fn call_there<P: Peripheral>(
     alloc: Global,
     controls: &mut [Control],
@@ -119,6 +130,9 @@ fn call_there<P: Peripheral>(
         MayBeCalled devices place (controls_of controls.old) number }
     ensures done { IsDoneAt (devices_in P.Peripheral devices.old) place (CallsAt number claims.now call.now result)
         controls.old controls.new (devices_in P.Peripheral devices.new) }
+    ensures orders { CountsAt (registered P.Peripheral devices.old.registry) place
+        (OrdersAt number claims.now call.now result (controls_of controls.old))
+        (registered P.Peripheral devices.new.registry) }
     ensures sound { AreDevicesSound P.Peripheral devices.new }
 {
     let peripheral = devices.registry.serving(place);
@@ -146,6 +160,9 @@ fn call_device<P: Peripheral>(
     ensures called { let state = P.Peripheral.state in CallsAt number claims.now call.now result
         (controls_of controls.old) (hardware_of (state peripheral.old))
         (controls_of controls.new) (hardware_of (state peripheral.new)) }
+    ensures orders { let state = P.Peripheral.state in
+        OrdersAt number claims.now call.now result (controls_of controls.old) (state peripheral.old).kind
+        (state peripheral.old).orders (state peripheral.new).orders }
     ensures in_service { let state = P.Peripheral.state in
         StaysInService (state peripheral.old) (state peripheral.new) }
 {

@@ -12,6 +12,7 @@ ghost use Rattle.pos_counter.specs.NextEvent.{IsNextEvent};
 
 use crate::devices::Devices;
 use crate::faults::ControlFault;
+use crate::host_tally::HostTally;
 use crate::responses;
 use pos_common::{Claims, Control};
 use pos_disk::Disk;
@@ -41,6 +42,8 @@ pub struct Counter<D: Disk, P> {
     /// The name of the Hard Totals, if the profile has them.
     pub(crate) totals_name: Option<Bytes>,
     pub(crate) totals: Totals<D>,
+    /// What has passed between it and the host of its devices.
+    pub(crate) tally: HostTally,
 }
 
 /// What is left of a counter that was ended.
@@ -110,6 +113,7 @@ impl<D: Disk, P: Peripheral> Counter<D, P> {
                 devices,
                 totals_name,
                 totals: Totals::new(alloc, disk, FIRST_HANDLE),
+                tally: HostTally::none(),
             }),
             Err(want) => Err((want, disk)),
         }
@@ -176,6 +180,7 @@ impl<D: Disk, P: Peripheral> Counter<D, P> {
         ensures handed_out { IfOk result (λ responses. All (HandsOut P.Peripheral) responses.items) }
         ensures handed_back { IfErr result (λ refusal. refusal.1 ≡ requests.entry) }
         ensures unchanged { OnErr result (Stays P.Peripheral self.old self.new) }
+        ensures tally { OnErr result (self.new.tally ≡ self.old.tally) }
         ensures sound { IsCounterSound P.Peripheral self.new }
     {
         let Ok(mut responses) = Vec::with_capacity(self.alloc, requests.len()) else {
@@ -233,6 +238,7 @@ impl<D: Disk, P: Peripheral> Counter<D, P> {
             devices,
             totals_name: _,
             totals,
+            tally: _,
         } = self;
         Ended {
             disk: totals.into_disk(),

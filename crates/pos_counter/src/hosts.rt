@@ -6,6 +6,7 @@ ghost use Rattle.pos_drive.specs.declared.courses.Progress.TheVariants as progre
 ghost use Rattle.pos_profile.specs.Registries.{peripheral_at};
 ghost use Rattle.pos_service.specs.Hardware.{StaysInService};
 ghost use Rattle.pos_counter.specs.Counters.{IsCounterSound, Stays};
+ghost use Rattle.pos_counter.specs.HostTallies.{LeavesHostAlone, forgets, gives, hears};
 ghost use Rattle.pos_counter.specs.Hosts.{IsFirstPending, IsNamedAt, NonePending, changed_all, changed_at, changed_named, changed_pending, course_after, course_named, has_pending, host_of, hosts_in, hosts_of, pending_of, pending_peripheral, pends_at, progress_handed_out, progress_in, progress_reported, served_named, waiting_in};
 ghost use Rattle.pos_counter.specs.KeptDevices.{AreDevicesSound, devices_in, slots_in};
 
@@ -66,15 +67,18 @@ impl<D: Disk, P: Awaits> Counter<D, P> {
         slot.peripheral.as_ref()
     }
 
-    /// Forgets each order that is pending, and what the host reported.
+    /// Forgets each order that is pending, and what the host reported of it, which counts as forgotten.
     pub fn settle(&mut self)
         requires sound { IsCounterSound P.Peripheral self.old }
         ensures hosts { hosts_in P.Awaits.course self.new
             ≡ changed_all settled_course (hosts_in P.Awaits.course self.old) }
         ensures progress { progress_in P.Awaits.course self.new ≡ progress.Ready }
+        ensures tally { self.new.tally ≡ forgets (progress_in P.Awaits.course self.old) self.old.tally }
+        ensures alone { LeavesHostAlone self.old.tally self.new.tally }
         ensures stays { Stays P.Peripheral self.old self.new }
         ensures sound { IsCounterSound P.Peripheral self.new }
     {
+        self.tally = self.tally.forget(self.progress());
         for place in 0..self.devices.registry.count() {
             self.settle_at(place);
         }
@@ -85,6 +89,7 @@ impl<D: Disk, P: Awaits> Counter<D, P> {
         requires sound { IsCounterSound P.Peripheral self.old }
         ensures hosts { hosts_in P.Awaits.course self.new
             ≡ changed_at settled_course place (hosts_in P.Awaits.course self.old) }
+        ensures tally { self.new.tally ≡ self.old.tally }
         ensures stays { Stays P.Peripheral self.old self.new }
         ensures sound { IsCounterSound P.Peripheral self.new }
     {
@@ -103,6 +108,7 @@ impl<D: Disk, P: Hosted> Counter<D, P> {
         ensures unchanged { result ≡ false → self.new ≡ self.old }
         ensures hosts { hosts_in P.Awaits.course self.new
             ≡ changed_named driven_course device.now (hosts_in P.Awaits.course self.old) }
+        ensures tally { self.new.tally ≡ self.old.tally }
         ensures stays { Stays P.Peripheral self.old self.new }
         ensures sound { IsCounterSound P.Peripheral self.new }
     {
@@ -115,7 +121,8 @@ impl<D: Disk, P: Hosted> Counter<D, P> {
         }
     }
 
-    /// Gives the order of the first device that has one pending to the host. Nothing changes if it doesn't wait.
+    /// Gives the order of the first device that has one pending to the host, and counts it. Nothing changes if it
+    /// doesn't wait.
     pub fn hand_out(&mut self)
         requires sound { IsCounterSound P.Peripheral self.old }
         ensures hosts { hosts_in P.Awaits.course self.new
@@ -123,24 +130,30 @@ impl<D: Disk, P: Hosted> Counter<D, P> {
         ensures waiting { waiting_in P.Awaits.course self.new ≡ waiting_in P.Awaits.course self.old }
         ensures progress { progress_in P.Awaits.course self.new
             ≡ progress_handed_out (progress_in P.Awaits.course self.old) }
+        ensures tally { self.new.tally ≡ gives (progress_in P.Awaits.course self.old) self.old.tally }
         ensures stays { Stays P.Peripheral self.old self.new }
         ensures sound { IsCounterSound P.Peripheral self.new }
     {
+        let progress = self.progress();
         self.act_at_pending(HostAct::HandOut);
+        self.tally = self.tally.give(progress);
     }
 
     /// Takes what the host reports of the order of the first device that has one pending: it is done, or not done.
-    /// Nothing changes if the host doesn't have the order.
+    /// It counts. Nothing changes if the host doesn't have the order.
     pub fn report(&mut self, is_done: bool)
         requires sound { IsCounterSound P.Peripheral self.old }
         ensures hosts { hosts_in P.Awaits.course self.new
             ≡ changed_pending (reported_course is_done) (hosts_in P.Awaits.course self.old) }
         ensures progress { progress_in P.Awaits.course self.new
             ≡ progress_reported (progress_in P.Awaits.course self.old) }
+        ensures tally { self.new.tally ≡ hears is_done (progress_in P.Awaits.course self.old) self.old.tally }
         ensures stays { Stays P.Peripheral self.old self.new }
         ensures sound { IsCounterSound P.Peripheral self.new }
     {
+        let progress = self.progress();
         self.act_at_pending(HostAct::Report(is_done));
+        self.tally = self.tally.hear(is_done, progress);
     }
 
     /// Does this with the first device that has an order pending, if one has.
@@ -148,6 +161,7 @@ impl<D: Disk, P: Hosted> Counter<D, P> {
         requires sound { IsCounterSound P.Peripheral self.old }
         ensures hosts { hosts_in P.Awaits.course self.new
             ≡ changed_pending (course_after act) (hosts_in P.Awaits.course self.old) }
+        ensures tally { self.new.tally ≡ self.old.tally }
         ensures stays { Stays P.Peripheral self.old self.new }
         ensures sound { IsCounterSound P.Peripheral self.new }
     {
@@ -162,6 +176,7 @@ impl<D: Disk, P: Hosted> Counter<D, P> {
         requires served { is_some (peripheral_at (slots_in self.old.devices) place) ≡ true }
         ensures hosts { hosts_in P.Awaits.course self.new
             ≡ changed_at (course_after act) place (hosts_in P.Awaits.course self.old) }
+        ensures tally { self.new.tally ≡ self.old.tally }
         ensures stays { Stays P.Peripheral self.old self.new }
         ensures sound { IsCounterSound P.Peripheral self.new }
     {

@@ -2,6 +2,7 @@
 //!
 //! - [`Counter`] has the controls, the claims, the devices and the totals. Its methods are the requests, and [`Ended`]
 //!   is what is left of it.
+//! - [`HostTally`] counts what passes between it and the host of its devices.
 //! - [`ControlFault`], [`InputFault`], [`WorkFault`] and [`SnapshotFault`] say why a request did nothing.
 //! - [`laws`] and [`moves`] are what follows for each run of a counter, above all what a crash leaves.
 //!
@@ -15,6 +16,7 @@ mod counter;
 mod devices;
 mod exchange;
 mod faults;
+mod host_tally;
 mod hosts;
 mod inputs;
 pub mod laws;
@@ -28,3 +30,4 @@ mod totals_calls;
 
 pub use counter::{Counter, Ended};
 pub use faults::{ControlFault, InputFault, SnapshotFault, WorkFault};
+pub use host_tally::HostTally;

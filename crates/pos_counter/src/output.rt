@@ -1,10 +1,13 @@
 //! The work on the output that is queued for devices (common chapter, asynchronous output).
 ghost use Rattle.std.specs.Prelude.{◌≡◌, Some};
 ghost use Rattle.pos_service.specs.Claims.{holder_at};
-ghost use Rattle.pos_printer.specs.PrinterCalls.{WorksAt};
+ghost use Rattle.pos_printer.specs.PrinterCalls.{OrdersOfWork, WorksAt};
+ghost use Rattle.pos_profile.specs.Registries.{devices as registered};
 ghost use Rattle.pos_counter.specs.KeptDevices.{AreDevicesSound, devices_in};
 ghost use Rattle.pos_counter.specs.AtDevices.{IsAttachedAt, IsDoneAt};
 ghost use Rattle.pos_counter.specs.Counters.{IsStepBeside, IsCounterSound};
+ghost use Rattle.pos_counter.specs.Machine.{place_of};
+ghost use Rattle.pos_counter.specs.Orders.{CountsAt, OrdersOfWorkAt, orders_in};
 ghost use Rattle.pos_counter.specs.Responses.{worked};
 ghost use Rattle.pos_counter.specs.Steps.{WorkOn};
 
@@ -24,13 +27,17 @@ impl<D: Disk, P: Peripheral> Counter<D, P> {
     /// - `Idle`: there is nothing to do. The device is no printer, nobody holds it, the holder is disabled or has no
     ///   request, or its first one has failed.
     ///
+    /// Work on a request gives the printer exactly one order, and idle work none.
+    ///
     /// # Errors
     ///
     /// `NoDevice` if no device has the name or it has no peripheral, and `NoMemory` if memory ran out. Then nothing has
-    /// changed.
+    /// changed, but if memory ran out the order may have been counted.
     pub fn work(&mut self, device: &[u8]) -> Result<WorkResult, WorkFault>
         requires sound { IsCounterSound P.Peripheral self.old }
         ensures step { IsStepBeside P.Peripheral self.old (WorkOn device.now) (worked result) self.new }
+        ensures orders { OrdersOfWorkAt (place_of (devices_in P.Peripheral self.old.devices) device.now) result
+            (orders_in P.Peripheral self.old.devices) (orders_in P.Peripheral self.new.devices) }
         ensures sound { IsCounterSound P.Peripheral self.new }
     {
         let Some((place, _)) = self.devices.find_served(device) else {
@@ -47,7 +54,8 @@ impl<D: Disk, P: Peripheral> Counter<D, P> {
 ///
 /// # Errors
 ///
-/// `NoMemory` if memory ran out. Then nothing has changed.
+/// `NoMemory` if memory ran out. Then nothing has changed, but the order may have been counted.
+#[tactic(auto, using(crate::proofs::DeviceListLemmas::done_there, crate::proofs::OrderLemmas::counts_there))]
 fn work_there<P: Peripheral>(
     controls: &mut [Control],
     place: usize,
@@ -59,6 +67,8 @@ fn work_there<P: Peripheral>(
     ensures done { IsDoneAt (devices_in P.Peripheral devices.old) place
         (WorksAt (holder_at claims.now (Some place)) place result)
         controls.old controls.new (devices_in P.Peripheral devices.new) }
+    ensures orders { CountsAt (registered P.Peripheral devices.old.registry) place (λ _. OrdersOfWork result)
+        (registered P.Peripheral devices.new.registry) }
     ensures sound { AreDevicesSound P.Peripheral devices.new }
 {
     let peripheral = devices.registry.serving(place);

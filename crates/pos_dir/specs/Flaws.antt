@@ -39,13 +39,17 @@ IsFileFlaw room files rest flaw.TooManyBytes =
     (file : File × List ℕ) × (file_at rest ≡ Some file) × (room < total_size files + length file.0.bytes)
 IsFileFlaw room files rest flaw.NameTwice =
     (file : File × List ℕ) × (file_at rest ≡ Some file) × (has_name files file.0.name ≡ true)
+    × (total_size files + length file.0.bytes ≤ room)
 IsFileFlaw room files rest other = ⊥
 
--- Of so many files that a text begins with, the first ones are read, and this rest is behind them; it has the flaw.
+-- Of so many files that a text begins with, the first ones are read and pass, and this rest is behind them; it has the
+-- flaw.
 pub record StopsFor (count : ℕ) (text : List ℕ) (room : ℕ) (rest : List ℕ) (broken : Flaw) : Type 0 where
   pub files : List File
   pub read : items_at file_at (length files) text ≡ Some (files, rest)
   pub fewer : length files < count
+  pub fits : total_size files ≤ room
+  pub distinct : are_distinct files ≡ true
   pub why : IsFileFlaw room files rest broken
 
 -- A text begins with so many files, for which there is room and of which no two have one name, and this rest is behind
@@ -57,21 +61,30 @@ pub record Passes (count : ℕ) (text : List ℕ) (room : ℕ) (rest : List ℕ)
   pub fits : total_size files ≤ room
   pub distinct : are_distinct files ≡ true
 
--- The file behind those before this place has the flaw.
+-- These files break no rule, and nor does the count: the limits allow as many, there is room for them, and no two have
+-- one name.
+pub record BreakNone (limits : Limits) (count : ℕ) (files : List File) : Type 0 where
+  pub few : count ≤ limits.files
+  pub fits : total_size files ≤ limits.bytes
+  pub distinct : are_distinct files ≡ true
+
+-- The file behind those before this place has the flaw, and they have none.
 pub record HasFileFlaw (limits : Limits) (bytes : List ℕ) (at : ℕ) (broken : Flaw) : Type 0 where
   pub count : ℕ
   pub files : List File
   pub rest : List ℕ
   pub begin : BeginWith bytes count files rest
+  pub before : BreakNone limits count files
   pub fewer : length files < count
   pub place_is : at ≡ end_of_files files
   pub why : IsFileFlaw limits.bytes files rest broken
 
--- There are as many files as their number says, and more bytes behind them.
-pub record HasMore (bytes : List ℕ) (at : ℕ) : Type 0 where
+-- There are as many files as their number says, which have no flaw, and more bytes behind them.
+pub record HasMore (limits : Limits) (bytes : List ℕ) (at : ℕ) : Type 0 where
   pub files : List File
   pub rest : List ℕ
   pub begin : BeginWith bytes (length files) files rest
+  pub before : BreakNone limits (length files) files
   pub some : rest ≢ []
   pub place_is : at ≡ end_of_files files
 
@@ -80,10 +93,10 @@ abbrev pub HasManyFiles : Limits → List ℕ → Type 0
 HasManyFiles limits bytes =
     (count : ℕ × List ℕ) × (number_at w16 bytes ≡ Some count) × (limits.files < count.0)
 
--- the bytes break this rule of a directory's spelling at this place
+-- the bytes break this rule of a directory's spelling at this place, and none before it
 abbrev pub HasFlaw : Limits → List ℕ → ℕ → Flaw → Type 0
 HasFlaw limits bytes at flaw.TooManyFiles = (at ≡ 0) × HasManyFiles limits bytes
-HasFlaw limits bytes at flaw.BytesLeft = HasMore bytes at
+HasFlaw limits bytes at flaw.BytesLeft = HasMore limits bytes at
 HasFlaw limits bytes at flaw.BytesMissing =
     ((at ≡ 0) × (number_at w16 bytes ≡ None)) ⊎ HasFileFlaw limits bytes at flaw.BytesMissing
 HasFlaw limits bytes at broken = HasFileFlaw limits bytes at broken

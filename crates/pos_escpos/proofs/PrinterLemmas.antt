@@ -1,6 +1,6 @@
 -- How a printer obeys what is sent to it.
 use Rattle.std.proofs.Common.{◌≡◌, ℕ, ◌+◌, ◌<◌, ◌≤◌, Bool, true, false, List, [], ◌∷◌, ◌++◌, length, refl, ap, sym, ◌∙◌}
-use Rattle.std.proofs.Common.{append_assoc, length-append, arith, cond, subst, Some, ◌==◌, nat_le}
+use Rattle.std.proofs.Common.{append_assoc, length-append, arith, cond, subst, Some, ◌==◌, ◌&&◌, nat_le}
 use Rattle.std.proofs.lemmas.Bool.{ne_eqb, le-leb, and_parts, leb-true}
 use Rattle.std.proofs.lemmas.List.{append-nil}
 use Rattle.std.proofs.lemmas.List.Concat.{flat_map-cons}
@@ -13,7 +13,8 @@ use Rattle.pos_service.specs.Receipts.{Item, Line, CutAt}
 use Rattle.pos_escpos.specs.declared.settings.Cutter.{Cutter}
 use Rattle.pos_escpos.specs.declared.settings.Cutter.TheVariants as cutter
 use Rattle.pos_escpos.specs.declared.settings.CutSettings.{CutSettings}
-use Rattle.pos_escpos.specs.Printers.{OnPaper, PrintedLine, CutThrough, Press, IsReady, PrintsOnly, press_after, takes}
+use Rattle.pos_escpos.specs.Printers.{OnPaper, PrintedLine, CutThrough, Press, IsReady, PrintsOnly, press_after}
+use Rattle.pos_escpos.specs.Printers.{questioned, takes}
 use Rattle.pos_escpos.specs.PrinterBytes.{all_fit, all_on_paper, alignment_number_of, bold_bytes, cut_bytes}
 use Rattle.pos_escpos.specs.PrinterBytes.{cut_on_paper, is_character, item_bytes, item_fits, items_bytes, line_bytes}
 use Rattle.pos_escpos.specs.PrinterBytes.{on_paper, run_bytes}
@@ -145,4 +146,20 @@ prints_items width cut items within fit press ready =
       ready = record { line = refl; not_bold = refl; whole = refl };
       pulses = refl;
       asked = refl;
+      unknown = refl;
     })
+
+-- a character of a job's number is one
+job_character : (x : ℕ) → x < 16 → (nat_le 32 (64 + x) && nat_le (64 + x) 126) ≡ true
+job_character x less = rw (le-leb 32 (64 + x) (omega arith), le-leb (64 + x) 126 (omega arith)) refl
+
+-- GS ( H asks for a job's end
+pub takes_job_end : (width a b c d : ℕ) (press : Press) → a < 16 → b < 16 → c < 16 → d < 16 → press.begun ≡ []
+    → press_after width press (29 ∷ 40 ∷ 72 ∷ 6 ∷ 0 ∷ 48 ∷ 48 ∷ (64 + a) ∷ (64 + b) ∷ (64 + c) ∷ (64 + d) ∷ [])
+    ≡ questioned (29 ∷ 40 ∷ 72 ∷ 6 ∷ 0 ∷ 48 ∷ 48 ∷ (64 + a) ∷ (64 + b) ∷ (64 + c) ∷ (64 + d) ∷ []) press
+takes_job_end width a b c d press first second third fourth whole =
+    let bytes = 29 ∷ 40 ∷ 72 ∷ 6 ∷ 0 ∷ 48 ∷ 48 ∷ (64 + a) ∷ (64 + b) ∷ (64 + c) ∷ (64 + d) ∷ [] in
+    let same : press ≡ record press { begun = [] } = ap (λ begun. record press { begun = begun }) whole in
+    let asked : press_after width (record press { begun = [] }) bytes ≡ questioned bytes (record press { begun = [] }) =
+    rw (job_character a first, job_character b second, job_character c third, job_character d fourth) refl in
+    ap (λ p. press_after width p bytes) same ∙ asked ∙ ap (questioned bytes) (sym same)

@@ -18,12 +18,13 @@ abbrev pub start_command : Bool → List ℕ
 start_command is_automatic = 27 ∷ 64 ∷ automatic_command is_automatic
 
 -- From the old printer, whatever it had begun to print, the new one is ready, and was asked for an automatic status or
--- none.
+-- none; each command is known.
 pub record IsStarted (is_automatic : Bool) (old new : Press) : Type 0 where
   pub ready : IsReady new
   pub paper : new.paper ≡ old.paper
   pub pulses : new.pulses ≡ old.pulses
   pub asked : new.asked ≡ old.asked ++ automatic_command is_automatic ∷ []
+  pub unknown : new.unknown ≡ old.unknown
 
 -- the pin's number
 abbrev pub pin_number : DrawerPin → ℕ

@@ -12,21 +12,31 @@ pub record Make : Type 0 where
   pub rows : ℕ
   pub columns : ℕ
 
--- a display: its characters row by row, where the next one goes, whether it is known what it shows, and the bytes of a
--- command that isn't whole yet
+-- a display: its characters row by row, where the next one goes, whether it is known what it shows, the commands that
+-- the machine doesn't know, and the bytes of a command that isn't whole yet
 pub record Screen : Type 0 where
   pub characters : List ℕ
   pub cursor : Option Place
   pub is_known : Bool
+  pub unknown : List (List ℕ)
   pub begun : List ℕ
 
--- something that the commands here don't say
-abbrev pub lost : Screen → Screen
-lost screen = record screen { is_known = false; cursor = None }
+-- a command that isn't said here
+abbrev pub not_known : List ℕ → Screen → Screen
+not_known bytes screen = record screen { unknown = screen.unknown ++ bytes ∷ [] }
 
--- the cursor is somewhere else
-abbrev pub cursor_set : Option Place → Screen → Screen
-cursor_set cursor screen = record screen { cursor = cursor }
+-- it is open what is shown
+abbrev pub open_left : Screen → Screen
+open_left screen = record screen { is_known = false; cursor = None }
+
+-- a command that isn't said here, or not with such numbers or at such a place, and may show anything
+abbrev pub lost : List ℕ → Screen → Screen
+lost bytes screen = open_left (not_known bytes screen)
+
+-- the cursor is somewhere else, if that is a place of the display
+abbrev pub cursor_set : List ℕ → Option Place → Screen → Screen
+cursor_set bytes None screen = lost bytes screen
+cursor_set bytes (Some place) screen = record screen { cursor = Some place }
 
 -- clear: blanks everywhere, and the cursor at the first place
 abbrev pub cleared : Make → Screen → Screen
@@ -43,7 +53,7 @@ next_place columns place =
 
 -- a character at the cursor
 abbrev pub put_at : Make → ℕ → Option Place → Screen → Screen
-put_at make b None screen = lost screen
+put_at make b None screen = lost (b ∷ []) screen
 put_at make b (Some place) screen = record screen {
   characters = slice_set screen.characters (place.row * make.columns + place.column) b;
   cursor = next_place make.columns place;
@@ -66,15 +76,21 @@ size_of protocol.EscPos (a ∷ b ∷ more) = if a == 31 && b == 36 then 4 else (
 abbrev pub obeys_byte : Make → ℕ → Screen → Screen
 obeys_byte make b screen =
     if b == 12 then cleared make screen
-    else (if b == 11 then cursor_set (place_at make 1 1) screen
-    else (if nat_le 32 b then put_at make b screen.cursor screen else lost screen))
+    else (if b == 11 then cursor_set (b ∷ []) (place_at make 1 1) screen
+    else (if nat_le 32 b then put_at make b screen.cursor screen else lost (b ∷ []) screen))
 
--- a command that is whole: four bytes set the cursor, three switch reverse; another leaves it open what is shown
+-- a command of two bytes: ESC @ leaves it open what is shown
+abbrev pub obeys_two : ℕ → ℕ → Screen → Screen
+obeys_two a b screen = if a == 27 && b == 64 then open_left screen else lost (a ∷ b ∷ []) screen
+
+-- a command that is whole: four bytes set the cursor, and three switch reverse, which changes no character but isn't
+-- said here
 abbrev pub obeys : Make → List ℕ → Screen → Screen
 obeys make (a ∷ []) screen = obeys_byte make a screen
-obeys make (a ∷ b ∷ n ∷ []) screen = screen
-obeys make (a ∷ b ∷ x ∷ y ∷ []) screen = cursor_set (place_at make x y) screen
-obeys make bytes screen = lost screen
+obeys make (a ∷ b ∷ []) screen = obeys_two a b screen
+obeys make (a ∷ b ∷ n ∷ []) screen = not_known (a ∷ b ∷ n ∷ []) screen
+obeys make (a ∷ b ∷ x ∷ y ∷ []) screen = cursor_set (a ∷ b ∷ x ∷ y ∷ []) (place_at make x y) screen
+obeys make bytes screen = lost bytes screen
 
 -- the bytes of a command so far: it is obeyed once it is whole
 abbrev pub command_taken : Make → List ℕ → Screen → Screen
@@ -96,3 +112,8 @@ pub record IsShowing (characters : List ℕ) (screen : Screen) : Type 0 where
   pub shown : screen.characters ≡ characters
   pub known : screen.is_known ≡ true
   pub whole : screen.begun ≡ []
+
+-- From the old display, whatever it showed, the new one shows these characters, and each command is known.
+pub record ShowsOnly (old : Screen) (characters : List ℕ) (new : Screen) : Type 0 where
+  pub shows : IsShowing characters new
+  pub unknown : new.unknown ≡ old.unknown

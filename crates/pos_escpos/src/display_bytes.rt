@@ -4,7 +4,7 @@ ghost use Rattle.std.specs.List.{list_all};
 ghost use Rattle.pos_service.specs.Displays.{blank_display};
 ghost use Rattle.pos_escpos.specs.declared.bytes_fault.BytesFault.TheVariants as fault;
 ghost use Rattle.pos_escpos.specs.DisplayBytes.{can_become, characters_of, is_character, is_whole, make_of, row_bytes, row_start, rows_bytes};
-ghost use Rattle.pos_escpos.specs.Screens.{IsShowing, Make, Screen, screen_after};
+ghost use Rattle.pos_escpos.specs.Screens.{IsShowing, Make, Screen, ShowsOnly, screen_after};
 
 use crate::bytes_fault::BytesFault;
 use crate::settings::DisplayProtocol;
@@ -16,7 +16,8 @@ use std::alloc::{AllocError, Global};
 pub fn display_start_bytes() -> [u8; 3]
     // Whatever it showed, it shows blanks then.
     ensures { (make : Make) (screen : Screen) → screen.begun ≡ [] →
-        IsShowing (characters_of (blank_display make.rows make.columns).cells) (screen_after make screen result) }
+        ShowsOnly screen (characters_of (blank_display make.rows make.columns).cells)
+        (screen_after make screen result) }
 {
     [0x1B, b'@', 0x0C]
 }
@@ -154,9 +155,10 @@ pub fn rows_bytes(
     before: &DisplayCells,
     after: &DisplayCells,
 ) -> Result<Vec<u8>, BytesFault>
-    // A display that shows the one shows the other.
+    // A display that shows the one shows the other, and gets no other commands than it knows.
     ensures shows { IfOk result (λ bytes. (screen : Screen) → IsShowing (characters_of before.now.cells) screen →
-        IsShowing (characters_of after.now.cells) (screen_after (make_of protocol after.now) screen bytes.items)) }
+        ShowsOnly screen (characters_of after.now.cells)
+        (screen_after (make_of protocol after.now) screen bytes.items)) }
     // Which bytes they are.
     ensures sent { IfOk result (λ bytes. bytes.items
         ≡ rows_bytes protocol after.now.columns 1 after.now.rows before.now.cells after.now.cells) }

@@ -1,5 +1,5 @@
 //! A file as a disk needs it.
-ghost use Rattle.std.specs.Prelude.{◌≡◌, ◌++◌, ◌∷◌, [], List};
+ghost use Rattle.std.specs.Prelude.{◌≡◌, ◌++◌, ◌∷◌, [], List, ⊤};
 ghost use Rattle.std.specs.Io.{ReadsAtMost, WritesAtMost};
 ghost use Rattle.pos_file.specs.Calls.{Call, done_of, lock_call, locks_of, measure_call, number_of, read_call};
 ghost use Rattle.pos_file.specs.Calls.{share_call, sync_call, write_call};
@@ -11,9 +11,15 @@ use std::io;
 ///
 /// It keeps a list of its calls: each adds itself, with its answer, after those before. No contract can say what a file
 /// keeps, but the list says exactly what it was asked.
+///
+/// A function that closes a file says so by `closed`, of the file as it was then. Code over any file has that only from
+/// [`BlockFile::close`], which takes the file, so the list is the whole of what the file was asked.
 pub trait BlockFile {
     /// What it was asked so far, the first call first.
     ghost calls: { Self → List Call };
+
+    /// What is known of a file that was closed as it is. Each type defines it.
+    ghost closed: { Self → Type 0 } = { λ _. ⊤ };
 
     /// Locks it for this program alone, without waiting. It stays locked until it is closed.
     ///
@@ -66,4 +72,8 @@ pub trait BlockFile {
     /// The system's cause if the call failed.
     fn sync(&mut self) -> io::Result<()>
         ensures { calls self.new ≡ calls self.old ++ sync_call (done_of result) ∷ [] };
+
+    /// Closes it. It is asked nothing more.
+    fn close(self)
+        ensures { closed self };
 }

@@ -50,6 +50,13 @@ impl<F: BlockFile + Drop> FileDisk<F> {
         &self.file
     }
 
+    /// Closes the file.
+    pub fn close(self)
+        ensures { F.closed self.file }
+    {
+        self.file.close();
+    }
+
     // Returns a fault after a sync that failed.
     fn check(&self) -> Result<(), DiskFault>
         ensures { is_fault result ≡ self.now.has_failed }

@@ -108,4 +108,6 @@ impl BlockFile for MemoryFile {
         self.history.note(CallKind::Sync, 0, &[], done(&answer));
         answer
     }
+
+    fn close(self) {}
 }

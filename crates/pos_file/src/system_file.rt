@@ -78,4 +78,6 @@ impl BlockFile for SystemFile {
         self.history.note(CallKind::Sync, 0, &[], done(&answer));
         answer
     }
+
+    fn close(self) {}
 }

@@ -176,11 +176,11 @@ IsFormatFault it = (it ≡ fault.TooSmall) ⊎ (it ≡ fault.AlreadyFormatted) �
 abbrev pub IsOpenFault : ImageFault → Type 0
 IsOpenFault it = (it ≡ fault.TooSmall) ⊎ IsFindFault it
 
--- the disk was marked as formatted, and was only looked at
-abbrev pub RefusesMarked : DiskState → DiskState → ImageFault → Type 0
-RefusesMarked old new it = it ≡ fault.AlreadyFormatted → (is_marked old.reading ≡ true) × Watches old new
+-- a disk is refused as formatted only where it was marked so
+abbrev pub RefusesMarked : DiskState → ImageFault → Type 0
+RefusesMarked old it = it ≡ fault.AlreadyFormatted → is_marked old.reading ≡ true
 
--- a disk that is marked as formatted is only looked at, also if it failed
+-- a disk that is marked as formatted is only looked at, whether it is refused so or failed
 abbrev pub KeepsMarked : DiskState → DiskState → Type 0
 KeepsMarked old new = is_marked old.reading ≡ true → Watches old new
 

@@ -66,7 +66,7 @@ impl<D: Disk> Images<D> {
         ensures large { IfOk result (λ formatted. disk_size ≤ D.size formatted) }
         ensures too_small { IfErr result (λ e. e.0 ≡ TooSmall ↔ (D.size disk < disk_size)) }
         ensures unmarked { D.honest disk → IfOk result (λ formatted. is_marked (D.state disk).reading ≡ false) }
-        ensures marked { D.honest disk → IfErr result (λ e. RefusesMarked (D.state disk) (D.state e.1) e.0) }
+        ensures marked { D.honest disk → IfErr result (λ e. RefusesMarked (D.state disk) e.0) }
         ensures kept { D.honest disk → KeepsMarked (D.state disk) (D.state (handed_back result)) }
         ensures device { D.honest disk → IfErr result (λ e. FailsWithCause (D.state disk) (D.state e.1) e.0) }
         ensures counts { D.honest disk →

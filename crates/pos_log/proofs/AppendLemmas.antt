@@ -3,9 +3,11 @@ use Rattle.pos_log.proofs.Common.{Appends, CountsFaults, DiskState, Err, Ghosts,
 use Rattle.pos_log.proofs.Common.{IsLogReady, IsReady, KeepsRecords, KeepsSpan, LeavesOnly, List, Ok, PutsBytes, Rises}
 use Rattle.pos_log.proofs.Common.{SameBut, View, [], arith, followed_by, inl, layout_of, length, log_of, log_over}
 use Rattle.pos_log.proofs.Common.{log_place, part, part-splice, places, rules, slot_size, span_length, spelling}
-use Rattle.pos_log.proofs.Common.{spliced_same, text_behind_gate, weaker, wider, ℕ, ⊎_elim, ◌++◌, ◌+◌, ◌-◌, ◌<◌, ◌^◌}
+use Rattle.pos_log.proofs.Common.{same_on, spliced_same, text_behind_gate, weaker, wider, ℕ, ⊎_elim, ◌++◌, ◌+◌, ◌-◌, ◌<◌, ◌^◌}
 use Rattle.pos_log.proofs.Common.{◌∙◌, ◌∷◌, ◌≡◌, ◌≤◌}
 use Rattle.pos_disk.specs.Keeps.{KeepsDisk}
+use Rattle.pos_image.specs.DiskCalls.{Keeps}
+use Rattle.pos_image.specs.Layout.{start}
 use Rattle.pos_image.proofs.ChangeLemmas.{opened_gate}
 use Rattle.pos_log.proofs.RecordLemmas.{either_more, kept_records, opened_more, spelling_length}
 use Rattle.pos_log.proofs.LayoutLemmas.{text_length}
@@ -17,6 +19,8 @@ pub record WritesThrough {D : Type 0} (bound : Ghosts D) (images : View D) (disk
     (end : D) : Type 0 where
   pub moments : bound.honest disk → LeavesOnly (bound.state disk) (bound.state end) (KeepsSpan (layout_of images.slot)
       images.body images.sequence at (length bytes) (log_of (bound.state disk).reading))
+  pub rest : bound.honest disk → Keeps (start images.slot + log_place (layout_of images.slot) + at) (length bytes)
+      (bound.state disk) (bound.state end)
   pub keeps : KeepsDisk bound disk end
 
 -- a call that answered no fault of the disk left its count
@@ -47,12 +51,17 @@ module _ {D : Type 0} (bound : Ghosts D) (images : View D) (tail : ℕ) (group :
   IsKept new = LeavesOnly old new
       (KeepsRecords (layout_of images.slot) images.body images.sequence (log_of old.reading) group)
 
+  -- nothing but the record and the gate behind it was written
+  abbrev WritesRecord : DiskState → Type 0
+  WritesRecord new = Keeps (start images.slot + tail) (6 + length group) old new
+
   -- the disk failed in one of the steps
   failed : (end : D) (now : View D) → now ≡ record images { disk = end }
-      → (bound.honest images.disk → IsKept (bound.state end)) → KeepsDisk bound images.disk end
+      → (bound.honest images.disk → IsKept (bound.state end))
+      → (bound.honest images.disk → WritesRecord (bound.state end)) → KeepsDisk bound images.disk end
       → (bound.honest images.disk → Rises old.failures (bound.state end).failures)
       → Appends bound (log_over images tail) group (Err fault.Device) (log_over now tail)
-  failed end now is moments keeps rises = grind arith
+  failed end now is moments rest keeps rises = grind arith
 
   module _ (disk : D) (puts : WritesThrough bound images images.disk (place + 1) (text_behind_gate group) disk) where
     -- at any moment of the first step
@@ -63,10 +72,14 @@ module _ {D : Type 0} (bound : Ghosts D) (images : View D) (tail : ℕ) (group :
           inl (kept_records groups holds keeps.log (omega arith));
     }) (puts.moments honest)
 
+    -- and whatever it answered
+    first_rest : bound.honest images.disk → WritesRecord (bound.state disk)
+    first_rest honest = let long = text_length group in wider (omega arith) (omega arith) (puts.rest honest)
+
     pub failed_put : (now : View D) → now ≡ record images { disk = disk }
         → (bound.honest images.disk → Rises old.failures (bound.state disk).failures)
         → Appends bound (log_over images tail) group (Err fault.Device) (log_over now tail)
-    failed_put now is rises = failed disk now is first_moments puts.keeps rises
+    failed_put now is rises = failed disk now is first_moments first_rest puts.keeps rises
 
     module _ (put : bound.honest images.disk → PutsBytes (place + 1) (text_behind_gate group) old (bound.state disk))
         (end : D) (opens : WritesThrough bound images disk place (165 ∷ []) end) where
@@ -93,13 +106,17 @@ module _ {D : Type 0} (bound : Ghosts D) (images : View D) (tail : ℕ) (group :
                 (in_span honest) few (beside honest) (there honest) keeps.log;
           }) (opens.moments (puts.keeps.honest.0 honest)))
 
+      all_rest : bound.honest images.disk → WritesRecord (bound.state end)
+      all_rest honest = same_on (first_rest honest)
+          (wider (omega arith) (omega arith) (opens.rest (puts.keeps.honest.0 honest)))
+
       both_keep : KeepsDisk bound images.disk end
       both_keep = search (rules, puts.keeps, opens.keeps)
 
       pub failed_open : (now : View D) → now ≡ record images { disk = end }
           → (bound.honest disk → Rises (bound.state disk).failures (bound.state end).failures)
           → Appends bound (log_over images tail) group (Err fault.Device) (log_over now tail)
-      failed_open now is rises = grind (arith, failed, all_moments, both_keep)
+      failed_open now is rises = grind (arith, failed, all_moments, all_rest, both_keep)
 
       module _ (opened : bound.honest disk → PutsBytes place (165 ∷ []) (bound.state disk) (bound.state end)) where
         more : bound.honest images.disk → HoldsMore (log_of old.reading) group (log_of (bound.state end).reading)
@@ -127,4 +144,4 @@ module _ {D : Type 0} (bound : Ghosts D) (images : View D) (tail : ℕ) (group :
             } in
             let counts = λ (honest : bound.honest images.disk). second (puts.keeps.honest.0 honest) ∙ first honest in
             let small : slot_size (layout_of images.slot) < tail + 6 + length group → ⊥ = λ over. omega arith in
-            rw (is, behind_is) (search (rules, ready, more, all_moments, counts, both_keep, small))
+            rw (is, behind_is) (search (rules, ready, more, all_moments, all_rest, counts, both_keep, small))

@@ -4,7 +4,8 @@ use Rattle.std.specs.Prelude.{Option, Some, None, Result, Ok, Err, OnOk, IsErr, 
 use Rattle.pos_disk.specs.State.{DiskState, LeavesOnly, Rises, HasNotFailed}
 use Rattle.pos_disk.specs.Keeps.{KeepsDisk}
 use Rattle.pos_disk.specs.declared.device.Disk.{Ghosts}
-use Rattle.pos_image.specs.Layout.{log_place, slot_size, longest, layout_of}
+use Rattle.pos_image.specs.DiskCalls.{Keeps}
+use Rattle.pos_image.specs.Layout.{log_place, slot_size, longest, start, layout_of}
 use Rattle.pos_image.specs.Standing.{ShowsImage, HasImage, log_of}
 use Rattle.pos_image.specs.Images.{View, IsReady, CountsFaults}
 use Rattle.pos_image.specs.declared.layout.Layout.{Layout}
@@ -64,6 +65,9 @@ pub record Appends {D : Type 0} (bound : Ghosts D) (old : LogView D) (group : Li
       → LeavesOnly (bound.state old.images.disk) (bound.state new.images.disk)
       (KeepsRecords (layout_of old.images.slot) old.images.body old.images.sequence
       (log_of (bound.state old.images.disk).reading) group)
+  -- whatever it answers, nothing but the record and the gate behind it was written
+  pub rest : bound.honest old.images.disk → Keeps (start old.images.slot + old.tail) (6 + length group)
+      (bound.state old.images.disk) (bound.state new.images.disk)
   -- it is full exactly where the record and the gate behind it don't fit
   pub full : IsErrOf result fault.Full ↔ (slot_size (layout_of old.images.slot) < end_of old.tail (length group))
   pub unchanged : IsErr result → IsErrOf result fault.Device ⊎ (new ≡ old)

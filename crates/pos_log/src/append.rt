@@ -1,7 +1,8 @@
 //! How a record gets into the log.
 ghost use Rattle.std.specs.Prelude.{◌≡◌, ◌≤◌, ◌+◌, ◌-◌, ◌<◌, ◌^◌, take, length, OnOk, IsErr, IsErrOf, IfErr};
 ghost use Rattle.pos_disk.specs.Keeps.{KeepsDisk};
-ghost use Rattle.pos_image.specs.Layout.{log_place, layout_of};
+ghost use Rattle.pos_image.specs.DiskCalls.{Keeps};
+ghost use Rattle.pos_image.specs.Layout.{log_place, start, layout_of};
 ghost use Rattle.pos_image.specs.Spans.{IsInSpan};
 ghost use Rattle.pos_image.specs.Images.{IsReady, FailsFor, CountsFaults};
 ghost use Rattle.pos_image.specs.declared.fault.ImageFault.TheVariants.{Device};
@@ -50,6 +51,10 @@ pub(crate) fn write_through<D: Disk>(
         (D.state images.old.disk) (D.state images.new.disk)) }
     ensures any_moment { D.honest images.old.disk → CrashKeepsSpan
         images.old (at - log_place (layout_of images.old.slot)) (length bytes.now)
+        (D.state images.old.disk) (D.state images.new.disk) }
+
+    // Whatever it answers, nothing but these bytes was written.
+    ensures rest { D.honest images.old.disk → Keeps (start images.old.slot + at) (length bytes.now)
         (D.state images.old.disk) (D.state images.new.disk) }
     ensures faults { IsErr result → IsErrOf result Device }
     ensures device { D.honest images.old.disk → IfErr result (FailsFor D.Disk images.old images.new) }

@@ -3,6 +3,7 @@ use Rattle.std.specs.Prelude.{◌≡◌, ◌⊎◌, ℕ, List, true, false, Resu
 use Rattle.pos_disk.specs.Memory.{state_of}
 use Rattle.pos_disk.specs.State.{DiskState, IsAtRest, Watches}
 use Rattle.pos_file.specs.Calls.{Call}
+use Rattle.pos_file.specs.declared.block_file.BlockFile.{Ghosts as FileGhosts}
 use Rattle.pos_file.specs.declared.file_disk.FileDisk.{FileDisk}
 use Rattle.pos_image.specs.Images.{HasFailed, KeepsMarked}
 use Rattle.pos_image.specs.NewDisk.{HasClosedGates, KeepsRest, no_files}
@@ -54,13 +55,13 @@ pub record LeavesFormatted {F : Type 0} (calls : F → List Call) (totals after 
   pub cut : (is : IsMirrored calls after) (bytes : List ℕ) → CutMayLeave is bytes
       → is_marked totals.memory.present.reading ≡ true → bytes ≡ totals.memory.present.reading
 
--- formatting totals in a file comes to this
-abbrev pub FormatsTotals : {F : Type 0} → (F → List Call) → Mirror (FileDisk F) → Result (Unit {0}) FileFault → Type 0
-FormatsTotals {F} calls totals result = (after : Mirror (FileDisk F)) × LeavesFormatted calls totals after result
+-- formatting totals in a file comes to this, and the file was closed then
+abbrev pub FormatsTotals : {F : Type 0} → FileGhosts F → Mirror (FileDisk F) → Result (Unit {0}) FileFault → Type 0
+FormatsTotals {F} below totals result = (after : Mirror (FileDisk F))
+    × LeavesFormatted below.calls totals after result × below.closed after.below.file
 
 -- formatting the totals in the file at a path: what making them answered, and what became of them
-abbrev pub FormatsFile : {F B : Type 0} → Ghosts F B → (B → List Call) → F → List ℕ → Result (Unit {0}) FileFault
-    → Type 0
-FormatsFile {F} {B} files calls them path result =
+abbrev pub FormatsFile : {F B : Type 0} → Ghosts F B → FileGhosts B → F → List ℕ → Result (Unit {0}) FileFault → Type 0
+FormatsFile {F} {B} files below them path result =
     (opened : Result (Mirror (FileDisk B)) FileFault) × files.makes_disk them path opened
-    × AnswersFor (FormatsTotals calls) opened result
+    × AnswersFor (FormatsTotals below) opened result

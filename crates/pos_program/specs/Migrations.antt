@@ -4,6 +4,7 @@ use Rattle.std.specs.Prelude.{◌≡◌, ◌⊎◌, ℕ, IsErrOf, List, map, Res
 use Rattle.pos_disk.specs.Memory.{state_of}
 use Rattle.pos_disk.specs.State.{HasNotFailed}
 use Rattle.pos_file.specs.Calls.{Call}
+use Rattle.pos_file.specs.declared.block_file.BlockFile.{Ghosts as FileGhosts}
 use Rattle.pos_file.specs.declared.file_disk.FileDisk.{FileDisk}
 use Rattle.pos_mirror.specs.Mirror.{Mirror, mirror_state}
 use Rattle.pos_program.specs.Answers.{AnswersFor}
@@ -56,15 +57,14 @@ pub record LeavesMoved {F : Type 0} (calls : F → List Call) (totals after : Mi
   pub kept : (candidates : List Standing) → LeavesOneOf candidates (mirror_state totals) → IsRefusedMove outcome
       → (is : IsMirrored calls after) (bytes : List ℕ) → CutMayLeave is bytes → bytes ≡ totals.memory.present.reading
 
--- moving totals in a file comes to this
-abbrev pub MigratesTotals : {F : Type 0} → (F → List Call) → Mirror (FileDisk F) → Result (Unit {0}) FileFault → Type 0
-MigratesTotals {F} calls totals result =
+-- moving totals in a file comes to this, and the file was closed then
+abbrev pub MigratesTotals : {F : Type 0} → FileGhosts F → Mirror (FileDisk F) → Result (Unit {0}) FileFault → Type 0
+MigratesTotals {F} below totals result =
     (after : Mirror (FileDisk F)) × (outcome : Result (Unit {0}) StoreFault)
-    × LeavesMoved calls totals after outcome × (result ≡ told_of outcome)
+    × LeavesMoved below.calls totals after outcome × below.closed after.below.file × (result ≡ told_of outcome)
 
 -- moving the totals in the file at a path: what opening them answered, and what became of them
-abbrev pub MigratesFile : {F B : Type 0} → Ghosts F B → (B → List Call) → F → List ℕ → Result (Unit {0}) FileFault
-    → Type 0
-MigratesFile {F} {B} files calls them path result =
+abbrev pub MigratesFile : {F B : Type 0} → Ghosts F B → FileGhosts B → F → List ℕ → Result (Unit {0}) FileFault → Type 0
+MigratesFile {F} {B} files below them path result =
     (opened : Result (Mirror (FileDisk B)) FileFault) × files.gives_disk them path opened
-    × AnswersFor (MigratesTotals calls) opened result
+    × AnswersFor (MigratesTotals below) opened result

@@ -7,9 +7,9 @@ use Rattle.std.specs.Path.{cur_dir, path_parent}
 use Rattle.std.specs.declared.fs.options.OpenOptions.{OpenOptions}
 use Rattle.std.specs.declared.io.Error.{Error}
 use Rattle.pos_disk.specs.Memory.{fresh}
-use Rattle.pos_disk.specs.declared.device.Disk.{Ghosts}
 use Rattle.pos_file.specs.Calls.{Call, lock_call, measure_call, read_call, share_call, sync_call}
 use Rattle.pos_file.specs.Disks.{Lengthens, OpensBy, file_disks}
+use Rattle.pos_file.specs.declared.block_file.BlockFile.{Ghosts as FileGhosts}
 use Rattle.pos_file.specs.declared.fault.DiskFileFault.{DiskFileFault}
 use Rattle.pos_file.specs.declared.fault.DiskFileFault.TheVariants as disk
 use Rattle.pos_file.specs.declared.file_disk.FileDisk.{FileDisk}
@@ -62,18 +62,22 @@ ReportsDisk (disk.Measure cause) result = result ≡ file.Measure cause
 ReportsDisk (disk.Lengthen cause) result = result ≡ file.Lengthen cause
 ReportsDisk (disk.Sync cause) result = result ≡ file.Sync cause
 
+-- why a file can't serve as a disk; as the refusal left it, the file was closed
+abbrev pub ClosesRefused : {F : Type 0} → FileGhosts F → DiskFileFault × F → FileFault → Type 0
+ClosesRefused below refusal why = ReportsDisk refusal.0 why × below.closed refusal.1
+
 -- what opening a file as a disk comes to, with this call for a lock
-abbrev pub OpensDisk : {F : Type 0} → (Option ℕ → Call) → (F → List Call) → F → Result (FileDisk F) FileFault → Type 0
-OpensDisk {F} lock calls them result =
-    (answer : Result (FileDisk F) (DiskFileFault × F)) × OpensBy lock calls them answer
-    × Passes (λ refusal. ReportsDisk refusal.0) answer result
+abbrev pub OpensDisk : {F : Type 0} → (Option ℕ → Call) → FileGhosts F → F → Result (FileDisk F) FileFault → Type 0
+OpensDisk {F} lock below them result =
+    (answer : Result (FileDisk F) (DiskFileFault × F)) × OpensBy lock below.calls them answer
+    × Passes (ClosesRefused below) answer result
 
 -- what lengthening a disk to that of totals comes to: want of memory, or zeros are written behind its end
-abbrev pub LengthensDisk : {F : Type 0} → (F → List Call) → FileDisk F → Result (FileDisk F) FileFault → Type 0
-LengthensDisk {F} calls old result = (result ≡ Err file.NoMemory)
+abbrev pub LengthensDisk : {F : Type 0} → FileGhosts F → FileDisk F → Result (FileDisk F) FileFault → Type 0
+LengthensDisk {F} below old result = ((result ≡ Err file.NoMemory) × below.closed old.file)
     ⊎ ((answer : Result (FileDisk F) (DiskFileFault × F))
-    × Lengthens calls old (replicate (disk_size - old.size) 0) answer
-    × Passes (λ refusal. ReportsDisk refusal.0) answer result)
+    × Lengthens below.calls old (replicate (disk_size - old.size) 0) answer
+    × Passes (ClosesRefused below) answer result)
 
 -- why a disk can't be mirrored
 abbrev pub ReportsMirror : MirrorFault → FileFault → Type 0
@@ -81,11 +85,16 @@ ReportsMirror mirror.NoMemory result = result ≡ file.NoMemory
 ReportsMirror mirror.Sync result = result ≡ file.NotSynced
 ReportsMirror mirror.Read result = result ≡ file.NotRead
 
+-- why a disk in a file can't be mirrored; as the refusal left it, the file was closed
+abbrev pub ClosesUnmirrored : {F : Type 0} → FileGhosts F → MirrorFault × FileDisk F → FileFault → Type 0
+ClosesUnmirrored below refusal why = ReportsMirror refusal.0 why × below.closed refusal.1.file
+
 -- what mirroring a disk of totals comes to
-abbrev pub MirrorsDisk : {D : Type 0} → Ghosts D → D → Result (Mirror D) FileFault → Type 0
-MirrorsDisk {D} bound below result =
-    (answer : Result (Mirror D) (MirrorFault × D)) × MirrorOpens bound below (min (bound.size below) disk_size) answer
-    × Passes (λ refusal. ReportsMirror refusal.0) answer result
+abbrev pub MirrorsDisk : {F : Type 0} → FileGhosts F → FileDisk F → Result (Mirror (FileDisk F)) FileFault → Type 0
+MirrorsDisk {F} below disk result =
+    (answer : Result (Mirror (FileDisk F)) (MirrorFault × FileDisk F))
+    × MirrorOpens (file_disks below.calls) disk (min disk.size disk_size) answer
+    × Passes (ClosesUnmirrored below) answer result
 
 -- a mirror that was asked nothing yet: it has the bytes that were read, and is at rest
 abbrev pub IsNewMirror : {D : Type 0} → Mirror D → Type 0
@@ -95,13 +104,19 @@ IsNewMirror totals = totals ≡ mirror_of (fresh totals.memory.present.reading) 
 abbrev pub IsLongEnough : {F : Type 0} → FileDisk F → FileDisk F → Type 0
 IsLongEnough old new = new.size ≡ max old.size disk_size
 
+-- what is answered for a disk once this was done; or why it wasn't, and then the disk's file was closed as it was
+abbrev pub AnswersOrCloses : {F B : Type 0} → FileGhosts F → FileDisk F → (Result B FileFault → Type 0)
+    → Result (Unit {0}) FileFault → Result B FileFault → Type 0
+AnswersOrCloses below disk Answers (Ok u) result = Answers result
+AnswersOrCloses below disk Answers (Err why) result = (result ≡ Err why) × below.closed disk.file
+
 -- a shorter disk is lengthened to the length of one of totals, after its folder was synced
-abbrev pub MakesLong : {S F : Type 0} → SystemGhosts S F → (F → List Call) → S → List ℕ → FileDisk F
+abbrev pub MakesLong : {S F : Type 0} → SystemGhosts S F → FileGhosts F → S → List ℕ → FileDisk F
     → Result (FileDisk F) FileFault → Type 0
-MakesLong system calls them path old result =
+MakesLong system below them path old result =
     MatchBool (nat_lt old.size disk_size)
     ((synced : Result (Unit {0}) FileFault) × SyncsFolder system them path synced
-    × AnswersFor (λ u. LengthensDisk calls old) synced result)
+    × AnswersOrCloses below old (LengthensDisk below old) synced result)
     (result ≡ Ok old)
 
 -- what checking comes to that the file at a path is this open one: if it isn't, another program uses the path
@@ -110,42 +125,42 @@ ChecksName system them opened path result =
     (answer : Result Bool Error) × system.names them opened path answer × HasToBe file.InUse ReportsOpen answer result
 
 -- a file is opened to be read and written, locked for this program alone, and still the one at its path
-abbrev pub LocksTotals : {S F : Type 0} → SystemGhosts S F → (F → List Call) → S → Bool → List ℕ
+abbrev pub LocksTotals : {S F : Type 0} → SystemGhosts S F → FileGhosts F → S → Bool → List ℕ
     → Result (FileDisk F) FileFault → Type 0
-LocksTotals {F = F} system calls them may_make path result =
+LocksTotals {F = F} system below them may_make path result =
     (opened : Result F FileFault) × OpensFile system ReportsOpen them (to_write may_make) path opened
-    × AnswersFor (λ file answer. (disk : Result (FileDisk F) FileFault) × OpensDisk lock_call calls file disk
+    × AnswersFor (λ file answer. (disk : Result (FileDisk F) FileFault) × OpensDisk lock_call below file disk
     × AnswersFor (λ locked last. (named : Result (Unit {0}) FileFault) × ChecksName system them locked.file path named
-    × AnswersFor (λ u passed. passed ≡ Ok locked) named last) disk answer) opened result
+    × AnswersOrCloses below locked (λ passed. passed ≡ Ok locked) named last) disk answer) opened result
 
 -- opening the totals in a file that is there, to be read and written
-abbrev pub OpensTotals : {S F : Type 0} → SystemGhosts S F → (F → List Call) → S → List ℕ
+abbrev pub OpensTotals : {S F : Type 0} → SystemGhosts S F → FileGhosts F → S → List ℕ
     → Result (Mirror (FileDisk F)) FileFault → Type 0
-OpensTotals {F = F} system calls them path result =
-    (locked : Result (FileDisk F) FileFault) × LocksTotals system calls them false path locked
-    × AnswersFor (MirrorsDisk (file_disks calls)) locked result
+OpensTotals {F = F} system below them path result =
+    (locked : Result (FileDisk F) FileFault) × LocksTotals system below them false path locked
+    × AnswersFor (MirrorsDisk below) locked result
 
 -- opening the totals in a file that is there, to be read alone
-abbrev pub ReadsTotals : {S F : Type 0} → SystemGhosts S F → (F → List Call) → S → List ℕ
+abbrev pub ReadsTotals : {S F : Type 0} → SystemGhosts S F → FileGhosts F → S → List ℕ
     → Result (Mirror (FileDisk F)) FileFault → Type 0
-ReadsTotals {F = F} system calls them path result =
+ReadsTotals {F = F} system below them path result =
     (opened : Result F FileFault) × OpensFile system ReportsUnreadable them to_read path opened
-    × AnswersFor (λ file answer. (disk : Result (FileDisk F) FileFault) × OpensDisk share_call calls file disk
-    × AnswersFor (MirrorsDisk (file_disks calls)) disk answer) opened result
+    × AnswersFor (λ file answer. (disk : Result (FileDisk F) FileFault) × OpensDisk share_call below file disk
+    × AnswersFor (MirrorsDisk below) disk answer) opened result
 
 -- a disk of a file is made long enough, and mirrored
-abbrev pub MirrorsLong : {S F : Type 0} → SystemGhosts S F → (F → List Call) → S → List ℕ → FileDisk F
+abbrev pub MirrorsLong : {S F : Type 0} → SystemGhosts S F → FileGhosts F → S → List ℕ → FileDisk F
     → Result (Mirror (FileDisk F)) FileFault → Type 0
-MirrorsLong {F = F} system calls them path disk result =
-    (long : Result (FileDisk F) FileFault) × MakesLong system calls them path disk long
-    × AnswersFor (MirrorsDisk (file_disks calls)) long result
+MirrorsLong {F = F} system below them path disk result =
+    (long : Result (FileDisk F) FileFault) × MakesLong system below them path disk long
+    × AnswersFor (MirrorsDisk below) long result
 
 -- opening the totals in a file, which is made if it isn't there, and lengthened if it is too short
-abbrev pub MakesTotals : {S F : Type 0} → SystemGhosts S F → (F → List Call) → S → List ℕ
+abbrev pub MakesTotals : {S F : Type 0} → SystemGhosts S F → FileGhosts F → S → List ℕ
     → Result (Mirror (FileDisk F)) FileFault → Type 0
-MakesTotals {F = F} system calls them path result =
-    (locked : Result (FileDisk F) FileFault) × LocksTotals system calls them true path locked
-    × AnswersFor (MirrorsLong system calls them path) locked result
+MakesTotals {F = F} system below them path result =
+    (locked : Result (FileDisk F) FileFault) × LocksTotals system below them true path locked
+    × AnswersFor (MirrorsLong system below them path) locked result
 
 -- Totals in a file that was asked for a lock for reading, its length, a sync, and then its first bytes, as many as a
 -- disk of totals has or all of a shorter file; and was asked nothing else. They show the bytes that this read gave.

@@ -42,11 +42,11 @@ pub enum FileFault {
     /// A read, a write or a sync failed while it was formatted.
     #[error("a read, a write or a sync failed while it was formatted")]
     Device,
-    /// It has no totals that could be moved to layout 2. Nothing was written.
-    #[error("isn't formatted: format it first, which makes totals without files")]
+    /// It has no totals that could be moved to layout 2: it isn't formatted, or it was cut off. Nothing was written.
+    #[error("has no totals: it isn't formatted, or it was cut off")]
     Unformatted,
     /// Its totals are damaged. Nothing was written.
-    #[error("its totals are damaged: keep it, and read a copy of it by hand")]
+    #[error("its totals are damaged: keep it, and restore a copy, or salvage it")]
     Damaged,
     /// Its totals have layout 2 already. Nothing was written.
     #[error("has layout 2 already: there is nothing to do")]

@@ -8,8 +8,8 @@
 //! - [`Fault`] is what the program ends with, and [`Fault::status`] its exit status.
 //! - [`HeldStreams`] keeps files from being opened as standard input, output or error.
 //!
-//! The layer above relies on this: a file is locked before anything in it is read or written, and its calls make the
-//! disk that the mirror shows. Each fault names its cause and prints as one line.
+//! The layer above relies on this: a file is locked before anything in it is read or written, its calls make the disk
+//! that the mirror shows, and a refusal closes it. Each fault names its cause and prints as one line.
 #![tactic(auto)]
 
 mod choice_fault;
@@ -45,8 +45,8 @@ pub use profile_fault::ProfileFileFault;
 pub use profile_file::{profile_of_bytes, profile_of_text, read_profile};
 pub use run_files::open_run;
 pub use totals_disk::{
-    TotalsDisk, disk_over, disk_to_read, file_is_mirrored, lengthened, lock_totals, make_totals,
-    mirrored, open_totals, sync_folder,
+    TotalsDisk, close_totals, disk_over, disk_to_read, file_is_mirrored, lengthened, lock_totals,
+    make_totals, mirrored, mirrored_long, open_totals, sync_folder,
 };
 pub use totals_file::{open_file, read_totals};
 pub use words::{Task, choice, read_words};

@@ -10,7 +10,7 @@ ghost use Rattle.pos_program.specs.TotalsDisks.{IsNewMirror};
 
 use crate::file_fault::FileFault;
 use crate::named_files::NamedFiles;
-use crate::totals_disk::{TotalsDisk, file_is_mirrored};
+use crate::totals_disk::{TotalsDisk, close_totals, file_is_mirrored};
 use pos_disk::Disk;
 use pos_file::BlockFile;
 use pos_store::{Store, StoreFault};
@@ -82,10 +82,11 @@ pub fn migrate_totals<F: BlockFile + Drop>(
     totals: TotalsDisk<F>,
 ) -> Result<(), FileFault>
     requires { IsNewMirror totals }
-    ensures { MigratesTotals F.calls totals result }
+    ensures { MigratesTotals ⟦<F as BlockFile>⟧ totals result }
 {
     let (after, outcome) = migrate_disk(alloc, totals);
     file_is_mirrored(&after);
+    close_totals(after);
     file_result(outcome)
 }
 
@@ -95,7 +96,7 @@ pub fn migrate_totals<F: BlockFile + Drop>(
 ///
 /// Those of `NamedFiles::open_disk`, and those of `migrate_totals`.
 pub fn migrate_file<F: NamedFiles>(alloc: Global, files: &F, path: &str) -> Result<(), FileFault>
-    ensures { MigratesFile F.NamedFiles ⟦<F::File as BlockFile>⟧.calls files.now path.now result }
+    ensures { MigratesFile F.NamedFiles ⟦<F::File as BlockFile>⟧ files.now path.now result }
 {
     match files.open_disk(path) {
         Ok(totals) => migrate_totals(alloc, totals),

@@ -98,13 +98,13 @@ impl<S: FileSystem + AllocGlobal> NamedFiles for SystemFiles<'_, S> {
     ghost gives_profile = { λ files path result. ReadsProfile S.FileSystem files.system.now path result };
 
     ghost gives_disk = { λ files path result.
-        OpensTotals S.FileSystem ⟦<S::File as BlockFile>⟧.calls files.system.now path result };
+        OpensTotals S.FileSystem ⟦<S::File as BlockFile>⟧ files.system.now path result };
 
     ghost makes_disk = { λ files path result.
-        MakesTotals S.FileSystem ⟦<S::File as BlockFile>⟧.calls files.system.now path result };
+        MakesTotals S.FileSystem ⟦<S::File as BlockFile>⟧ files.system.now path result };
 
     ghost reads_disk = { λ files path result.
-        ReadsTotals S.FileSystem ⟦<S::File as BlockFile>⟧.calls files.system.now path result };
+        ReadsTotals S.FileSystem ⟦<S::File as BlockFile>⟧ files.system.now path result };
 
     fn read_profile(&self, path: &str) -> Result<Profile, ProfileFileFault> {
         read_profile(self.system, path)

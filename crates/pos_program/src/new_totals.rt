@@ -7,7 +7,7 @@ ghost use Rattle.pos_program.specs.TotalsDisks.{IsNewMirror};
 
 use crate::file_fault::FileFault;
 use crate::named_files::NamedFiles;
-use crate::totals_disk::{TotalsDisk, file_is_mirrored};
+use crate::totals_disk::{TotalsDisk, close_totals, file_is_mirrored};
 use pos_disk::Disk;
 use pos_file::BlockFile;
 use pos_image::{ImageFault, Images};
@@ -42,15 +42,17 @@ pub fn format_disk<D: Disk + Drop>(disk: D) -> Result<D, (FileFault, D)>
 pub fn format_totals<F: BlockFile + Drop>(totals: TotalsDisk<F>) -> Result<(), FileFault>
     requires new { IsNewMirror totals }
     requires large { disk_size ≤ length totals.memory.present.reading }
-    ensures { FormatsTotals F.calls totals result }
+    ensures { FormatsTotals ⟦<F as BlockFile>⟧ totals result }
 {
     match format_disk(totals) {
         Ok(after) => {
             file_is_mirrored(&after);
+            close_totals(after);
             Ok(())
         }
         Err((fault, after)) => {
             file_is_mirrored(&after);
+            close_totals(after);
             Err(fault)
         }
     }
@@ -62,7 +64,7 @@ pub fn format_totals<F: BlockFile + Drop>(totals: TotalsDisk<F>) -> Result<(), F
 ///
 /// Those of `NamedFiles::make_disk`, and those of `format_totals`.
 pub fn format_file<F: NamedFiles>(files: &F, path: &str) -> Result<(), FileFault>
-    ensures { FormatsFile F.NamedFiles ⟦<F::File as BlockFile>⟧.calls files.now path.now result }
+    ensures { FormatsFile F.NamedFiles ⟦<F::File as BlockFile>⟧ files.now path.now result }
 {
     match files.make_disk(path) {
         Ok(totals) => format_totals(totals),

@@ -3,7 +3,7 @@ ghost use Rattle.std.specs.Prelude.{◌≡◌, ◌≤◌, IfOk, false, length, L
 ghost use Rattle.pos_file.specs.Calls.{lock_call, share_call};
 ghost use Rattle.pos_image.specs.Layout.{disk_size};
 ghost use Rattle.pos_program.specs.Faults.{ReportsOpen};
-ghost use Rattle.pos_program.specs.TotalsDisks.{ChecksName, IsLongEnough, IsNewMirror, LengthensDisk, LocksTotals, MakesLong, MakesTotals, MirrorsDisk, OpensDisk, OpensFile, OpensTotals, SyncsFolder, ReportsDisk, folder_of, to_write};
+ghost use Rattle.pos_program.specs.TotalsDisks.{ChecksName, ClosesRefused, IsLongEnough, IsNewMirror, LengthensDisk, LocksTotals, MakesLong, MakesTotals, MirrorsDisk, MirrorsLong, OpensDisk, OpensFile, OpensTotals, SyncsFolder, ReportsDisk, ReportsMirror, folder_of, to_write};
 ghost use Rattle.pos_program.specs.Locks.{ReportsUnlocked};
 ghost use Rattle.pos_mirror.specs.Mirror.{mirror_state};
 ghost use Rattle.pos_program.specs.MirroredFiles.{CutMayLeave, IsMirrored};
@@ -90,33 +90,42 @@ fn fault_of_disk(cause: DiskFileFault) -> FileFault
     }
 }
 
-/// Returns the disk in an open file, which it locks for this program alone and then measures.
+// Closes a file that a refusal returned, and returns why it can't serve as a disk.
+fn closed_fault<F: BlockFile>(cause: DiskFileFault, file: F) -> FileFault
+    ensures { ClosesRefused ⟦<F as BlockFile>⟧ (cause, file) result }
+{
+    file.close();
+    fault_of_disk(cause)
+}
+
+/// Returns the disk in an open file, which it locks for this program alone and then measures. A refusal closes it.
 ///
 /// # Errors
 ///
 /// - `InUse` if another program has locked the file.
 /// - `Lock` if the system gives no lock, `Measure` if it doesn't report the length, and `NoMemory` if memory ran out.
 pub fn disk_over<F: BlockFile + Drop>(file: F) -> Result<FileDisk<F>, FileFault>
-    ensures { OpensDisk lock_call F.calls file result }
+    ensures { OpensDisk lock_call ⟦<F as BlockFile>⟧ file result }
 {
     match FileDisk::over(file) {
         Ok(disk) => Ok(disk),
-        Err((cause, _)) => Err(fault_of_disk(cause)),
+        Err((cause, file)) => Err(closed_fault(cause, file)),
     }
 }
 
-/// Returns the disk in an open file that is only read. It locks the file for reading and then measures it.
+/// Returns the disk in an open file that is only read. It locks the file for reading and then measures it. A refusal
+/// closes it.
 ///
 /// # Errors
 ///
 /// - `InUse` if another program has locked the file for itself.
 /// - `Lock` if the system gives no lock, `Measure` if it doesn't report the length, and `NoMemory` if memory ran out.
 pub fn disk_to_read<F: BlockFile + Drop>(file: F) -> Result<FileDisk<F>, FileFault>
-    ensures { OpensDisk share_call F.calls file result }
+    ensures { OpensDisk share_call ⟦<F as BlockFile>⟧ file result }
 {
     match FileDisk::over_shared(file) {
         Ok(disk) => Ok(disk),
-        Err((cause, _)) => Err(fault_of_disk(cause)),
+        Err((cause, file)) => Err(closed_fault(cause, file)),
     }
 }
 
@@ -127,7 +136,8 @@ fn zero_bytes(alloc: Global, count: u64) -> Result<Vec<u8>, AllocError>
     vec![in alloc; 0; count as usize]
 }
 
-/// Returns a disk that isn't longer than one of totals, lengthened with zero bytes to that length, 327,680 bytes.
+/// Returns a disk that isn't longer than one of totals, lengthened with zero bytes to that length, 327,680 bytes. A
+/// refusal closes its file.
 ///
 /// # Errors
 ///
@@ -138,30 +148,48 @@ pub fn lengthened<F: BlockFile + Drop>(
 ) -> Result<FileDisk<F>, FileFault>
     requires sound { disk.has_failed ≡ false }
     requires short { disk.size ≤ disk_size }
-    ensures { LengthensDisk F.calls disk result }
+    ensures { LengthensDisk ⟦<F as BlockFile>⟧ disk result }
 {
     let Ok(zeros) = zero_bytes(alloc, LENGTH - disk.len()) else {
+        disk.close();
         return Err(FileFault::NoMemory);
     };
     match disk.lengthen(&zeros) {
         Ok(disk) => Ok(disk),
-        Err((cause, _)) => Err(fault_of_disk(cause)),
+        Err((cause, file)) => Err(closed_fault(cause, file)),
     }
 }
 
-/// Returns a mirror of as many bytes of a disk as a disk of totals has. It syncs the disk first, and then reads it.
+// Returns why a disk can't be mirrored.
+fn fault_of_mirror(cause: MirrorFault) -> FileFault
+    ensures { ReportsMirror cause result }
+{
+    match cause {
+        MirrorFault::NoMemory => FileFault::NoMemory,
+        MirrorFault::Sync => FileFault::NotSynced,
+        MirrorFault::Read => FileFault::NotRead,
+    }
+}
+
+/// Returns a mirror of as many bytes of the disk in a file as a disk of totals has. It syncs the disk first, and then
+/// reads it. A disk that hadn't failed hasn't failed then either. A refusal closes the file.
 ///
 /// # Errors
 ///
 /// `NotSynced` if the sync failed, `NotRead` if the bytes can't all be read, and `NoMemory` if memory ran out.
-pub fn mirrored<D: Disk + Drop>(alloc: Global, disk: D) -> Result<MirrorDisk<D>, FileFault>
-    ensures { MirrorsDisk D.Disk disk result }
+pub fn mirrored<F: BlockFile + Drop>(
+    alloc: Global,
+    disk: FileDisk<F>,
+) -> Result<TotalsDisk<F>, FileFault>
+    ensures mirrors { MirrorsDisk ⟦<F as BlockFile>⟧ disk result }
+    ensures sound { disk.has_failed ≡ false → IfOk result (λ totals. totals.below.has_failed ≡ false) }
 {
     match MirrorDisk::over(disk, alloc, LENGTH) {
-        Ok(mirror) => Ok(mirror),
-        Err((MirrorFault::NoMemory, _)) => Err(FileFault::NoMemory),
-        Err((MirrorFault::Sync, _)) => Err(FileFault::NotSynced),
-        Err((MirrorFault::Read, _)) => Err(FileFault::NotRead),
+        Ok(totals) => Ok(totals),
+        Err((cause, disk)) => {
+            disk.close();
+            Err(fault_of_mirror(cause))
+        }
     }
 }
 
@@ -178,7 +206,7 @@ fn check_name<S: FileSystem>(files: &S, file: &S::File, path: &str) -> Result<()
 }
 
 /// Returns the disk in the file at a path, which is locked for this program alone. It is made if it isn't there and may
-/// be made. Nothing of it is read.
+/// be made. Nothing of it is read. A refusal closes it, and writes nothing to it.
 ///
 /// # Errors
 ///
@@ -191,17 +219,21 @@ pub fn lock_totals<S: FileSystem>(
     path: &str,
     may_make: bool,
 ) -> Result<FileDisk<S::File>, FileFault>
-    ensures locks { LocksTotals S.FileSystem ⟦<S::File as BlockFile>⟧.calls files.now may_make path.now
-        result }
+    ensures locks { LocksTotals S.FileSystem ⟦<S::File as BlockFile>⟧ files.now may_make path.now result }
     ensures sound { IfOk result (λ disk. disk.has_failed ≡ false) }
 {
     let disk = disk_over(open_file(files, path, may_make)?)?;
-    check_name(files, disk.file(), path)?;
-    Ok(disk)
+    match check_name(files, disk.file(), path) {
+        Ok(()) => Ok(disk),
+        Err(fault) => {
+            disk.close();
+            Err(fault)
+        }
+    }
 }
 
 /// Opens the totals in the file at a path, which is there, and returns them. The file is locked for this program alone
-/// until the disk ends.
+/// until it is closed. A refusal closes it.
 ///
 /// # Errors
 ///
@@ -210,7 +242,7 @@ pub fn open_totals<S: FileSystem + AllocGlobal>(
     files: &S,
     path: &str,
 ) -> Result<TotalsDisk<S::File>, FileFault>
-    ensures opens { OpensTotals S.FileSystem ⟦<S::File as BlockFile>⟧.calls files.now path.now result }
+    ensures opens { OpensTotals S.FileSystem ⟦<S::File as BlockFile>⟧ files.now path.now result }
     ensures new { IfOk result (λ totals. IsNewMirror totals) }
 {
     let disk = lock_totals(files, path, false)?;
@@ -218,41 +250,65 @@ pub fn open_totals<S: FileSystem + AllocGlobal>(
 }
 
 // Returns a disk that is long enough. A shorter one is lengthened, and before that its folder is synced, so that a
-// crash leaves no disk in a file that can't be found.
+// crash leaves no disk in a file that can't be found. A refusal closes its file.
 fn long_enough<S: FileSystem + AllocGlobal>(
     files: &S,
     path: &str,
     disk: FileDisk<S::File>,
 ) -> Result<FileDisk<S::File>, FileFault>
     requires { disk.has_failed ≡ false }
-    ensures makes { MakesLong S.FileSystem ⟦<S::File as BlockFile>⟧.calls files.now path.now disk result }
+    ensures makes { MakesLong S.FileSystem ⟦<S::File as BlockFile>⟧ files.now path.now disk result }
     ensures long { IfOk result (IsLongEnough disk) }
 {
     if disk.len() >= LENGTH {
         return Ok(disk);
     }
-    sync_folder(files, path)?;
-    lengthened(files.alloc(), disk)
+    match sync_folder(files, path) {
+        Ok(()) => lengthened(files.alloc(), disk),
+        Err(fault) => {
+            disk.close();
+            Err(fault)
+        }
+    }
+}
+
+/// Returns a mirror of the totals on a disk in the file at a path. If the disk is shorter than one of totals, it is
+/// lengthened with zero bytes before. A refusal closes the file.
+///
+/// # Errors
+///
+/// `Folder` if the file's folder can't be synced, and those of `lengthened` and `mirrored`.
+pub fn mirrored_long<S: FileSystem + AllocGlobal>(
+    files: &S,
+    path: &str,
+    disk: FileDisk<S::File>,
+) -> Result<TotalsDisk<S::File>, FileFault>
+    requires { disk.has_failed ≡ false }
+    ensures mirrors { MirrorsLong S.FileSystem ⟦<S::File as BlockFile>⟧ files.now path.now disk result }
+    ensures new { IfOk result (λ totals. IsNewMirror totals) }
+    ensures length { IfOk result (λ totals. disk_size ≤ length totals.memory.present.reading) }
+{
+    let disk = long_enough(files, path, disk)?;
+    mirrored(files.alloc(), disk)
 }
 
 /// Opens the totals in the file at a path, which is made if it isn't there, and returns them. A file with fewer bytes
 /// than a disk of totals is lengthened with zero bytes. A longer one keeps its length. It is locked before anything in
-/// it changes.
+/// it changes. A refusal closes it.
 ///
 /// # Errors
 ///
-/// `Folder` if the file's folder can't be synced, those of `open_totals`, and those of `lengthened`.
+/// Those of `lock_totals` and `mirrored_long`.
 pub fn make_totals<S: FileSystem + AllocGlobal>(
     files: &S,
     path: &str,
 ) -> Result<TotalsDisk<S::File>, FileFault>
-    ensures makes { MakesTotals S.FileSystem ⟦<S::File as BlockFile>⟧.calls files.now path.now result }
+    ensures makes { MakesTotals S.FileSystem ⟦<S::File as BlockFile>⟧ files.now path.now result }
     ensures new { IfOk result (λ totals. IsNewMirror totals) }
     ensures length { IfOk result (λ totals. disk_size ≤ length totals.memory.present.reading) }
 {
     let disk = lock_totals(files, path, true)?;
-    let disk = long_enough(files, path, disk)?;
-    mirrored(files.alloc(), disk)
+    mirrored_long(files, path, disk)
 }
 
 /// Returns why a file isn't locked: `NoMemory` if memory ran out, and otherwise `Lock` with the system's error.
@@ -263,6 +319,13 @@ pub(crate) fn fault_of_lock(cause: io::Error) -> FileFault
         return FileFault::NoMemory;
     }
     FileFault::Lock(cause)
+}
+
+/// Closes the file of totals.
+pub fn close_totals<F: BlockFile + Drop>(totals: TotalsDisk<F>)
+    ensures { F.closed totals.below.file }
+{
+    totals.into_below().close();
 }
 
 /// States that the calls of the file since the mirror read it make the disk that the mirror shows. So a power cut at

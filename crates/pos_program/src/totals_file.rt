@@ -45,8 +45,8 @@ pub fn open_file<S: FileSystem>(files: &S, path: &str) -> Result<S::File, FileFa
 }
 
 /// Opens the totals in a file that is there and is only read, and returns them: its first 327,680 bytes, or all if it
-/// is shorter. The file is locked for reading until the totals end, so other programs may read it too. It is synced and
-/// then read once, and nothing is written to it.
+/// is shorter. The file is locked for reading until it is closed, so other programs may read it too. It is synced and
+/// then read once, and nothing is written to it. A refusal closes it.
 ///
 /// # Errors
 ///
@@ -57,7 +57,7 @@ pub fn read_totals<S: FileSystem + AllocGlobal>(
     files: &S,
     path: &str,
 ) -> Result<TotalsDisk<S::File>, FileFault>
-    ensures reads { ReadsTotals S.FileSystem ⟦<S::File as BlockFile>⟧.calls files.now path.now result }
+    ensures reads { ReadsTotals S.FileSystem ⟦<S::File as BlockFile>⟧ files.now path.now result }
     ensures read { IfOk result (AreRead ⟦<S::File as BlockFile>⟧.calls) }
 {
     let disk = disk_to_read(open_file(files, path)?)?;

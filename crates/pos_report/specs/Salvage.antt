@@ -37,10 +37,17 @@ abbrev pub closed : Found → List ℕ → List ℕ
 closed [] bytes = bytes
 closed (found ∷ earlier) bytes = slice_set (closed earlier bytes) (gate_of found.0 found.1) 0
 
+-- what is left out if the gate is closed of what breaks a rule: an image, or a record and all after it
+abbrev pub left_out : Rule → List ℕ
+left_out rule.SameSequence = codes "; this image is left out, and the one before it is used\n"
+left_out rule.LongBody = codes "; this image is left out, and the one before it is used\n"
+left_out (rule.NoFiles flaw) = codes "; this image is left out, and the one before it is used\n"
+left_out other = codes "; this and all later changes are left out\n"
+
 -- a gate that is closed, and why
 abbrev pub lost_line : ℕ → Rule → List ℕ
 lost_line at broken = joined (codes "closed gate " ∷ decimal (gate_of at broken) ∷ codes ", broken at "
-    ∷ decimal at ∷ codes ": " ∷ words_of broken ∷ codes "\n" ∷ [])
+    ∷ decimal at ∷ codes ": " ∷ words_of broken ∷ left_out broken ∷ [])
 
 -- where bytes were cut off, if they were
 abbrev pub cut_line : List ℕ → List ℕ

@@ -29,15 +29,17 @@ sound_text it = joined (codes "sound: layout " ∷ decimal (layout_number (layou
 -- damaged totals: the place and the rule that is broken there, and what to do
 abbrev pub damage_text : ℕ → Rule → List ℕ
 damage_text at broken = joined (codes "damaged at byte " ∷ decimal at ∷ codes ": " ∷ words_of broken ∷ [])
-    ++ codes "\nto do: copy the file before anything else, and let no till open it\n"
+    ++ codes "\nto do: copy the file first, and let no till open it; then restore a copy, else `kijolvar salvage` it\n"
 
 -- bytes that are no sound totals, and what to do
 abbrev pub broken_text : SurveyFault → List ℕ
 broken_text (fault.Damaged at broken) = damage_text at broken
 broken_text fault.TooSmall =
-    codes "no totals: shorter than a totals file, which has 327680 bytes\nto do: see that it is the right file\n"
+    codes "no totals: shorter than a totals file, which has 327680 bytes\nto do: is it the right file? "
+    ++ codes "If it was cut off, restore a copy, else `kijolvar salvage`\n"
 broken_text other =
-    codes "no totals: not formatted\nto do: copy it first if it had any; `kijolvar create FILE` makes new ones\n"
+    codes "no totals: not formatted\nto do: is it the right file? "
+    ++ codes "Restore a copy if it had totals; `kijolvar create FILE` makes new ones\n"
 
 -- a word is the name of a code, or its number
 abbrev pub is_meant : List ℕ → Code → Bool

@@ -1,7 +1,7 @@
 //! What can be had of damaged totals.
 ghost use Rattle.std.specs.Prelude.{◌≡◌, ◌≤◌, ◌++◌, length, IfErr, IfOk, OnOk};
 ghost use Rattle.pos_image.specs.Layout.{disk_size};
-ghost use Rattle.pos_report.specs.Salvage.{Finds, IsSalvaged, IsUnsalvaged, Steps, cut_line, gate_of, lost_line, padded};
+ghost use Rattle.pos_report.specs.Salvage.{Finds, IsSalvaged, IsUnsalvaged, Steps, cut_line, gate_of, left_out, lost_line, padded};
 ghost use Rattle.pos_report.specs.Salvage.{slot_start};
 
 use crate::texts::put_all;
@@ -47,6 +47,18 @@ fn gate_of(at: u64, rule: Rule) -> u64
     }
 }
 
+// What is left out if the gate is closed of what breaks a rule: an image, or a record and all after it.
+fn left_out(rule: Rule) -> &'static str
+    ensures { result.now ≡ left_out rule }
+{
+    match rule {
+        Rule::SameSequence | Rule::LongBody | Rule::NoFiles(_) => {
+            "; this image is left out, and the one before it is used\n"
+        }
+        _ => "; this and all later changes are left out\n",
+    }
+}
+
 // Puts a line on a gate that is closed at the end of a text.
 fn put_lost(text: &mut Vec<u8>, at: u64, rule: Rule) -> Result<(), AllocError>
     ensures { OnOk result (text.new.items ≡ text.old.items ++ lost_line at rule) }
@@ -62,7 +74,7 @@ fn put_lost(text: &mut Vec<u8>, at: u64, rule: Rule) -> Result<(), AllocError>
             place.format(at),
             ": ",
             words_of(rule),
-            "\n",
+            left_out(rule),
         ],
     )
 }

@@ -70,7 +70,7 @@ fn damage_text(alloc: Global, at: u64, rule: Rule) -> Result<Vec<u8>, AllocError
         &["damaged at byte ", place.format(at), ": ", words_of(rule)],
     )?;
     text.extend_from_slice(
-        b"\nto do: copy the file before anything else, and let no till open it\n",
+        b"\nto do: copy the file first, and let no till open it; then restore a copy, else `kijolvar salvage` it\n",
     )?;
     Ok(text)
 }
@@ -87,10 +87,13 @@ pub(crate) fn broken_text(alloc: Global, fault: SurveyFault) -> Result<Vec<u8>, 
     let words = match fault {
         SurveyFault::Damaged(at, rule) => return damage_text(alloc, at, rule),
         SurveyFault::TooSmall => {
-            "no totals: shorter than a totals file, which has 327680 bytes\nto do: see that it is the right file\n"
+            "no totals: shorter than a totals file, which has 327680 bytes\n\
+             to do: is it the right file? If it was cut off, restore a copy, else `kijolvar salvage`\n"
         }
-        _ =>
-            "no totals: not formatted\nto do: copy it first if it had any; `kijolvar create FILE` makes new ones\n",
+        _ => {
+            "no totals: not formatted\n\
+             to do: is it the right file? Restore a copy if it had totals; `kijolvar create FILE` makes new ones\n"
+        }
     };
     Vec::from_slice(alloc, words.as_bytes())
 }

@@ -17,7 +17,11 @@ use Rattle.std.specs.Prelude.{◌≢◌}
 use Rattle.std.specs.declared.vec.Vec.{Vec}
 use Rattle.pos_counter.proofs.ErrandLemmas.{runs_on}
 use Rattle.pos_counter.proofs.ServiceLemmas.{OnlyNow}
+use Rattle.pos_counter.proofs.HostsLemmas.{alone_same}
+use Rattle.pos_counter.proofs.RunLemmas.{run_tally}
 use Rattle.pos_counter.specs.Counters.{IsLeftDuring, RunsFrom, Stays}
+use Rattle.pos_counter.specs.HostTallies.{LeavesHostAlone}
+use Rattle.pos_counter.specs.declared.host_tally.HostTally.{HostTally}
 use Rattle.pos_counter.specs.Leaving.{Leaves, part_of}
 use Rattle.pos_disk.proofs.MomentLemmas.{weaker}
 use Rattle.pos_disk.specs.Keeps.{KeepsDisk}
@@ -38,6 +42,12 @@ use Rattle.pos_run.specs.Transcript.{LineBecomes, LinesPrint, Outcome, Transcrip
 use Rattle.pos_run.specs.WaitingLines.{CarriesOn, Cuts, CutsOff, GivesFront, Holds, IsNotHeld, IsReady, LineLeaves}
 use Rattle.pos_run.specs.WaitingLines.{RunsLines, RunsAndWrites, lines_in, text_of}
 use Rattle.pos_run.specs.declared.waiting_lines.LineProgress.{LineProgress}
+
+-- lines with one more at their end are some
+some_carried : (lines : List (List ℕ)) (line : List ℕ) → lines ++ line ∷ [] ≡ [] → ⊥
+some_carried lines line none =
+    let count : length (lines ++ line ∷ []) ≡ 0 = ap length none in
+    omega (arith, count, length-append lines (line ∷ []))
 
 -- a front of bytes was given, where they were written as far as could be
 pub wrote_front : (old new : Given) {bytes : List ℕ} (count : ℕ) (result : Result (Unit {0}) WriteFault)
@@ -88,6 +98,14 @@ arrives : {D : Type 0} (state : D → DiskState) (old : DiskState) {d e : D} (m 
 arrives {D} state old {d} m {n} {k} steps here same run any_moment =
     let P : D → Machine → Type 0 = λ x y. (r : Run m steps y) × LeavesOnly old (state x) (IsLeftDuring m steps y r) in
     subst (λ x. P x k) here (subst (λ y. P d y) same (run, any_moment))
+
+-- a host is left alone from one moment to the next, and then to another
+alone_join : {a b c : HostTally} → LeavesHostAlone a b → LeavesHostAlone b c → LeavesHostAlone a c
+alone_join first second = record {
+  given = second.given ∙ first.given;
+  done = second.done ∙ first.done;
+  not_done = second.not_done ∙ first.not_done;
+}
 
 module _ {D P : Type 0} (bound : DiskGhosts D) (peripherals : Ghosts P) where
   keeps_same : (disk : D) → KeepsDisk bound disk disk
@@ -140,22 +158,24 @@ module _ {D P : Type 0} (bound : DiskGhosts D) (peripherals : Ghosts P) where
 
   pub tells_stay : {a b c : Counter D P} {s left : Session} {lines : List (List ℕ)} {before after : Given}
       → RunsAndWrites bound peripherals a s lines before after b left → Stays peripherals b c
-      → RunsAndWrites bound peripherals a s lines before after c left
-  tells_stay {a} h stays = record {
+      → LeavesHostAlone b.tally c.tally → RunsAndWrites bound peripherals a s lines before after c left
+  tells_stay {a} h stays alone = record {
     text = h.text;
     runs = runs_stay a h.runs stays;
     written = h.written;
     kept = kept_stay a h.kept stays;
+    tally = alone_join h.tally alone;
   }
 
   pub cuts_stay : {a b c : Counter D P} {s left : Session} {line : List ℕ} {before after : Given}
       → Cuts bound peripherals a s line before after b left → Stays peripherals b c
-      → Cuts bound peripherals a s line before after c left
-  cuts_stay {a} h stays = record {
+      → LeavesHostAlone b.tally c.tally → Cuts bound peripherals a s line before after c left
+  cuts_stay {a} h stays alone = record {
     text = h.text;
     runs = runs_stay a h.runs stays;
     front = h.front;
     kept = kept_stay a h.kept stays;
+    tally = alone_join h.tally alone;
   }
 
   -- no line yet
@@ -170,6 +190,7 @@ module _ {D P : Type 0} (bound : DiskGhosts D) (peripherals : Ghosts P) where
     };
     written = Appends-nil given;
     kept = keeps_same c.totals.disk;
+    tally = alone_same refl;
   }
 
   -- a line that is held back is none
@@ -182,6 +203,7 @@ module _ {D P : Type 0} (bound : DiskGhosts D) (peripherals : Ghosts P) where
         record { steps = []; ran = stays; prints = (refl, refl, session) };
     written = h.nothing ∙ Appends-nil before;
     kept = h.kept;
+    tally = alone_same h.tally;
   }
 
   -- lines and then more
@@ -206,6 +228,7 @@ module _ {D P : Type 0} (bound : DiskGhosts D) (peripherals : Ghosts P) where
     runs = lines_join a b c first.runs second.runs;
     written = Appends-trans _ _ _ first.text second.text first.written second.written;
     kept = both_keep bound a.totals.disk b.totals.disk c.totals.disk first.kept second.kept;
+    tally = alone_join first.tally second.tally;
   }
 
   -- what a line leaves at which a write failed, where it is the only one
@@ -277,6 +300,7 @@ module _ {D P : Type 0} (bound : DiskGhosts D) (peripherals : Ghosts P) where
               written,
             );
             kept = run_keeps a b done.steps done.run;
+            tally = alone_same (run_tally bound peripherals a b done.steps done.run);
           },
           λ pends memory. long_text front back long (sym is ∙ memory),
         )
@@ -298,6 +322,7 @@ module _ {D P : Type 0} (bound : DiskGhosts D) (peripherals : Ghosts P) where
           runs = runs_lines only ran;
           written = subst (Appends before after) bytes_are written;
           kept = run_keeps a b ran.steps ran.run;
+          tally = alone_same (run_tally bound peripherals a b ran.steps ran.run);
         },
         subst (IsNotHeld far) bytes_are not_held,
       )
@@ -311,6 +336,7 @@ module _ {D P : Type 0} (bound : DiskGhosts D) (peripherals : Ghosts P) where
           runs = runs_lines only ran;
           front = subst (GivesFront before after) bytes_are front;
           kept = run_keeps a b ran.steps ran.run;
+          tally = alone_same (run_tally bound peripherals a b ran.steps ran.run);
         },
         subst (IsNotHeld far) bytes_are not_held,
       )
@@ -333,6 +359,7 @@ module _ {D P : Type 0} (bound : DiskGhosts D) (peripherals : Ghosts P) where
                 (ran, names);
             nothing = refl;
             kept = run_keeps a b ran.steps ran.run;
+            tally = run_tally bound peripherals a b ran.steps ran.run;
           }
 
   -- what a line leaves, by what became of it
@@ -346,22 +373,27 @@ module _ {D P : Type 0} (bound : DiskGhosts D) (peripherals : Ghosts P) where
   -- a line after which the counter is settled
   pub tells_settled : {a b c : Counter D P} {s left : Session} {line : List ℕ} {before after : Given} {far : Progress}
       (Then : List ℕ → Type 0) → (tells : RunsAndWrites bound peripherals a s (line ∷ []) before after b left)
-      × Then tells.text → Stays peripherals b c → far ≡ progress.Ready
+      × Then tells.text → Stays peripherals b c → LeavesHostAlone b.tally c.tally → far ≡ progress.Ready
       → (tells : RunsAndWrites bound peripherals a s (line ∷ []) before after c left) × IsReady far tells.text
-  tells_settled Then (h, then) stays ready = (tells_stay h stays, ready)
+  tells_settled Then (h, then) stays alone ready = (tells_stay h stays alone, ready)
 
   pub cuts_settled : {a b c : Counter D P} {s left : Session} {line : List ℕ} {before after : Given} {far : Progress}
       (Then : List ℕ → Type 0) → (cuts : Cuts bound peripherals a s line before after b left) × Then cuts.text
-      → Stays peripherals b c → far ≡ progress.Ready
+      → Stays peripherals b c → LeavesHostAlone b.tally c.tally → far ≡ progress.Ready
       → (cuts : Cuts bound peripherals a s line before after c left) × IsReady far cuts.text
-  cuts_settled Then (h, then) stays ready = (cuts_stay h stays, ready)
+  cuts_settled Then (h, then) stays alone ready = (cuts_stay h stays alone, ready)
 
   module _ {A : Type 0} where
     -- no line yet
     pub carries_none : ((disk : D) → OnlyNow bound disk) → (c : Counter D P) (s : Session) (texts : List (Vec ℕ A))
         (given : Given)
         → CarriesOn bound peripherals c s texts texts given given c s
-    carries_none only c s texts given = record { carried = []; split = refl; tells = tells_none only c s given }
+    carries_none only c s texts given = record {
+      carried = [];
+      split = refl;
+      tells = tells_none only c s given;
+      unforgotten = λ none some. refl;
+    }
 
     module _ (a b : Counter D P) {c : Counter D P} (s : Session) {mid : Session} (left : Session)
         {texts : List (Vec ℕ A)} (before : Given) {between : Given} (after : Given) where
@@ -375,6 +407,7 @@ module _ {D P : Type 0} (bound : DiskGhosts D) (peripherals : Ghosts P) where
         split = h.split ∙ ap (λ (ls : List (List ℕ)). h.carried ++ (ls ++ lines_in rest)) is
             ∙ sym (append_assoc h.carried (line ∷ []) (lines_in rest));
         tells = tells_join h.tells tells;
+        unforgotten = λ none some. absurd (some_carried h.carried line none);
       }
 
       -- a line that is held back
@@ -386,6 +419,7 @@ module _ {D P : Type 0} (bound : DiskGhosts D) (peripherals : Ghosts P) where
         carried = h.carried ++ [];
         split = h.split ∙ ap (λ (ls : List (List ℕ)). ls ++ lines_in left_texts) (sym (append-nil h.carried));
         tells = tells_join h.tells (tells_held held);
+        unforgotten = λ none some. held.tally ∙ h.unforgotten (sym (append-nil h.carried) ∙ none) some;
       }
 
       -- a line at which a write failed
@@ -407,11 +441,13 @@ module _ {D P : Type 0} (bound : DiskGhosts D) (peripherals : Ghosts P) where
     -- then the counter stays as it is to the machine
     pub carries_stay : {a b c : Counter D P} {s left : Session} {texts left_texts : List (Vec ℕ A)}
         {before after : Given} → CarriesOn bound peripherals a s texts left_texts before after b left
-        → Stays peripherals b c → CarriesOn bound peripherals a s texts left_texts before after c left
-    carries_stay h stays = record {
+        → Stays peripherals b c → LeavesHostAlone b.tally c.tally → left_texts ≡ []
+        → CarriesOn bound peripherals a s texts left_texts before after c left
+    carries_stay h stays alone none = record {
       carried = h.carried;
       split = h.split;
-      tells = tells_stay h.tells stays;
+      tells = tells_stay h.tells stays alone;
+      unforgotten = λ idle some. absurd (some none);
     }
 
 -- the first of some
@@ -424,3 +460,9 @@ first_of (z ∷ zs) some is rest = rw (is, rest) refl
 pub none_left : {A : Type 0} (xs : List A) → (0 < length xs → false ≡ true) → xs ≡ []
 none_left [] none = refl
 none_left (x ∷ xs) none = absurd (false≢true (none (omega arith)))
+
+-- where there is a first, some are left
+pub some_left : {A : Type 0} {xs : List A} {x : A} {ys : List A} → xs ≡ x ∷ ys → xs ≡ [] → ⊥
+some_left {ys} is none =
+    let count : suc (length ys) ≡ 0 = ap length (sym is ∙ none) in
+    omega (arith, count)

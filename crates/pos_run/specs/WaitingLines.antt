@@ -3,6 +3,7 @@ use Rattle.std.specs.Prelude.{◌≡◌, ◌≢◌, ◌++◌, ◌∷◌, [], ℕ
 use Rattle.std.specs.Prelude.{if◌then◌else◌, nat_lt, take}
 use Rattle.std.specs.declared.vec.Vec.{Vec}
 use Rattle.pos_counter.specs.Counters.{RunsFrom}
+use Rattle.pos_counter.specs.HostTallies.{LeavesHostAlone}
 use Rattle.pos_counter.specs.Hosts.{progress_in}
 use Rattle.pos_counter.specs.Leaving.{Leaves}
 use Rattle.pos_counter.specs.Steps.{Request, Response}
@@ -86,6 +87,7 @@ pub record RunsAndWrites {D P : Type 0} (bound : DiskGhosts D) (peripherals : Gh
   pub runs : RunsLines bound peripherals old session lines text new left
   pub written : Appends before after text
   pub kept : KeepsDisk bound old.totals.disk new.totals.disk
+  pub tally : LeavesHostAlone old.tally new.tally
 
 -- The machine has run by a line, and a front of its text was given.
 pub record Cuts {D P : Type 0} (bound : DiskGhosts D) (peripherals : Ghosts P) (old : Counter D P) (session : Session)
@@ -94,13 +96,15 @@ pub record Cuts {D P : Type 0} (bound : DiskGhosts D) (peripherals : Ghosts P) (
   pub runs : RunsLines bound peripherals old session (line ∷ []) text new left
   pub front : GivesFront before after text
   pub kept : KeepsDisk bound old.totals.disk new.totals.disk
+  pub tally : LeavesHostAlone old.tally new.tally
 
--- A line is held back: the machine is as it was, and nothing was given.
+-- A line is held back: the machine is as it was, nothing was given, and nothing passed between it and its host.
 pub record Holds {D P : Type 0} (bound : DiskGhosts D) (peripherals : Ghosts P) (old : Counter D P) (session : Session)
     (before after : Given) (new : Counter D P) (left : Session) : Type 0 where
   pub stays : StaysTo bound peripherals old session new left
   pub nothing : after ≡ before
   pub kept : KeepsDisk bound old.totals.disk new.totals.disk
+  pub tally : new.tally ≡ old.tally
 
 -- What a line leaves, by what becomes of it, with this of its text and of how far the host is after it.
 abbrev pub LineLeaves : {D P : Type 0} → DiskGhosts D → Ghosts P → (P → Course) → (Progress → List ℕ → Type 0)
@@ -130,13 +134,15 @@ IsLine text = (line : List ℕ) × (lines_of text ≡ line ∷ [])
 abbrev pub IsOneLine : {A : Type 0} → Vec ℕ A → Type 0
 IsOneLine text = IsLine text.items
 
--- From the front on, lines are carried out, and what they print is given, once each. The others are left.
+-- From the front on, lines are carried out, and what they print is given, once each. The others are left. A report is
+-- forgotten only after a line, or where no line is left.
 pub record CarriesOn {A D P : Type 0} (bound : DiskGhosts D) (peripherals : Ghosts P) (old : Counter D P)
     (session : Session) (texts left_texts : List (Vec ℕ A)) (before after : Given) (new : Counter D P) (left : Session)
     : Type 0 where
   pub carried : List (List ℕ)
   pub split : lines_in texts ≡ carried ++ lines_in left_texts
   pub tells : RunsAndWrites bound peripherals old session carried before after new left
+  pub unforgotten : carried ≡ [] → left_texts ≢ [] → new.tally ≡ old.tally
 
 -- From the front on, lines are carried out, and what they print is given, once each. Then one line is carried out, and
 -- a front of what it prints is given. The others are left.
@@ -152,21 +158,32 @@ pub record CutsOff {A D P : Type 0} (bound : DiskGhosts D) (peripherals : Ghosts
   pub tells : RunsAndWrites bound peripherals old session carried before given mid between
   pub cuts : Cuts bound peripherals mid between line given after new left
 
--- how lines end: if all were carried out, none is left and no order is pending; else an order waits or is with the
--- host, or the host has reported
-abbrev pub EndsWith : {A : Type 0} → LineProgress → List (Vec ℕ A) → Progress → Type 0
-EndsWith held.Printed left_texts done = (left_texts ≡ []) × (done ≡ progress.Ready)
-EndsWith held.Waits left_texts done = is_out done ≡ true
-EndsWith held.NoMemory left_texts done = done ≡ progress.Reported
+-- how lines end: if all were carried out, none is left and no order is pending; else some are left, if there were any,
+-- and an order waits or is with the host, or the host has reported
+abbrev pub EndsWith : {A : Type 0} → LineProgress → (texts left_texts : List (Vec ℕ A)) → Progress → Type 0
+EndsWith held.Printed texts left_texts done = (left_texts ≡ []) × (done ≡ progress.Ready)
+EndsWith held.Waits texts left_texts done = (left_texts ≡ [] → texts ≡ []) × (is_out done ≡ true)
+EndsWith held.NoMemory texts left_texts done = (left_texts ≢ []) × (done ≡ progress.Reported)
 
--- What lines leave, by what becomes of them.
+-- No line is carried out, and nothing has changed.
+pub record StandsStill {A D P : Type 0} (old : Counter D P) (session : Session) (texts left_texts : List (Vec ℕ A))
+    (before after : Given) (kind : LineProgress) (new : Counter D P) (left : Session) : Type 0 where
+  pub waits : kind ≡ held.Waits
+  pub counter : new ≡ old
+  pub session_stays : left ≡ session
+  pub all_left : left_texts ≡ texts
+  pub nothing : after ≡ before
+
+-- What lines leave, by what becomes of them. While an order waits or the host has it, nothing is carried out.
 abbrev pub LinesLeave : {A D P : Type 0} → DiskGhosts D → Ghosts P → (P → Course) → Counter D P → Session
     → (texts left_texts : List (Vec ℕ A)) → (before after : Given) → Result LineProgress WriteFault → Counter D P
     → Session
     → Type 0
 LinesLeave bound peripherals course_of old session texts left_texts before after (Ok kind) new left =
     CarriesOn bound peripherals old session texts left_texts before after new left
-    × EndsWith kind left_texts (progress_in course_of new)
+    × EndsWith kind texts left_texts (progress_in course_of new)
+    × (is_out (progress_in course_of old) ≡ true →
+    StandsStill old session texts left_texts before after kind new left)
 LinesLeave bound peripherals course_of old session texts left_texts before after (Err fault) new left =
     CutsOff bound peripherals old session texts left_texts before after new left
-    × (progress_in course_of new ≡ progress.Ready)
+    × (progress_in course_of new ≡ progress.Ready) × (is_out (progress_in course_of old) ≡ false)

@@ -124,6 +124,8 @@ pub record RunsOverTotals {B : Type 0} (below : FileGhosts B) (mirrors : DiskGho
   pub file : IsMirrored below.calls after
   pub cuts : (left : List Standing) → LeavesOneOf left (mirror_state totals)
       → LeavesCuts below contents left totals after (steps_of runs)
+  -- and then the file was closed
+  pub closed : below.closed after.below.file
   pub ends : result ≡ ended answer
 
 -- what running lines over what opening a totals file gave comes to

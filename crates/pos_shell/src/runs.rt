@@ -16,7 +16,7 @@ use pos_file::BlockFile;
 use pos_image::new_disk;
 use pos_profile::Profile;
 use pos_program::{
-    FileFault, FileSystem, NamedFiles, ProfileFileFault, TotalsDisk, file_is_mirrored,
+    FileFault, FileSystem, NamedFiles, ProfileFileFault, TotalsDisk, close_totals, file_is_mirrored,
 };
 use pos_streams::{Sink, Source};
 use std::alloc::Global;
@@ -165,6 +165,7 @@ fn run_over_totals<'a, R: Source, W: Sink, F: BlockFile + Drop>(
 {
     let (answer, after) = run_lines(alloc, style, profile, scripts, reader, writer, totals);
     file_is_mirrored(&after);
+    close_totals(after);
     at_end(answer)
 }
 

@@ -8,7 +8,16 @@ use Rattle.pos_store.proofs.Common.{log_over, longest, outcome_of_all, refl, seq
 use Rattle.pos_store.proofs.Common.{view_of, weaker, ℕ, ⊎_elim, ◌+◌, ◌∙◌, ◌∷◌, ◌≡◌, ◌≢◌, ◌≤◌}
 use Rattle.pos_store.proofs.DiskFileLemmas.{shows_now, still_holds, holds_more, holds_new, old_or_new_holds}
 use Rattle.pos_store.proofs.DiskFileLemmas.{leaves_files, ready_with}
+use Rattle.pos_disk.specs.State.{DiskState}
+use Rattle.pos_image.proofs.CurrentImageLemmas.{current_chosen}
+use Rattle.pos_image.proofs.PlaceLemmas.{places, same_layout as beside_layout}
+use Rattle.pos_image.specs.DiskCalls.{Keeps, KeepsBeside}
+use Rattle.pos_image.specs.Layout.{log_place, other, slot_size, start}
 use Rattle.pos_image.specs.Standing as image
+use Rattle.pos_image.specs.declared.slot.Slot.{Slot}
+use Rattle.pos_log.specs.declared.fault.LogFault.{LogFault}
+use Rattle.std.proofs.Common.{Result}
+use Rattle.pos_store.specs.Commits.{WritesIn}
 use Rattle.pos_store.specs.declared.fault.StoreFault.TheVariants as fault
 use Rattle.pos_store.specs.declared.medium.StoreMedium.TheVariants as which
 
@@ -33,6 +42,19 @@ pub short : (layout : Layout) (body : List ℕ) → length body ≤ body_limit (
 short Layout1 body fits = omega (arith, fits)
 short Layout2 body fits = omega (arith, fits)
 
+-- an image beside the current one was put into the other slot
+in_slot : (slot : Slot) {n : ℕ} {old new : DiskState} → n ≤ longest (layout_of slot)
+    → KeepsBeside (other slot) n old new → Keeps (start (other slot)) (slot_size (layout_of slot)) old new
+in_slot slot {n} fits beside =
+    let here = places slot in
+    let same = beside_layout slot in
+    record {
+      same_length = beside.same_length;
+      elsewhere = λ i outside. beside.elsewhere i (λ hit. ⊎_elim (λ inside. outside (omega arith))
+          (λ gate. let at : i ≡ start (other slot) + log_place (layout_of slot) = rw same at gate in
+          outside (omega arith)) hit);
+    }
+
 module _ {D : Type 0} {bound : Ghosts D} {log : LogView D} {files after : List File} {changes : List Change}
     (given : IsGiven bound log files after changes) where
   -- the layout of the disk before it
@@ -45,6 +67,25 @@ module _ {D : Type 0} {bound : Ghosts D} {log : LogView D} {files after : List F
   shows : bound.honest log.images.disk
       → image.ShowsImage layout log.images.body log.images.sequence (bound.state log.images.disk).reading
   shows honest = shows_now bound given.ready.images honest
+
+  -- the slot of the current image
+  slot_is : bound.honest log.images.disk → image.current_on (bound.state log.images.disk).reading ≡ log.images.slot
+  slot_is honest = (current_chosen (given.ready.images.sound honest).current).place
+
+  -- nothing was written but the record of the group, or else the slot of a new image
+  abbrev WritesGroup : D → Type 0
+  WritesGroup new = bound.honest log.images.disk → WritesIn (image.current_on (bound.state log.images.disk).reading)
+      layout log.tail changes (bound.state log.images.disk) (bound.state new)
+
+  pub wrote_record : {result : Result (Unit {0}) LogFault} {new : LogView D}
+      → fits_behind layout log.tail changes ≡ true → Appends bound log (group_spelling changes) result new
+      → WritesGroup new.images.disk
+  wrote_record fits appends honest = rw (fits, slot_is honest) (appends.rest honest)
+
+  pub wrote_image : {new : D} {n : ℕ} → fits_behind layout log.tail changes ≡ false → n ≤ longest layout
+      → (bound.honest log.images.disk
+      → KeepsBeside (other log.images.slot) n (bound.state log.images.disk) (bound.state new)) → WritesGroup new
+  wrote_image over short beside honest = rw (over, slot_is honest) (in_slot log.images.slot short (beside honest))
 
   -- bytes that stand for the files before it, or for those after it
   abbrev Around : ℕ → List ℕ → Type 0
@@ -81,9 +122,9 @@ module _ {D : Type 0} {bound : Ghosts D} {log : LogView D} {files after : List F
       → (bound.honest log.images.disk → (bytes : List ℕ)
       → CountsNow (bound.state failed) (bound.state log.images.disk).moment bytes)
       → (bound.honest log.images.disk → Rises (bound.state log.images.disk).failures (bound.state failed).failures)
-      → KeepsDisk bound log.images.disk failed
+      → WritesGroup failed → KeepsDisk bound log.images.disk failed
       → Commits bound (ready_with log files) changes (Err fault.Device) (view_of (which.Off failed now))
-  failed_commits failed now then_sequence kept is more any_moment counts device keeps = record {
+  failed_commits failed now then_sequence kept is more any_moment counts device rest keeps = record {
     answer = rw given.outcome (more, refl);
     layout = kept;
     unchanged = λ err. inl refl;
@@ -95,6 +136,7 @@ module _ {D : Type 0} {bound : Ghosts D} {log : LogView D} {files after : List F
     };
     device = λ h is. device h;
     counts = λ h. inl refl;
+    rest = rest;
     keeps = keeps;
   }
 
@@ -112,9 +154,9 @@ module _ {D : Type 0} {bound : Ghosts D} {log : LogView D} {files after : List F
         → (bound.honest log.images.disk
         → LeavesOnly (bound.state log.images.disk) (bound.state new.images.disk) (Around then_sequence))
         → (bound.honest log.images.disk → HasNotFailed (bound.state log.images.disk) (bound.state new.images.disk))
-        → KeepsDisk bound log.images.disk new.images.disk
+        → WritesGroup new.images.disk → KeepsDisk bound log.images.disk new.images.disk
         → Commits bound (ready_with log files) changes (Ok tt) (ready_with new after)
-    put_commits then_sequence kept is same tail more ready holds any_moment counts keeps =
+    put_commits then_sequence kept is same tail more ready holds any_moment counts rest keeps =
         grind (arith, kept, leaves_files)
 
     module _ (fits : fits_behind layout log.tail changes ≡ true)
@@ -139,7 +181,11 @@ module _ {D : Type 0} {bound : Ghosts D} {log : LogView D} {files after : List F
       appended_commits =
           let moments =
           λ (h : bound.honest log.images.disk). weaker _ _ _ _ (appending_stands h) (appends.any_moment h) in
-          grind (arith, put_commits log.images.sequence, kept, same_sequence, appended_holds)
+          let rest = wrote_record fits appends in
+          put_commits log.images.sequence kept (rw fits refl) same_sequence
+          (rw fits (ap (λ (l : LogView D). l.tail) appends.appended)) (λ exhausted. let over = exhausted.0 in cc)
+          appends.ready.images appended_holds moments
+          (λ h. ⊎_elim (λ is. absurd cc) (λ same. same) (appends.counts h)) rest appends.keeps
 
     module _ (over : fits_behind layout log.tail changes ≡ false) (body : List ℕ)
         (sound : IsDirectory (limits_of layout) after) (spelled : body ≡ spelling after)
@@ -148,9 +194,11 @@ module _ {D : Type 0} {bound : Ghosts D} {log : LogView D} {files after : List F
       pub renewed_holds : HasAfter
       renewed_holds honest = grind (arith, holds_new)
 
-      pub renewed_commits : ¬ (IsLast log.images.sequence)
+      pub renewed_commits : ¬ (IsLast log.images.sequence) → WritesGroup new.images.disk
           → Commits bound (ready_with log files) changes (Ok tt) (ready_with new after)
-      renewed_commits more =
+      renewed_commits more rest =
           let moments = λ (h : bound.honest log.images.disk). weaker _ _ _ _ (renewing_stands body sound spelled h)
           (renews.any_moment h) in
-          grind (arith, put_commits (log.images.sequence + 1), renewed_holds)
+          put_commits (log.images.sequence + 1) renews.layout_is (rw over refl) renews.sequence_is
+          (rw over renews.tail_is) (λ exhausted. more exhausted.1) renews.ready.images renewed_holds moments
+          (λ h. ⊎_elim (λ is. absurd cc) (λ same. same) (renews.counts h)) rest renews.keeps

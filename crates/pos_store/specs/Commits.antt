@@ -1,5 +1,6 @@
 -- What a commit answers, and what a crash during it may leave.
 use Rattle.std.specs.Prelude.{◌≡◌, ◌⊎◌, ◌≤◌, ◌+◌, ◌^◌, ℕ, Bool, true, false, nat_le, if◌then◌else◌, List, [], ◌∷◌}
+use Rattle.std.specs.Bool.{MatchBool}
 use Rattle.std.specs.Prelude.{length, Result, Ok, Err, IsOk, IsErr, IsErrOf, ⊤, MatchOption, MatchResult, Option, None}
 use Rattle.pos_disk.specs.State.{DiskState, Rises, HasNotFailed}
 use Rattle.pos_disk.specs.Keeps.{KeepsDisk}
@@ -11,10 +12,13 @@ use Rattle.pos_dir.specs.declared.change.Change.{Change}
 use Rattle.pos_dir.specs.declared.fault.DirectoryFault.{DirectoryFault}
 use Rattle.pos_dir.specs.declared.file.File.{File}
 use Rattle.pos_image.specs.declared.layout.Layout.{Layout}
-use Rattle.pos_image.specs.Layout.{log_place, slot_size}
+use Rattle.pos_image.specs.DiskCalls.{Keeps}
+use Rattle.pos_image.specs.Layout.{log_place, slot_size, start, other}
+use Rattle.pos_image.specs.Standing.{current_on}
+use Rattle.pos_image.specs.declared.slot.Slot.{Slot}
 use Rattle.pos_log.specs.Records.{end_of}
 use Rattle.pos_store.specs.Layouts.{limits_of}
-use Rattle.pos_store.specs.StoreViews.{StoreState, StoreView, Off, Ready, settled}
+use Rattle.pos_store.specs.StoreViews.{StoreState, StoreView, Off, Ready, WhenReady, settled}
 use Rattle.pos_store.specs.Standing.{Standing, Stands, Passes}
 use Rattle.pos_store.specs.declared.commits.Draft.{Draft}
 use Rattle.pos_store.specs.declared.commits.Draft.TheVariants as draft
@@ -106,6 +110,14 @@ LeavesBeforeOrAfter layout (Ready files sequence) tail changes now old new =
     Passes old new (Stands layout files sequence ∷ [])
     (settled layout now (left_by layout files sequence tail changes))
 
+-- Of a disk whose current image is in this slot nothing was written but the record of a group that fits, with the gate
+-- after it, or else the other slot of the layout.
+abbrev pub WritesIn : Slot → Layout → ℕ → List Change → DiskState → DiskState → Type 0
+WritesIn slot layout tail changes old new =
+    MatchBool (fits_behind layout tail changes)
+    (Keeps (start slot + tail) (6 + length (group_spelling changes)) old new)
+    (Keeps (start (other slot)) (slot_size layout) old new)
+
 -- What a commit does. About the disk itself, and about what a crash may leave, it says something only if the disk is
 -- honest.
 pub record Commits {D : Type 0} (bound : Ghosts D) (old : StoreView D) (changes : List Change)
@@ -120,6 +132,10 @@ pub record Commits {D : Type 0} (bound : Ghosts D) (old : StoreView D) (changes 
   pub crash : bound.honest old.disk
       → LeavesBeforeOrAfter old.layout old.state old.tail changes new.state
       (bound.state old.disk) (bound.state new.disk)
+  -- whatever it answers, nothing was written but the record of the group, or else the slot of a new image
+  pub rest : bound.honest old.disk
+      → WhenReady old.state (WritesIn (current_on (bound.state old.disk).reading) old.layout old.tail changes
+      (bound.state old.disk) (bound.state new.disk))
   -- the disk failed if its fault is answered
   pub device : bound.honest old.disk → IsErrOf result fault.Device
       → Rises (bound.state old.disk).failures (bound.state new.disk).failures

@@ -1,5 +1,5 @@
 -- Which rule of a totals disk its bytes break, and where. docs/reference/totals-file.md, "Opening and recovery".
-use Rattle.std.specs.Prelude.{◌≡◌, ◌≤◌, ◌<◌, ◌+◌, ◌++◌, ℕ, List, [], ◌∷◌, length, true, Some, ⊤}
+use Rattle.std.specs.Prelude.{◌≡◌, ◌≤◌, ◌<◌, ◌+◌, ◌++◌, ℕ, List, [], ◌∷◌, length, true, false, Some, ⊤}
 use Rattle.pos_dir.specs.Calls.{IsBody, IsGroupText}
 use Rattle.pos_dir.specs.Changes.{IsGroup, fault_of}
 use Rattle.pos_dir.specs.Files.{IsDirectory}
@@ -120,12 +120,14 @@ pub record HasBadRecord (bytes : List ℕ) (at : ℕ) (broken : Rule) : Type 0 w
   pub held : log.HoldsRecords texts (log_of bytes)
   pub stops : StopsAt (limits_of (layout_of slot)) base texts (log_begins slot) at broken
 
--- the bytes break this rule at this place
+-- The bytes break this rule at this place, and none before it: those of the slots come first, then those of the body,
+-- of the log and of its records, in their order.
 abbrev pub IsDamage : List ℕ → ℕ → Rule → Type 0
 IsDamage bytes at rule.SameSequence =
     (is_tied bytes (first_of (layout_on bytes)) ≡ true) × (at ≡ sequence_place (other (first_of (layout_on bytes))))
 IsDamage bytes at rule.LongBody =
-    (longest (layout_of (current_on bytes)) < length_at bytes (start (current_on bytes)))
+    ((is_tied bytes (first_of (layout_on bytes)) ≡ false)
+    × (longest (layout_of (current_on bytes)) < length_at bytes (start (current_on bytes))))
     × (at ≡ length_place (current_on bytes))
 IsDamage bytes at (rule.NoFiles flaw) = HasNoFiles bytes at flaw
 IsDamage bytes at rule.LongRecord = HasLongRecord bytes at

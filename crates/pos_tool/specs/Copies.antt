@@ -3,6 +3,7 @@ use Rattle.std.specs.Prelude.{◌≡◌, ◌≢◌, ◌++◌, ◌∷◌, [], ℕ
 use Rattle.std.specs.Prelude.{Result, Ok, Err, Vec}
 use Rattle.pos_file.specs.Calls.{Call, read_call}
 use Rattle.pos_file.specs.Disks.{Asks}
+use Rattle.pos_file.specs.declared.block_file.BlockFile.{Ghosts as FileGhosts}
 use Rattle.pos_file.specs.declared.file_disk.FileDisk.{FileDisk}
 use Rattle.pos_image.specs.Layout.{disk_size}
 use Rattle.pos_mirror.specs.Mirror.{Mirror}
@@ -73,16 +74,17 @@ ReadsSteady calls after (Ok bytes) = IsSteady calls after bytes
 ReadsSteady calls after (Err file.InUse) = IsUnsteady calls after
 ReadsSteady calls after (Err why) = IsUnread calls after why
 
--- what reading the bytes of an open file comes to, which wasn't asked anything yet
-abbrev pub ReadsOpened : {F : Type 0} → (F → List Call) → F → Result (List ℕ) FileFault → Type 0
-ReadsOpened {F} calls opened result = (calls opened ≡ []) × ((after : F) × ReadsSteady calls after result)
+-- what reading the bytes of an open file comes to, which wasn't asked anything yet, and was closed then
+abbrev pub ReadsOpened : {F : Type 0} → FileGhosts F → F → Result (List ℕ) FileFault → Type 0
+ReadsOpened {F} below opened result =
+    (below.calls opened ≡ []) × ((after : F) × ReadsSteady below.calls after result × below.closed after)
 
 -- what reading the totals file at a path comes to, which a till may be writing: it is opened to be read alone
-abbrev pub TakesSnapshot : {S F : Type 0} → SystemGhosts S F → (F → List Call) → S → List ℕ
+abbrev pub TakesSnapshot : {S F : Type 0} → SystemGhosts S F → FileGhosts F → S → List ℕ
     → Result (List ℕ) FileFault → Type 0
-TakesSnapshot {F = F} system calls them path result =
+TakesSnapshot {F = F} system below them path result =
     (opened : Result F FileFault) × OpensFile system ReportsUnreadable them to_read path opened
-    × AnswersFor (ReadsOpened calls) opened result
+    × AnswersFor (ReadsOpened below) opened result
 
 -- whether bytes are those of sound totals: a survey tells what they hold, or which rule they break
 abbrev pub ChecksSound : List ℕ → Result (Unit {0}) SurveyFault → Type 0
@@ -101,10 +103,10 @@ EndsUnsound path cause (Err (fault.Totals at why)) = (at.now ≡ path) × (why �
 EndsUnsound path cause other = ⊥
 
 -- a file with these bytes is made at a path where none is
-abbrev pub PutsNew : {S F : Type 0} → SystemGhosts S F → FolderGhosts S → (F → List Call) → S → List ℕ → List ℕ
+abbrev pub PutsNew : {S F : Type 0} → SystemGhosts S F → FolderGhosts S → FileGhosts F → S → List ℕ → List ℕ
     → Result Finding Fault → Type 0
-PutsNew system folder calls them path bytes result =
-    (answer : Result (Unit {0}) WholeFault) × Puts system folder calls them path bytes answer
+PutsNew system folder below them path bytes result =
+    (answer : Result (Unit {0}) WholeFault) × Puts system folder below them path bytes answer
     × EndsCopy path answer result
 
 -- what becomes of the bytes of the totals file at a path, by whether they are sound
@@ -118,53 +120,55 @@ abbrev pub CopiesBytes : List ℕ → (List ℕ → Result Finding Fault → Typ
 CopiesBytes from Copies bytes result =
     (sound : Result (Unit {0}) SurveyFault) × ChecksSound bytes sound × CopiesSound from (Copies bytes) sound result
 
--- a file with these bytes takes the place of the one at a path, which is opened and locked for this program alone
-abbrev pub PutsOver : {S F : Type 0} → SystemGhosts S F → FolderGhosts S → (F → List Call) → S → List ℕ → List ℕ
+-- a file with these bytes takes the place of the one at a path, which was opened and locked for this program alone, and
+-- was closed without a further call
+abbrev pub PutsOver : {S F : Type 0} → SystemGhosts S F → FolderGhosts S → FileGhosts F → S → List ℕ → List ℕ
     → Result (FileDisk F) FileFault → Result Finding Fault → Type 0
-PutsOver system folder calls them path bytes (Ok held) result =
-    (answer : Result (Unit {0}) WholeFault) × Replaces system folder calls them path bytes answer
-    × EndsCopy path answer result
-PutsOver system folder calls them path bytes (Err cause) result = EndsAtFile path cause result
+PutsOver system folder below them path bytes (Ok held) result =
+    (answer : Result (Unit {0}) WholeFault) × Replaces system folder below them path bytes answer
+    × EndsCopy path answer result × below.closed held.file
+PutsOver system folder below them path bytes (Err cause) result = EndsAtFile path cause result
 
 -- a file with these bytes is put at a path
-abbrev pub PutsBack : {S F : Type 0} → SystemGhosts S F → FolderGhosts S → (F → List Call) → S → List ℕ → List ℕ
+abbrev pub PutsBack : {S F : Type 0} → SystemGhosts S F → FolderGhosts S → FileGhosts F → S → List ℕ → List ℕ
     → Bool → Result Finding Fault → Type 0
-PutsBack system folder calls them path bytes false result = PutsNew system folder calls them path bytes result
-PutsBack {F = F} system folder calls them path bytes true result =
-    (held : Result (FileDisk F) FileFault) × LocksTotals system calls them false path held
-    × PutsOver system folder calls them path bytes held result
+PutsBack system folder below them path bytes false result = PutsNew system folder below them path bytes result
+PutsBack {F = F} system folder below them path bytes true result =
+    (held : Result (FileDisk F) FileFault) × LocksTotals system below them false path held
+    × PutsOver system folder below them path bytes held result
 
 -- what putting the bytes of the totals file at one path to another comes to: they are sound, and the file has them
-abbrev pub CopiesTo : {S F : Type 0} → SystemGhosts S F → FolderGhosts S → (F → List Call) → S → List ℕ → List ℕ
+abbrev pub CopiesTo : {S F : Type 0} → SystemGhosts S F → FolderGhosts S → FileGhosts F → S → List ℕ → List ℕ
     → Bool → List ℕ → Result Finding Fault → Type 0
-CopiesTo system folder calls them from to replaces bytes result =
-    CopiesBytes from (λ bytes. PutsBack system folder calls them to bytes replaces) bytes result
+CopiesTo system folder below them from to replaces bytes result =
+    CopiesBytes from (λ bytes. PutsBack system folder below them to bytes replaces) bytes result
 
 -- what becomes of the bytes of a totals file, if they could be read
-abbrev pub CopiesTaken : {S F : Type 0} → SystemGhosts S F → FolderGhosts S → (F → List Call) → S → List ℕ → List ℕ
+abbrev pub CopiesTaken : {S F : Type 0} → SystemGhosts S F → FolderGhosts S → FileGhosts F → S → List ℕ → List ℕ
     → Result (List ℕ) FileFault → Result Finding Fault → Type 0
-CopiesTaken system folder calls them from to (Ok bytes) result =
-    CopiesTo system folder calls them from to false bytes result
-CopiesTaken system folder calls them from to (Err cause) result = EndsAtFile from cause result
+CopiesTaken system folder below them from to (Ok bytes) result =
+    CopiesTo system folder below them from to false bytes result
+CopiesTaken system folder below them from to (Err cause) result = EndsAtFile from cause result
 
 -- What a backup comes to: the bytes that two readings of the source gave, one right after the other, are those of sound
 -- totals, and a new file has them.
-abbrev pub BacksUp : {S F : Type 0} → SystemGhosts S F → FolderGhosts S → (F → List Call) → S → List ℕ → List ℕ
+abbrev pub BacksUp : {S F : Type 0} → SystemGhosts S F → FolderGhosts S → FileGhosts F → S → List ℕ → List ℕ
     → Result Finding Fault → Type 0
-BacksUp system folder calls them from to result =
-    (taken : Result (List ℕ) FileFault) × TakesSnapshot system calls them from taken
-    × CopiesTaken system folder calls them from to taken result
+BacksUp system folder below them from to result =
+    (taken : Result (List ℕ) FileFault) × TakesSnapshot system below them from taken
+    × CopiesTaken system folder below them from to taken result
 
--- what becomes of totals that were only read
-abbrev pub RestoresRead : {S F : Type 0} → SystemGhosts S F → FolderGhosts S → (F → List Call) → S → List ℕ → List ℕ
+-- what becomes of totals that were only read, and whose file was closed then
+abbrev pub RestoresRead : {S F : Type 0} → SystemGhosts S F → FolderGhosts S → FileGhosts F → S → List ℕ → List ℕ
     → Bool → Result (Mirror (FileDisk F)) FileFault → Result Finding Fault → Type 0
-RestoresRead system folder calls them from to replaces (Ok totals) result = AreRead calls totals
-    × CopiesTo system folder calls them from to replaces totals.memory.present.reading result
-RestoresRead system folder calls them from to replaces (Err cause) result = EndsAtFile from cause result
+RestoresRead system folder below them from to replaces (Ok totals) result =
+    AreRead below.calls totals × below.closed totals.below.file
+    × CopiesTo system folder below them from to replaces totals.memory.present.reading result
+RestoresRead system folder below them from to replaces (Err cause) result = EndsAtFile from cause result
 
 -- What putting a copy back comes to: the bytes that were read of it are those of sound totals, and the file has them.
-abbrev pub Restores : {S F : Type 0} → SystemGhosts S F → FolderGhosts S → (F → List Call) → S → List ℕ → List ℕ
+abbrev pub Restores : {S F : Type 0} → SystemGhosts S F → FolderGhosts S → FileGhosts F → S → List ℕ → List ℕ
     → Bool → Result Finding Fault → Type 0
-Restores {F = F} system folder calls them from to replaces result =
-    (opened : Result (Mirror (FileDisk F)) FileFault) × ReadsTotals system calls them from opened
-    × RestoresRead system folder calls them from to replaces opened result
+Restores {F = F} system folder below them from to replaces result =
+    (opened : Result (Mirror (FileDisk F)) FileFault) × ReadsTotals system below them from opened
+    × RestoresRead system folder below them from to replaces opened result

@@ -23,11 +23,12 @@ SurveysBytes path bytes (Ok survey) = Describes bytes survey
 SurveysBytes path bytes (Err (fault.Totals at cause)) = (at.now ≡ path) × Breaks bytes cause
 SurveysBytes path bytes (Err other) = ⊥
 
--- what a survey tells of totals that were only read, or why they can't be read
+-- what a survey tells of totals that were only read, and whose file was closed then; or why they can't be read
 abbrev pub SurveysOpened : {B : Type 0} → FileGhosts B → List ℕ → Result (Mirror (FileDisk B)) FileFault
     → Result Survey Fault → Type 0
 SurveysOpened below path (Ok totals) result =
-    AreRead below.calls totals × SurveysBytes path totals.memory.present.reading result
+    AreRead below.calls totals × below.closed totals.below.file
+    × SurveysBytes path totals.memory.present.reading result
 SurveysOpened below path (Err cause) result = EndsAtFile path cause result
 
 -- what a survey tells of the totals file at a path

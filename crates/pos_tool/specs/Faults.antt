@@ -93,6 +93,7 @@ status (fault.File path cause) = file_status cause
 status (fault.Totals path cause) = survey_status cause
 status (fault.Whole path cause) = whole_status cause
 status (fault.Load path cause) = load_status cause
+status (fault.Taken path) = 4
 status (fault.NoFile path name) = 1
 status (fault.NoCode code) = 1
 status (fault.NoShell shell) = 1

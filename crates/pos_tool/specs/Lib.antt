@@ -4,6 +4,7 @@ pub mod Differences
 pub mod Faults
 pub mod Lines
 pub mod NewFiles
+pub mod NewTotals
 pub mod Names
 pub mod Program
 pub mod Scripts

@@ -6,7 +6,6 @@ use Rattle.pos_disk.specs.declared.device.Disk.{Ghosts as DiskGhosts}
 use Rattle.pos_file.specs.declared.block_file.BlockFile.{Ghosts as FileGhosts}
 use Rattle.pos_file.specs.declared.file_disk.FileDisk.{FileDisk}
 use Rattle.pos_mirror.specs.Mirror.{Mirror}
-use Rattle.pos_program.specs.Formats.{FormatsFile}
 use Rattle.pos_program.specs.Migrations.{MigratesFile}
 use Rattle.pos_program.specs.declared.choice_fault.ChoiceFault.{ChoiceFault}
 use Rattle.pos_program.specs.declared.choice_fault.ChoiceFault.TheVariants as unread
@@ -18,9 +17,10 @@ use Rattle.pos_tool.specs.Copies.{BacksUp, Restores}
 use Rattle.pos_tool.specs.Differences.{WritesDifference}
 use Rattle.pos_tool.specs.Faults.{status_of}
 use Rattle.pos_tool.specs.NewFiles.{Loads, Salvages}
+use Rattle.pos_tool.specs.NewTotals.{Creates}
 use Rattle.pos_shell.specs.Outputs.{Output, Streams}
 use Rattle.pos_tool.specs.Scripts.{EndsRun}
-use Rattle.pos_tool.specs.Surveys.{EndsAtFile, Prints, PrintsFile}
+use Rattle.pos_tool.specs.Surveys.{EndsAt, Prints, PrintsFile}
 use Rattle.pos_tool.specs.Trials.{EndsTest}
 use Rattle.pos_report.specs.Texts.{explained}
 use Rattle.pos_report.specs.declared.codes.Code.{Code}
@@ -35,7 +35,6 @@ use Rattle.pos_tool.specs.declared.folder.Folder.{Ghosts as FolderGhosts}
 use Rattle.pos_tool.specs.declared.program.Pages.{Pages}
 use Rattle.pos_tool.specs.declared.program.Terminals.{Terminals}
 use Rattle.pos_report.specs.declared.question.Finding.{Finding}
-use Rattle.pos_report.specs.declared.question.Finding.TheVariants.{Good}
 
 -- what some of these codes mean is printed, by a word for their number or name; nothing if it is none's
 abbrev pub Explains : List Code → List ℕ → Output → Output → Result Finding Fault → Type 0
@@ -45,21 +44,10 @@ Explains known word old new (Err fault.NoMemory) = new ≡ old
 Explains known word old new result =
     (flat_map (explained word) known ≢ []) × Prints (flat_map (explained word) known) old new result
 
--- what is answered of the totals file at a path, to the program
-abbrev pub EndsAt : List ℕ → Result (Unit {0}) FileFault → Result Finding Fault → Type 0
-EndsAt path (Ok u) result = result ≡ Ok Good
-EndsAt path (Err cause) result = EndsAtFile path cause result
-
--- it formats the totals in the file at a path
-abbrev pub EndsFormat : {F B : Type 0} → Ghosts F B → FileGhosts B → F → List ℕ → Result Finding Fault → Type 0
-EndsFormat files below them path result =
-    (answer : Result (Unit {0}) FileFault) × FormatsFile files below.calls them path answer
-    × EndsAt path answer result
-
 -- it moves the totals in the file at a path to layout 2
 abbrev pub EndsMove : {F B : Type 0} → Ghosts F B → FileGhosts B → F → List ℕ → Result Finding Fault → Type 0
 EndsMove files below them path result =
-    (answer : Result (Unit {0}) FileFault) × MigratesFile files below.calls them path answer
+    (answer : Result (Unit {0}) FileFault) × MigratesFile files below them path answer
     × EndsAt path answer result
 
 -- the page of a shell, if there is one
@@ -92,23 +80,23 @@ Does files below mirrors memories them system folder under it pages terminals (E
 Does files below mirrors memories them system folder under it pages terminals (Ask file question) old new result =
     PrintsFile files below them file.now question old new result
 Does files below mirrors memories them system folder under it pages terminals (Create file) old new result =
-    EndsFormat files below them file.now result × (new ≡ old)
+    Creates system under it file.now result × (new ≡ old)
 Does files below mirrors memories them system folder under it pages terminals (Migrate file) old new result =
     EndsMove files below them file.now result × (new ≡ old)
 Does files below mirrors memories them system folder under it pages terminals (Backup file to) old new result =
-    BacksUp system folder under.calls it file.now to.now result × (new ≡ old)
+    BacksUp system folder under it file.now to.now result × (new ≡ old)
 Does files below mirrors memories them system folder under it pages terminals (Restore from file replaces) old new
-    result = Restores system folder under.calls it from.now file.now replaces result × (new ≡ old)
+    result = Restores system folder under it from.now file.now replaces result × (new ≡ old)
 Does files below mirrors memories them system folder under it pages terminals (Diff file other) old new result =
     WritesDifference files below them file.now other.now old new result
 Does files below mirrors memories them system folder under it pages terminals (Load text file) old new result =
-    Loads system folder under.calls it text.now file.now result × (new ≡ old)
+    Loads system folder under it text.now file.now result × (new ≡ old)
 Does files below mirrors memories them system folder under it pages terminals (Salvage file to) old new result =
-    Salvages system folder under.calls it file.now to.now old new result
+    Salvages system folder under it file.now to.now old new result
 Does files below mirrors memories them system folder under it pages terminals (Run scripts profile totals json) old new
     result = ⊥
 Does files below mirrors memories them system folder under it pages terminals (Test paths profile junit colour) old new
-    result = EndsTest files them system folder under.calls it memories terminals.output paths.items profile junit colour
+    result = EndsTest files them system folder under it memories terminals.output paths.items profile junit colour
     old new result
 Does files below mirrors memories them system folder under it pages terminals (Completions shell) old new result =
     Completes pages shell.now old new result

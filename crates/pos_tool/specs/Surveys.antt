@@ -45,12 +45,18 @@ abbrev pub EndsAtFile : {A : Type 0} → List ℕ → FileFault → Result A Fau
 EndsAtFile path cause (Err (fault.File at why)) = (at.now ≡ path) × (why ≡ cause)
 EndsAtFile path cause other = ⊥
 
--- what is answered of totals that were only read: of the bytes that the one read of their file gave; or why they can't
--- be read
+-- what is answered of the totals file at a path, to the program
+abbrev pub EndsAt : List ℕ → Result (Unit {0}) FileFault → Result Finding Fault → Type 0
+EndsAt path (Ok u) result = result ≡ Ok Good
+EndsAt path (Err cause) result = EndsAtFile path cause result
+
+-- what is answered of totals that were only read: of the bytes that the one read of their file gave, which was closed
+-- then; or why they can't be read
 abbrev pub AnswersOpened : {B : Type 0} → FileGhosts B → List ℕ → Question → Result (Mirror (FileDisk B)) FileFault
     → Result (Finding × List ℕ) Fault → Type 0
 AnswersOpened below path question (Ok totals) result =
-    AreRead below.calls totals × AnswersBytes path question totals.memory.present.reading result
+    AreRead below.calls totals × below.closed totals.below.file
+    × AnswersBytes path question totals.memory.present.reading result
 AnswersOpened below path question (Err cause) result = EndsAtFile path cause result
 
 -- what is answered of the totals file at a path

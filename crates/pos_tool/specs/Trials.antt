@@ -4,7 +4,7 @@ use Rattle.std.specs.Prelude.{codes, if◌then◌else◌}
 use Rattle.std.specs.Borrow.{Bor}
 use Rattle.pos_disk.specs.Memory.{Memory}
 use Rattle.pos_disk.specs.declared.device.Disk.{Ghosts as DiskGhosts}
-use Rattle.pos_file.specs.Calls.{Call}
+use Rattle.pos_file.specs.declared.block_file.BlockFile.{Ghosts as FileGhosts}
 use Rattle.pos_profile.specs.Entries.{Contents}
 use Rattle.pos_program.specs.declared.file_system.FileSystem.{Ghosts as SystemGhosts}
 use Rattle.pos_program.specs.declared.named_files.NamedFiles.{Ghosts}
@@ -58,39 +58,39 @@ EndsReport path finding (Err cause) (Err (fault.Whole at why)) = (at.now ≡ pat
 EndsReport path finding (Err cause) other = ⊥
 
 -- the report of scripts that were tried is made at a path, whole, or there was no memory
-abbrev pub MakesReport : {S G : Type 0} → SystemGhosts S G → FolderGhosts S → (G → List Call) → S → List ℕ → List Trial
+abbrev pub MakesReport : {S G : Type 0} → SystemGhosts S G → FolderGhosts S → FileGhosts G → S → List ℕ → List Trial
     → Finding → Result Finding Fault → Type 0
-MakesReport system folder calls it path trials finding result = (result ≡ Err fault.NoMemory)
-    ⊎ ((answer : Result (Unit {0}) WholeFault) × PutsReport system folder calls it path (junit trials) answer
+MakesReport system folder under it path trials finding result = (result ≡ Err fault.NoMemory)
+    ⊎ ((answer : Result (Unit {0}) WholeFault) × PutsReport system folder under it path (junit trials) answer
     × EndsReport path finding answer result)
 
 -- what follows what was printed: the report, if a path for one is given
-abbrev pub Reports : {S G : Type 0} → SystemGhosts S G → FolderGhosts S → (G → List Call) → S → Option (Bor (List ℕ))
+abbrev pub Reports : {S G : Type 0} → SystemGhosts S G → FolderGhosts S → FileGhosts G → S → Option (Bor (List ℕ))
     → List Trial → Result Finding Fault → Result Finding Fault → Type 0
-Reports system folder calls it (Some path) trials (Ok finding) result =
-    MakesReport system folder calls it path.now trials finding result
-Reports system folder calls it path trials printed result = result ≡ printed
+Reports system folder under it (Some path) trials (Ok finding) result =
+    MakesReport system folder under it path.now trials finding result
+Reports system folder under it path trials printed result = result ≡ printed
 
 -- what trying scripts found is printed, and then a report of it is made
-abbrev pub WritesTrials : {S G : Type 0} → SystemGhosts S G → FolderGhosts S → (G → List Call) → S → Bool
+abbrev pub WritesTrials : {S G : Type 0} → SystemGhosts S G → FolderGhosts S → FileGhosts G → S → Bool
     → Option (Bor (List ℕ)) → List Trial → Output → Output → Result Finding Fault → Type 0
-WritesTrials system folder calls it is_painted report trials old new result = (printed : Result Finding Fault)
-    × PrintsTrials is_painted trials old new printed × Reports system folder calls it report trials printed result
+WritesTrials system folder under it is_painted report trials old new result = (printed : Result Finding Fault)
+    × PrintsTrials is_painted trials old new printed × Reports system folder under it report trials printed result
 
 -- likewise, or a script can't be tried, and nothing is printed
-abbrev pub PrintsTried : {S G : Type 0} → SystemGhosts S G → FolderGhosts S → (G → List Call) → S → Bool
+abbrev pub PrintsTried : {S G : Type 0} → SystemGhosts S G → FolderGhosts S → FileGhosts G → S → Bool
     → Option (Bor (List ℕ)) → Result (List Trial) TrialFault → Output → Output → Result Finding Fault → Type 0
-PrintsTried system folder calls it is_painted report (Ok trials) old new result =
-    WritesTrials system folder calls it is_painted report trials old new result
-PrintsTried system folder calls it is_painted report (Err why) old new result =
+PrintsTried system folder under it is_painted report (Ok trials) old new result =
+    WritesTrials system folder under it is_painted report trials old new result
+PrintsTried system folder under it is_painted report (Err why) old new result =
     (result ≡ Err (fault.Trial why)) × (new ≡ old)
 
 -- the scripts at paths are tried over a profile, and what was found is told
-abbrev pub TestsOver : {S G : Type 0} → SystemGhosts S G → FolderGhosts S → (G → List Call) → S → DiskGhosts Memory
+abbrev pub TestsOver : {S G : Type 0} → SystemGhosts S G → FolderGhosts S → FileGhosts G → S → DiskGhosts Memory
     → Contents → List (List ℕ) → Bool → Option (Bor (List ℕ)) → Output → Output → Result Finding Fault → Type 0
-TestsOver system folder calls it memories contents paths is_painted report old new result =
+TestsOver system folder under it memories contents paths is_painted report old new result =
     (tried : Result (List Trial) TrialFault) × TriesEach system it memories contents paths tried
-    × PrintsTried system folder calls it is_painted report tried old new result
+    × PrintsTried system folder under it is_painted report tried old new result
 
 -- likewise, of what finding the scripts gave
 abbrev pub TestsFound : (List (List ℕ) → Type 0) → Result (List (List ℕ)) Fault → Output → Output
@@ -99,12 +99,12 @@ TestsFound Tests (Ok found) old new result = Tests found
 TestsFound Tests (Err why) old new result = (result ≡ Err why) × (new ≡ old)
 
 -- the scripts that paths stand for are tried over a profile, and what was found is told
-abbrev pub TestsProfiled : {S G : Type 0} → SystemGhosts S G → FolderGhosts S → (G → List Call) → S
+abbrev pub TestsProfiled : {S G : Type 0} → SystemGhosts S G → FolderGhosts S → FileGhosts G → S
     → DiskGhosts Memory → Contents → List (Bor (List ℕ)) → Bool → Option (Bor (List ℕ)) → Output → Output
     → Result Finding Fault → Type 0
-TestsProfiled system folder calls it memories contents paths is_painted report old new result =
+TestsProfiled system folder under it memories contents paths is_painted report old new result =
     (found : Result (List (List ℕ)) Fault) × FindsScripts folder it paths found
-    × TestsFound (λ all. TestsOver system folder calls it memories contents all is_painted report old new result) found
+    × TestsFound (λ all. TestsOver system folder under it memories contents all is_painted report old new result) found
     old new result
 
 -- likewise, over what reading the profile gave
@@ -113,12 +113,12 @@ TestsGiven Tests (Ok contents) old new result = Tests contents
 TestsGiven Tests (Err why) old new result = (result ≡ Err (fault.Run why)) × (new ≡ old)
 
 -- likewise, over the profile at a path, or the built-in one
-abbrev pub TestsPainted : {F B S G : Type 0} → Ghosts F B → F → SystemGhosts S G → FolderGhosts S → (G → List Call)
+abbrev pub TestsPainted : {F B S G : Type 0} → Ghosts F B → F → SystemGhosts S G → FolderGhosts S → FileGhosts G
     → S → DiskGhosts Memory → List (Bor (List ℕ)) → Option (Bor (List ℕ)) → Bool → Option (Bor (List ℕ)) → Output
     → Output → Result Finding Fault → Type 0
-TestsPainted files them system folder calls it memories paths profile is_painted report old new result =
+TestsPainted files them system folder under it memories paths profile is_painted report old new result =
     (given : Result Contents RunFault) × GivesProfile files them profile given
-    × TestsGiven (λ contents. TestsProfiled system folder calls it memories contents paths is_painted report old new
+    × TestsGiven (λ contents. TestsProfiled system folder under it memories contents paths is_painted report old new
     result) given old new result
 
 -- likewise, by whether what is printed is painted
@@ -127,10 +127,10 @@ TestsChosen Tests (Ok is_painted) old new result = Tests is_painted
 TestsChosen Tests (Err why) old new result = (result ≡ Err why) × (new ≡ old)
 
 -- What trying the scripts that paths stand for comes to.
-abbrev pub EndsTest : {F B S G : Type 0} → Ghosts F B → F → SystemGhosts S G → FolderGhosts S → (G → List Call) → S
+abbrev pub EndsTest : {F B S G : Type 0} → Ghosts F B → F → SystemGhosts S G → FolderGhosts S → FileGhosts G → S
     → DiskGhosts Memory → Bool → List (Bor (List ℕ)) → Option (Bor (List ℕ)) → Option (Bor (List ℕ))
     → Option (Bor (List ℕ)) → Output → Output → Result Finding Fault → Type 0
-EndsTest files them system folder calls it memories is_terminal paths profile report colour old new result =
+EndsTest files them system folder under it memories is_terminal paths profile report colour old new result =
     (chosen : Result Bool Fault) × Chooses colour is_terminal chosen
-    × TestsChosen (λ is_painted. TestsPainted files them system folder calls it memories paths profile is_painted report
+    × TestsChosen (λ is_painted. TestsPainted files them system folder under it memories paths profile is_painted report
     old new result) chosen old new result

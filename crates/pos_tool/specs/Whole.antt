@@ -9,6 +9,7 @@ use Rattle.std.specs.declared.io.Error.{Error}
 use Rattle.std.specs.declared.io.ErrorKind.TheVariants.{NotFound}
 use Rattle.pos_file.specs.Calls.{Call, is_whole, sync_call, write_call}
 use Rattle.pos_file.specs.Disks.{Asks}
+use Rattle.pos_file.specs.declared.block_file.BlockFile.{Ghosts as FileGhosts}
 use Rattle.pos_program.specs.Answers.{HasToBe, Passes}
 use Rattle.pos_program.specs.TotalsDisks.{SyncsFolder}
 use Rattle.pos_program.specs.declared.file_fault.FileFault.{FileFault}
@@ -30,19 +31,19 @@ WritesWhole calls old new bytes (Err why) = (why ≡ fault.Unwritten)
     × Asks calls old new (write_call 0 bytes moved ∷ []))
     ⊎ Asks calls old new (write_call 0 bytes (Some (length bytes)) ∷ sync_call None ∷ []))
 
--- what making a new file with these bytes comes to, if this is what opening it answered
-abbrev pub WritesOpened : {F : Type 0} → (F → List Call) → Result F Error → List ℕ → Result (Unit {0}) WholeFault
+-- what making a new file with these bytes comes to, if this is what opening it answered; it was closed then
+abbrev pub WritesOpened : {F : Type 0} → FileGhosts F → Result F Error → List ℕ → Result (Unit {0}) WholeFault
     → Type 0
-WritesOpened {F} calls (Ok file) bytes result =
-    (calls file ≡ []) × ((after : F) × WritesWhole calls file after bytes result)
-WritesOpened calls (Err cause) bytes result = result ≡ Err (fault.Part cause)
+WritesOpened {F} below (Ok file) bytes result =
+    (below.calls file ≡ []) × ((after : F) × WritesWhole below.calls file after bytes result × below.closed after)
+WritesOpened below (Err cause) bytes result = result ≡ Err (fault.Part cause)
 
 -- what making a new file with these bytes comes to, which may be private
-abbrev pub WritesPart : {S F : Type 0} → SystemGhosts S F → (F → List Call) → S → List ℕ → Bool → List ℕ
+abbrev pub WritesPart : {S F : Type 0} → SystemGhosts S F → FileGhosts F → S → List ℕ → Bool → List ℕ
     → Result (Unit {0}) WholeFault → Type 0
-WritesPart {F = F} system calls them part is_private bytes result =
+WritesPart {F = F} system below them part is_private bytes result =
     (opened : Result F Error) × system.opens them to_make is_private part opened
-    × WritesOpened calls opened bytes result
+    × WritesOpened below opened bytes result
 
 -- what making the name of a file stay comes to
 abbrev pub Settles : {S F : Type 0} → SystemGhosts S F → S → List ℕ → Result (Unit {0}) WholeFault → Type 0
@@ -76,11 +77,11 @@ Continues Writes next result =
 
 -- What making a file with these bytes at a path comes to: want of memory; or they are written to a private file beside
 -- it, and that gets its name.
-abbrev pub Puts : {S F : Type 0} → SystemGhosts S F → FolderGhosts S → (F → List Call) → S → List ℕ → List ℕ
+abbrev pub Puts : {S F : Type 0} → SystemGhosts S F → FolderGhosts S → FileGhosts F → S → List ℕ → List ℕ
     → Result (Unit {0}) WholeFault → Type 0
-Puts system folder calls them path bytes result =
+Puts system folder below them path bytes result =
     (result ≡ Err fault.NoMemory)
-    ⊎ Continues (WritesPart system calls them (path ++ codes ".part") true bytes)
+    ⊎ Continues (WritesPart system below them (path ++ codes ".part") true bytes)
     (LinksPart system folder them (path ++ codes ".part") path result) result
 
 -- what putting a whole file in the place of what has its name comes to
@@ -113,11 +114,11 @@ ChecksReport system them path result =
 
 -- What making a report with these bytes at a path comes to, in place of one that may be there: want of memory; or its
 -- name may be taken, it is written to the file beside it, and that gets its name.
-abbrev pub PutsReport : {S F : Type 0} → SystemGhosts S F → FolderGhosts S → (F → List Call) → S → List ℕ → List ℕ
+abbrev pub PutsReport : {S F : Type 0} → SystemGhosts S F → FolderGhosts S → FileGhosts F → S → List ℕ → List ℕ
     → Result (Unit {0}) WholeFault → Type 0
-PutsReport system folder calls them path bytes result = (result ≡ Err fault.NoMemory)
+PutsReport system folder below them path bytes result = (result ≡ Err fault.NoMemory)
     ⊎ Continues (ChecksFile folder them path) (Continues (ChecksReport system them path)
-    (Continues (WritesPart system calls them (path ++ codes ".part") false bytes)
+    (Continues (WritesPart system below them (path ++ codes ".part") false bytes)
     (RenamesPart system folder them (path ++ codes ".part") path result) result) result) result
 
 -- what keeping a file under a second name, and putting another one in its place, with its owner and mode, comes to
@@ -131,15 +132,15 @@ SetsAside system folder them part path old result =
 -- What putting a file with these bytes in place of the one at a path comes to: its name may be taken, they are written
 -- to a private file beside it, the old file gets a second name and the new one its owner and mode, and the new one
 -- takes its place.
-abbrev pub PutsInstead : {S F : Type 0} → SystemGhosts S F → FolderGhosts S → (F → List Call) → S → List ℕ → List ℕ
+abbrev pub PutsInstead : {S F : Type 0} → SystemGhosts S F → FolderGhosts S → FileGhosts F → S → List ℕ → List ℕ
     → List ℕ → List ℕ → Result (Unit {0}) WholeFault → Type 0
-PutsInstead system folder calls them part path old bytes result = Continues (ChecksFile folder them path)
-    (Continues (WritesPart system calls them part true bytes) (SetsAside system folder them part path old result)
+PutsInstead system folder below them part path old bytes result = Continues (ChecksFile folder them path)
+    (Continues (WritesPart system below them part true bytes) (SetsAside system folder them part path old result)
     result) result
 
 -- likewise, with the names that the files beside it get; or there is no memory for them
-abbrev pub Replaces : {S F : Type 0} → SystemGhosts S F → FolderGhosts S → (F → List Call) → S → List ℕ → List ℕ
+abbrev pub Replaces : {S F : Type 0} → SystemGhosts S F → FolderGhosts S → FileGhosts F → S → List ℕ → List ℕ
     → Result (Unit {0}) WholeFault → Type 0
-Replaces system folder calls them path bytes result =
+Replaces system folder below them path bytes result =
     (result ≡ Err fault.NoMemory)
-    ⊎ PutsInstead system folder calls them (path ++ codes ".part") path (path ++ codes ".old") bytes result
+    ⊎ PutsInstead system folder below them (path ++ codes ".part") path (path ++ codes ".old") bytes result

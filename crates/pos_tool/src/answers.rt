@@ -7,7 +7,7 @@ ghost use Rattle.pos_tool.specs.Surveys.{AnswersBytes, AnswersFile, Prints, Prin
 
 use crate::fault::Fault;
 use pos_file::BlockFile;
-use pos_program::NamedFiles;
+use pos_program::{NamedFiles, close_totals};
 use pos_report::{AnswerFault, Finding, Question, answer, difference_text};
 use pos_shell::write_text;
 use pos_streams::Sink;
@@ -55,7 +55,11 @@ fn answer_file<'a, F: NamedFiles>(
         (finding_and_text result) }
 {
     match files.read_disk(path) {
-        Ok(totals) => answer_bytes(alloc, path, question, totals.bytes()),
+        Ok(totals) => {
+            let found = answer_bytes(alloc, path, question, totals.bytes());
+            close_totals(totals);
+            found
+        }
         Err(cause) => Err(Fault::File { path, cause }),
     }
 }
@@ -119,7 +123,11 @@ fn survey_file<'a, F: NamedFiles>(
     ensures { SurveysFile F.NamedFiles ⟦<F::File as BlockFile>⟧ files.now path.entry.now result }
 {
     match files.read_disk(path) {
-        Ok(totals) => survey_bytes(alloc, path, totals.bytes()),
+        Ok(totals) => {
+            let told = survey_bytes(alloc, path, totals.bytes());
+            close_totals(totals);
+            told
+        }
         Err(cause) => Err(Fault::File { path, cause }),
     }
 }

@@ -31,7 +31,7 @@ pub enum Task<'a> {
         /// The question.
         question: Question<'a>,
     },
-    /// `create FILE`: to format the totals in a file.
+    /// `create FILE`: to make totals without files, over no byte but 0.
     Create {
         /// The totals file.
         file: &'a str,

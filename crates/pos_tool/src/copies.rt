@@ -14,7 +14,7 @@ use crate::fault::Fault;
 use crate::folder::Folder;
 use crate::whole::{WholeFault, put_new, replace};
 use pos_file::BlockFile;
-use pos_program::{FileFault, FileSystem, lock_totals, open_file, read_totals};
+use pos_program::{FileFault, FileSystem, close_totals, lock_totals, open_file, read_totals};
 use pos_report::{Finding, LoadFault, Salvaged, load_totals, salvage_totals};
 use pos_streams::Sink;
 use pos_survey::{Survey, SurveyFault};
@@ -76,14 +76,20 @@ fn read_steady<F: BlockFile>(alloc: Global, file: &mut F) -> Result<Vec<u8>, Fil
 
 // The bytes of the totals file at a path, which a till may be writing.
 fn take_snapshot<S: FileSystem + AllocGlobal>(system: &S, path: &str) -> Result<Vec<u8>, FileFault>
-    ensures { TakesSnapshot S.FileSystem ⟦<S::File as BlockFile>⟧.calls system.now path.now (bytes_of result) }
+    ensures { TakesSnapshot S.FileSystem ⟦<S::File as BlockFile>⟧ system.now path.now (bytes_of result) }
 {
     let mut file = open_file(system, path)?;
-    read_steady(system.alloc(), &mut file)
+    let bytes = read_steady(system.alloc(), &mut file);
+    file.close();
+    bytes
 }
 
-// Whether bytes are those of sound totals.
-fn check_sound(alloc: Global, bytes: &[u8]) -> Result<(), SurveyFault>
+/// Checks that bytes are those of sound totals.
+///
+/// # Errors
+///
+/// Those of [`Survey::of`].
+pub(crate) fn check_sound(alloc: Global, bytes: &[u8]) -> Result<(), SurveyFault>
     ensures { ChecksSound bytes.now result }
 {
     match Survey::of(alloc, bytes) {
@@ -110,14 +116,18 @@ fn put<'a, S: FileSystem + Folder + AllocGlobal>(
     bytes: &[u8],
     replaces: bool,
 ) -> Result<Finding, Fault<'a>>
-    ensures { PutsBack S.FileSystem S.Folder ⟦<S::File as BlockFile>⟧.calls system.now path.entry.now bytes.now replaces
+    ensures { PutsBack S.FileSystem S.Folder ⟦<S::File as BlockFile>⟧ system.now path.entry.now bytes.now replaces
         result }
 {
     if !replaces {
         return at_copy(path, put_new(system.alloc(), system, path, bytes));
     }
     match lock_totals(system, path, false) {
-        Ok(_held) => at_copy(path, replace(system.alloc(), system, path, bytes)),
+        Ok(held) => {
+            let answer = replace(system.alloc(), system, path, bytes);
+            held.close();
+            at_copy(path, answer)
+        }
         Err(cause) => Err(Fault::File { path, cause }),
     }
 }
@@ -130,7 +140,7 @@ fn copy_bytes<'a, S: FileSystem + Folder + AllocGlobal>(
     to: &'a str,
     replaces: bool,
 ) -> Result<Finding, Fault<'a>>
-    ensures { CopiesTo S.FileSystem S.Folder ⟦<S::File as BlockFile>⟧.calls system.now from.entry.now to.entry.now
+    ensures { CopiesTo S.FileSystem S.Folder ⟦<S::File as BlockFile>⟧ system.now from.entry.now to.entry.now
         replaces bytes.now result }
 {
     match check_sound(system.alloc(), bytes) {
@@ -151,7 +161,7 @@ pub(crate) fn back_up<'a, S: FileSystem + Folder + AllocGlobal>(
     from: &'a str,
     to: &'a str,
 ) -> Result<Finding, Fault<'a>>
-    ensures { BacksUp S.FileSystem S.Folder ⟦<S::File as BlockFile>⟧.calls system.now from.entry.now to.entry.now
+    ensures { BacksUp S.FileSystem S.Folder ⟦<S::File as BlockFile>⟧ system.now from.entry.now to.entry.now
         result }
 {
     match take_snapshot(system, from) {
@@ -173,11 +183,15 @@ pub(crate) fn restore<'a, S: FileSystem + Folder + AllocGlobal>(
     to: &'a str,
     replaces: bool,
 ) -> Result<Finding, Fault<'a>>
-    ensures { Restores S.FileSystem S.Folder ⟦<S::File as BlockFile>⟧.calls system.now from.entry.now to.entry.now
+    ensures { Restores S.FileSystem S.Folder ⟦<S::File as BlockFile>⟧ system.now from.entry.now to.entry.now
         replaces result }
 {
     match read_totals(system, from) {
-        Ok(totals) => copy_bytes(system, from, totals.bytes(), to, replaces),
+        Ok(totals) => {
+            let answer = copy_bytes(system, from, totals.bytes(), to, replaces);
+            close_totals(totals);
+            answer
+        }
         Err(cause) => Err(Fault::File { path: from, cause }),
     }
 }
@@ -199,7 +213,7 @@ fn put_salvaged<'a, S: FileSystem + Folder + AllocGlobal, W: Sink>(
     made: &Salvaged,
     to: &'a str,
 ) -> Result<Finding, Fault<'a>>
-    ensures { PutsSalvaged S.FileSystem S.Folder ⟦<S::File as BlockFile>⟧.calls system.now to.entry.now made.now
+    ensures { PutsSalvaged S.FileSystem S.Folder ⟦<S::File as BlockFile>⟧ system.now to.entry.now made.now
         (output_of W.Sink writer.old) (output_of W.Sink writer.new) result }
 {
     match put_new(system.alloc(), system, to, &made.bytes) {
@@ -216,7 +230,7 @@ fn salvage_bytes<'a, S: FileSystem + Folder + AllocGlobal, W: Sink>(
     bytes: &[u8],
     to: &'a str,
 ) -> Result<Finding, Fault<'a>>
-    ensures { SalvagesBytes S.FileSystem S.Folder ⟦<S::File as BlockFile>⟧.calls system.now from.entry.now to.entry.now
+    ensures { SalvagesBytes S.FileSystem S.Folder ⟦<S::File as BlockFile>⟧ system.now from.entry.now to.entry.now
         bytes.now (output_of W.Sink writer.old) (output_of W.Sink writer.new) result }
 {
     match make_salvage(system.alloc(), bytes) {
@@ -238,11 +252,15 @@ pub(crate) fn salvage<'a, S: FileSystem + Folder + AllocGlobal, W: Sink>(
     from: &'a str,
     to: &'a str,
 ) -> Result<Finding, Fault<'a>>
-    ensures { Salvages S.FileSystem S.Folder ⟦<S::File as BlockFile>⟧.calls system.now from.entry.now to.entry.now
+    ensures { Salvages S.FileSystem S.Folder ⟦<S::File as BlockFile>⟧ system.now from.entry.now to.entry.now
         (output_of W.Sink writer.old) (output_of W.Sink writer.new) result }
 {
     match read_totals(system, from) {
-        Ok(totals) => salvage_bytes(system, writer, from, totals.bytes(), to),
+        Ok(totals) => {
+            let answer = salvage_bytes(system, writer, from, totals.bytes(), to);
+            close_totals(totals);
+            answer
+        }
         Err(cause) => Err(Fault::File { path: from, cause }),
     }
 }
@@ -264,7 +282,7 @@ fn load_text<'a, S: FileSystem + Folder + AllocGlobal>(
     text: &[u8],
     to: &'a str,
 ) -> Result<Finding, Fault<'a>>
-    ensures { LoadsText S.FileSystem S.Folder ⟦<S::File as BlockFile>⟧.calls system.now from.entry.now to.entry.now
+    ensures { LoadsText S.FileSystem S.Folder ⟦<S::File as BlockFile>⟧ system.now from.entry.now to.entry.now
         text.now result }
 {
     match make_load(system.alloc(), text) {
@@ -291,7 +309,7 @@ pub(crate) fn load<'a, S: FileSystem + Folder + AllocGlobal>(
     from: &'a str,
     to: &'a str,
 ) -> Result<Finding, Fault<'a>>
-    ensures { Loads S.FileSystem S.Folder ⟦<S::File as BlockFile>⟧.calls system.now from.entry.now to.entry.now result }
+    ensures { Loads S.FileSystem S.Folder ⟦<S::File as BlockFile>⟧ system.now from.entry.now to.entry.now result }
 {
     match system.read(from) {
         Ok(text) => load_text(system, from, &text, to),

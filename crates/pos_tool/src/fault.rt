@@ -2,6 +2,7 @@
 ghost use Rattle.std.specs.Prelude.{◌≡◌};
 ghost use Rattle.pos_tool.specs.Faults.{file_status, finding_status, load_status, profile_status, run_status, status};
 ghost use Rattle.pos_tool.specs.Faults.{status_of, survey_status, told_status, trial_status, whole_status, words_status};
+ghost use Rattle.pos_tool.specs.Surveys.{EndsAt};
 
 use crate::whole::WholeFault;
 use pos_program::{FileFault, FirstParagraph, OneLine, ProfileFileFault};
@@ -47,6 +48,11 @@ pub enum Fault<'a> {
         path: &'a str,
         /// Why.
         cause: WholeFault,
+    },
+    /// A file that is to be made is there, and has other bytes than 0, but no whole totals.
+    Taken {
+        /// Its path, as its word stood.
+        path: &'a str,
     },
     /// A text isn't loaded.
     Load {
@@ -217,6 +223,7 @@ impl Fault<'_> {
             Fault::Totals { cause, .. } => survey_status(cause),
             Fault::Whole { cause, .. } => whole_status(cause),
             Fault::Load { cause, .. } => load_status(cause),
+            Fault::Taken { .. } => 4,
             Fault::NoFile { .. } | Fault::NoCode { .. } | Fault::NoShell { .. } => 1,
             Fault::NoScripts { .. } => 1,
             Fault::NoColour { .. } => 3,
@@ -239,6 +246,19 @@ pub fn status_of(outcome: &Result<Finding, Fault<'_>>) -> u8
     }
 }
 
+/// Returns what is answered of the totals file at a path, to the program.
+pub(crate) fn at_file<'a>(
+    path: &'a str,
+    answer: Result<(), FileFault>,
+) -> Result<Finding, Fault<'a>>
+    ensures { EndsAt path.entry.now answer result }
+{
+    match answer {
+        Ok(()) => Ok(Finding::Good),
+        Err(cause) => Err(Fault::File { path, cause }),
+    }
+}
+
 // What to do about a fault of the words.
 fn hint_of_words(fault: &WordsFault) -> &'static str {
     match fault {
@@ -255,13 +275,13 @@ fn hint_of_file(cause: &FileFault) -> &'static str {
             "check the path, and who may read and write it"
         }
         FileFault::Unformatted => {
-            "if it had totals, copy it first; `kijolvar create FILE` makes new ones in it"
+            "is it the right file? If it had totals, restore a copy of it, or salvage what is left"
         }
         FileFault::Short => "if it was cut off, restore a copy of it, or salvage what is left",
         FileFault::Damaged | FileFault::Broken { .. } => {
             "`kijolvar check FILE` names the rule that is broken"
         }
-        FileFault::Formatted => "`kijolvar files FILE` prints what it holds",
+        FileFault::Formatted => "`kijolvar check FILE` says if it is sound",
         FileFault::Moved => "nothing is left to do",
         FileFault::NotSynced =>
             "check the device; if it can't be written, copy the file from it first",
@@ -341,6 +361,9 @@ impl Fault<'_> {
             Fault::File { cause, .. } => hint_of_file(cause),
             Fault::Totals { cause, .. } => hint_of_totals(cause),
             Fault::Whole { cause, .. } => hint_of_whole(cause),
+            Fault::Taken { .. } => {
+                "if `create` was cut off, remove FILE and make it again; if its totals were cut off, salvage them"
+            }
             Fault::Load { .. } => "`kijolvar dump FILE` prints such a text",
             Fault::NoFile { .. } => "`kijolvar files FILE` lists the files in it",
             Fault::NoCode { .. } => "give a number as 106, or a name as E_ILLEGAL",
@@ -421,6 +444,10 @@ impl Fault<'_> {
                 write!(line, "{path}: {cause}")
             }
             Fault::Whole { path, cause } => write!(line, "{path}: {cause}"),
+            Fault::Taken { path } => write!(
+                line,
+                "{path}: is there, and has no whole totals: choose another name"
+            ),
             Fault::Load { path, cause } => write!(line, "{path}: {cause}"),
             Fault::NoFile { path, name } => write!(line, "{path}: no file has the name {name}"),
             Fault::NoCode { code } => write!(line, "no code is {code}"),

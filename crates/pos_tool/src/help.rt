@@ -60,7 +60,7 @@ statuses:
   0  done; of check: sound
   1  no totals, or in them no such file; no such code or shell; of diff and test: they differ
   2  damaged totals
-  3  the words ask for nothing
+  3  the command line is wrong
   4  a file can't be read or written, is there already, is in use, or is no profile
   5  the output can't be written
   6  no memory

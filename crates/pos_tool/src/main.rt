@@ -14,6 +14,7 @@ mod help;
 mod line;
 mod meter;
 mod names;
+mod new_totals;
 mod pages;
 mod program;
 mod scripts;

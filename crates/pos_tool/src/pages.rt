@@ -181,7 +181,7 @@ No totals, or in them no such file; no such code or shell; of diff and test: the
 Damaged totals.
 .TP
 .B 3
-The words ask for nothing.
+The command line is wrong.
 .TP
 .B 4
 A file can't be read or written, is there already, or is in use, or is no profile.

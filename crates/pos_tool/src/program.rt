@@ -3,20 +3,19 @@ ghost use Rattle.std.specs.Prelude.{◌≡◌, map};
 ghost use Rattle.std.specs.Process.{exit_status};
 ghost use Rattle.pos_tool.specs.Faults.{status_of};
 ghost use Rattle.pos_shell.specs.Outputs.{output_of, streams_of};
-ghost use Rattle.pos_tool.specs.Program.{Completes, DoesAsAsked, DoesTask, EndsAt, Explains, Performs};
+ghost use Rattle.pos_tool.specs.Program.{Completes, DoesAsAsked, DoesTask, Explains, Performs};
 ghost use Rattle.pos_tool.specs.Program.{are_both, fault_of_unread};
 
 use crate::answers::{print, print_file, write_difference};
 use crate::commands::{Task, choice};
 use crate::copies::{back_up, load, restore, salvage};
-use crate::fault::{Fault, WordsFault, status_of};
+use crate::fault::{Fault, WordsFault, at_file, status_of};
 use crate::folder::Folder;
+use crate::new_totals::create;
 use crate::scripts::{run_paths, try_paths};
 use pos_disk::{Disk, MemDisk};
 use pos_file::BlockFile;
-use pos_program::{
-    ChoiceFault, FileFault, FileSystem, NamedFiles, TotalsDisk, format_file, migrate_file,
-};
+use pos_program::{ChoiceFault, FileSystem, NamedFiles, TotalsDisk, migrate_file};
 use pos_report::{Code, Finding, explained};
 use pos_shell::ProgressReport;
 use pos_streams::{Sink, Source};
@@ -84,16 +83,6 @@ fn explain<'a, W: Sink>(
     print(writer, &text)
 }
 
-// What is answered of the totals file at a path, to the program.
-fn at_file<'a>(path: &'a str, answer: Result<(), FileFault>) -> Result<Finding, Fault<'a>>
-    ensures { EndsAt path.entry.now answer result }
-{
-    match answer {
-        Ok(()) => Ok(Finding::Good),
-        Err(cause) => Err(Fault::File { path, cause }),
-    }
-}
-
 // Prints what completes the words of a shell.
 fn complete<'a, W: Sink>(
     writer: &mut W,
@@ -142,7 +131,7 @@ fn perform_task<
         Task::Version => print(writer, pages.version_line.as_bytes()),
         Task::Explain { code } => explain(alloc, writer, pages.codes, code),
         Task::Ask { file, question } => print_file(alloc, files, writer, file, question),
-        Task::Create { file } => at_file(file, format_file(files, file)),
+        Task::Create { file } => create(system, file),
         Task::Migrate { file } => at_file(file, migrate_file(alloc, files, file)),
         Task::Backup { file, to } => back_up(system, file, to),
         Task::Restore {

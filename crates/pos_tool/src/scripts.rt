@@ -191,7 +191,7 @@ fn make_report<'a, S: FileSystem + Folder + AllocGlobal>(
     trials: &[Trial<'_>],
     finding: Finding,
 ) -> Result<Finding, Fault<'a>>
-    ensures { MakesReport S.FileSystem S.Folder ⟦<S::File as BlockFile>⟧.calls system.now path.entry.now trials.now
+    ensures { MakesReport S.FileSystem S.Folder ⟦<S::File as BlockFile>⟧ system.now path.entry.now trials.now
         finding result }
 {
     let Ok(text) = junit(system.alloc(), trials) else {
@@ -212,7 +212,7 @@ fn write_trials<'a, S: FileSystem + Folder + AllocGlobal, W: Sink>(
     is_painted: bool,
     report: Option<&'a str>,
 ) -> Result<Finding, Fault<'a>>
-    ensures { WritesTrials S.FileSystem S.Folder ⟦<S::File as BlockFile>⟧.calls system.now is_painted report.entry
+    ensures { WritesTrials S.FileSystem S.Folder ⟦<S::File as BlockFile>⟧ system.now is_painted report.entry
         trials.now (output_of W.Sink writer.old) (output_of W.Sink writer.new) result }
 {
     let finding = match print_trials(system.alloc(), writer, trials, is_painted) {
@@ -235,7 +235,7 @@ fn try_over<'a, S: FileSystem + Folder + AllocGlobal, W: Sink, P: ProgressReport
     is_painted: bool,
     report: Option<&'a str>,
 ) -> Result<Finding, Fault<'a>>
-    ensures { TestsOver S.FileSystem S.Folder ⟦<S::File as BlockFile>⟧.calls system.now ⟦<MemDisk as Disk>⟧ profile.now
+    ensures { TestsOver S.FileSystem S.Folder ⟦<S::File as BlockFile>⟧ system.now ⟦<MemDisk as Disk>⟧ profile.now
         (texts paths.now) is_painted report.entry (output_of W.Sink writer.old) (output_of W.Sink writer.new) result }
 {
     let tried = try_scripts(system.alloc(), system, profile, paths, progress);
@@ -256,7 +256,7 @@ fn try_profiled<'a, S: FileSystem + Folder + AllocGlobal, W: Sink, P: ProgressRe
     is_painted: bool,
     report: Option<&'a str>,
 ) -> Result<Finding, Fault<'a>>
-    ensures { TestsProfiled S.FileSystem S.Folder ⟦<S::File as BlockFile>⟧.calls system.now ⟦<MemDisk as Disk>⟧
+    ensures { TestsProfiled S.FileSystem S.Folder ⟦<S::File as BlockFile>⟧ system.now ⟦<MemDisk as Disk>⟧
         profile.now paths.entry.now is_painted report.entry (output_of W.Sink writer.old)
         (output_of W.Sink writer.new) result }
 {
@@ -279,7 +279,7 @@ fn try_painted<'a, F: NamedFiles, S: FileSystem + Folder + AllocGlobal, W: Sink,
     is_painted: bool,
     report: Option<&'a str>,
 ) -> Result<Finding, Fault<'a>>
-    ensures { TestsPainted F.NamedFiles files.now S.FileSystem S.Folder ⟦<S::File as BlockFile>⟧.calls system.now
+    ensures { TestsPainted F.NamedFiles files.now S.FileSystem S.Folder ⟦<S::File as BlockFile>⟧ system.now
         ⟦<MemDisk as Disk>⟧ paths.entry.now profile.entry is_painted report.entry (output_of W.Sink writer.old)
         (output_of W.Sink writer.new) result }
 {
@@ -317,7 +317,7 @@ pub(crate) fn try_paths<
     report: Option<&'a str>,
     colour: Option<&'a str>,
 ) -> Result<Finding, Fault<'a>>
-    ensures { EndsTest F.NamedFiles files.now S.FileSystem S.Folder ⟦<S::File as BlockFile>⟧.calls system.now
+    ensures { EndsTest F.NamedFiles files.now S.FileSystem S.Folder ⟦<S::File as BlockFile>⟧ system.now
         ⟦<MemDisk as Disk>⟧ is_terminal paths.entry.now profile.entry report.entry colour.entry
         (output_of W.Sink writer.old) (output_of W.Sink writer.new) result }
 {

@@ -96,13 +96,15 @@ fn write_part<S: FileSystem + Folder>(
     is_private: bool,
     bytes: &[u8],
 ) -> Result<(), WholeFault>
-    ensures { WritesPart S.FileSystem ⟦<S::File as BlockFile>⟧.calls system.now part.now is_private bytes.now result }
+    ensures { WritesPart S.FileSystem ⟦<S::File as BlockFile>⟧ system.now part.now is_private bytes.now result }
 {
     let mut file = match system.open(&options(), is_private, part) {
         Ok(file) => file,
         Err(cause) => return Err(WholeFault::Part(cause)),
     };
-    match write_whole(&mut file, bytes) {
+    let written = write_whole(&mut file, bytes);
+    file.close();
+    match written {
         Ok(()) => Ok(()),
         Err(fault) => {
             let _ = system.remove(part);
@@ -147,7 +149,7 @@ pub(crate) fn put_new<S: FileSystem + Folder>(
     path: &str,
     bytes: &[u8],
 ) -> Result<(), WholeFault>
-    ensures { Puts S.FileSystem S.Folder ⟦<S::File as BlockFile>⟧.calls system.now path.now bytes.now result }
+    ensures { Puts S.FileSystem S.Folder ⟦<S::File as BlockFile>⟧ system.now path.now bytes.now result }
 {
     let part = beside(alloc, path, ".part")?;
     write_part(system, &part, true, bytes)?;
@@ -208,7 +210,7 @@ pub(crate) fn put_report<S: FileSystem + Folder>(
     path: &str,
     bytes: &[u8],
 ) -> Result<(), WholeFault>
-    ensures { PutsReport S.FileSystem S.Folder ⟦<S::File as BlockFile>⟧.calls system.now path.now bytes.now result }
+    ensures { PutsReport S.FileSystem S.Folder ⟦<S::File as BlockFile>⟧ system.now path.now bytes.now result }
 {
     let part = beside(alloc, path, ".part")?;
     check_file(system, path)?;
@@ -254,7 +256,7 @@ fn put_instead<S: FileSystem + Folder>(
     old: &str,
     bytes: &[u8],
 ) -> Result<(), WholeFault>
-    ensures { PutsInstead S.FileSystem S.Folder ⟦<S::File as BlockFile>⟧.calls system.now part.now path.now old.now
+    ensures { PutsInstead S.FileSystem S.Folder ⟦<S::File as BlockFile>⟧ system.now part.now path.now old.now
         bytes.now result }
 {
     check_file(system, path)?;
@@ -274,7 +276,7 @@ pub(crate) fn replace<S: FileSystem + Folder>(
     path: &str,
     bytes: &[u8],
 ) -> Result<(), WholeFault>
-    ensures { Replaces S.FileSystem S.Folder ⟦<S::File as BlockFile>⟧.calls system.now path.now bytes.now result }
+    ensures { Replaces S.FileSystem S.Folder ⟦<S::File as BlockFile>⟧ system.now path.now bytes.now result }
 {
     let part = beside(alloc, path, ".part")?;
     let old = beside(alloc, path, ".old")?;

@@ -14,5 +14,6 @@ asks width {sent} h press ready =
       paper = sym (append-nil press.paper);
       pulses = sym (append-nil press.pulses);
       asked = refl;
+      unknown = refl;
       ready = record { line = ready.line; not_bold = ready.not_bold; whole = ready.whole };
     })

@@ -69,6 +69,7 @@ kicks_alone width kick sent h press ready =
       paper = sym (append-nil press.paper);
       pulses = refl;
       asked = sym (append-nil press.asked);
+      unknown = refl;
       ready = record { line = ready.line; not_bold = ready.not_bold; whole = ready.whole };
     })
 
@@ -82,6 +83,7 @@ prints_alone width sent h press ready =
       paper = prints.paper;
       pulses = prints.pulses ∙ sym (append-nil press.pulses);
       asked = prints.asked ∙ sym (append-nil press.asked);
+      unknown = prints.unknown;
       ready = prints.ready;
     }
 

@@ -20,11 +20,13 @@ abbrev pub IsOpen : Bool → Press → Type 0
 IsOpen true press = press.begun ≡ []
 IsOpen false press = IsReady press
 
--- From the old printer, ready and with nothing else done, so much was printed, pulsed and asked.
+-- From the old printer, ready and with nothing else done, so much was printed, pulsed and asked, and each command is
+-- known.
 pub record Does (items : List OnPaper) (kicks : List Pulse) (questions : List (List ℕ)) (old new : Press) : Type 0 where
   pub paper : new.paper ≡ old.paper ++ items
   pub pulses : new.pulses ≡ old.pulses ++ kicks
   pub asked : new.asked ≡ old.asked ++ questions
+  pub unknown : new.unknown ≡ old.unknown
   pub ready : IsReady new
 
 -- any printer of this width does so with the bytes

@@ -12,7 +12,7 @@ use Rattle.pos_sims.specs.Additions.{pieces_ordered}
 use Rattle.pos_escpos.specs.DisplayBytes.{can_become, characters_of, make_of}
 use Rattle.pos_escpos.specs.PrinterBytes.{all_fit, all_on_paper}
 use Rattle.pos_escpos.specs.PrinterCommands.{kick_pulse}
-use Rattle.pos_escpos.specs.Screens.{IsShowing, Screen, screen_after}
+use Rattle.pos_escpos.specs.Screens.{IsShowing, Screen, ShowsOnly, screen_after}
 use Rattle.pos_wire.specs.declared.frames.JobEnd.{JobEnd}
 use Rattle.pos_wire.specs.declared.settings.WireSettings.{WireSettings}
 use Rattle.pos_wire.specs.Frames.{AllDo, asked_first, asked_last}
@@ -27,10 +27,10 @@ abbrev pub IsScreen : Bool → Display → Screen → Type 0
 IsScreen true old screen = screen.begun ≡ []
 IsScreen false old screen = IsShowing (characters_of old.cells) screen
 
--- any display of this size shows the new cells after the bytes
+-- any display of this size shows the new cells after the bytes, and knows each command
 abbrev pub AllShow : WireSettings → Bool → Display → Display → List ℕ → Type 0
 AllShow settings is_new old new bytes = (screen : Screen) → IsScreen is_new old screen →
-    IsShowing (characters_of new.cells) (screen_after (make_of (protocol_of settings) new) screen bytes)
+    ShowsOnly screen (characters_of new.cells) (screen_after (make_of (protocol_of settings) new) screen bytes)
 
 -- What a device does with the bytes, where the order takes the old mechanism to the new one: a drawer's printer gives
 -- one pulse, a printer prints the items that the order adds, and a display shows the new cells.

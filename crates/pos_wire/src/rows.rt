@@ -4,7 +4,7 @@ ghost use Rattle.pos_service.specs.declared.kind.Kind.TheVariants as kind;
 ghost use Rattle.pos_service.specs.declared.order.Reply.TheVariants as reply;
 ghost use Rattle.pos_service.specs.Peripherals.{Performs, order_fits};
 ghost use Rattle.pos_escpos.specs.DisplayBytes.{can_become, characters_of, make_of};
-ghost use Rattle.pos_escpos.specs.Screens.{IsShowing, Screen, screen_after};
+ghost use Rattle.pos_escpos.specs.Screens.{IsShowing, Screen, ShowsOnly, screen_after};
 ghost use Rattle.pos_wire.specs.declared.wire_fault.WireFault.TheVariants as fault;
 ghost use Rattle.pos_wire.specs.Orders.{AllShow, known_before, lit};
 
@@ -49,7 +49,8 @@ fn changed_rows(
     after: &DisplayCells,
 ) -> Result<Vec<u8>, WireFault>
     ensures shows { IfOk result (λ bytes. (screen : Screen) → IsShowing (characters_of before.now.cells) screen →
-        IsShowing (characters_of after.now.cells) (screen_after (make_of protocol after.now) screen bytes.items)) }
+        ShowsOnly screen (characters_of after.now.cells)
+        (screen_after (make_of protocol after.now) screen bytes.items)) }
     ensures no_bytes { IsErrOf result fault.NoBytes → can_become before.now after.now ≡ false }
     ensures settings { IsErrOf result fault.BadSettings → ⊥ }
 {

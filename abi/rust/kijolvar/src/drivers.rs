@@ -1,8 +1,8 @@
 //! Drivers: they move bytes between a till and the devices on its ports. A driver of your own implements [`Driver`].
 use crate::devices::Order;
 use crate::error::{Cause, Error};
-use crate::links::{is_over, Link, Told};
-use crate::ports::{end_after, Cable, Port, Ready, ETIMEDOUT, MOST_READS, QUICKLY};
+use crate::links::{is_over, Kind, Link, Told};
+use crate::ports::{end_after, uptime, Cable, Port, Ready, ETIMEDOUT, MOST_READS, QUICKLY};
 use crate::standard::Category;
 use crate::till::Inner;
 use crate::wire::{Asked, PrinterReply, WireSettings};
@@ -355,11 +355,12 @@ fn check(till: &mut DriverTill<'_>, device: &str, settings: &WireSettings, link:
 /// A receipt printer with ESC/POS.
 ///
 /// An order counts as done once the printer has acknowledged it (GS ( H). If an order failed and the next one is the
-/// same, as a retry is, only the lines and cuts that the printer hasn't acknowledged are sent again.
+/// same, as a retry is, it goes on with the first line or cut that the printer hasn't acknowledged.
 ///
-/// That holds, too, if the control was released or closed meanwhile. The application gives a failed order up by
-/// clearOutput, or by the reply ER_CLEAR. Once it is given up, the same order is a new one, and is printed from its
-/// beginning. If the printer prints the old one all the same, that counts in
+/// That holds, too, if the control was released or closed meanwhile, and for output that waits (AsyncMode) though other
+/// orders were printed at once meanwhile. The application gives a failed order up by clearOutput, or by the reply
+/// ER_CLEAR. Once it is given up, the same order is a new one, and is printed from its beginning. If the printer prints
+/// the old one all the same, that counts in
 /// [`DriverState::late_orders`](crate::DriverState::late_orders). Once a line has opened a control
 /// ([`Till::carry_out`](crate::Till::carry_out)), the failed orders of all printers of the till are given up together.
 ///
@@ -455,7 +456,8 @@ impl Driver for EscPosPrinter {
     }
 
     fn carry_out(&mut self, till: &mut DriverTill<'_>, _: &Order) -> bool {
-        lock(&self.link).carry_out(till, &self.settings, true)
+        let kind = if till.inner.drives.is_working { Kind::Waiting } else { Kind::Paper };
+        lock(&self.link).carry_out(till, &self.settings, kind)
     }
 
     fn happened(&mut self, till: &mut DriverTill<'_>) -> Vec<String> {
@@ -533,7 +535,7 @@ impl Driver for EscPosDrawer {
     fn carry_out(&mut self, till: &mut DriverTill<'_>, _: &Order) -> bool {
         let mut link = lock(&self.link);
         let statuses = link.statuses;
-        let is_done = link.carry_out(till, &self.settings, false);
+        let is_done = link.carry_out(till, &self.settings, Kind::Pulse);
         if is_done {
             self.kicked = Some((Instant::now(), statuses));
         }
@@ -651,7 +653,8 @@ pub struct SerialDisplay {
     settings: WireSettings,
     timeout: Duration,
     is_new: bool,
-    ordered_at: Option<Instant>,
+    /// How long the machine had run at the last order.
+    ordered_at: Duration,
 }
 
 impl SerialDisplay {
@@ -659,12 +662,12 @@ impl SerialDisplay {
     pub fn open(port: impl Into<Port>, settings: DisplaySettings) -> SerialDisplay {
         let wire = WireSettings { protocol: settings.protocol as u32, ..WireSettings::default() };
         let port = Reopened::new(Cable::without_flow(port.into()), settings.pause);
-        SerialDisplay { port, settings: wire, timeout: settings.timeout, is_new: true, ordered_at: None }
+        SerialDisplay { port, settings: wire, timeout: settings.timeout, is_new: true, ordered_at: Duration::ZERO }
     }
 
     /// The bytes of the order that is out. One without any is sent as a new one.
     fn bytes_of_order(&mut self, till: &mut DriverTill<'_>) -> Result<Vec<u8>, Error> {
-        let is_new = self.is_new || is_over(self.ordered_at, REST);
+        let is_new = self.is_new || uptime().saturating_sub(self.ordered_at) >= REST;
         let bytes = till.order_bytes(&self.settings, is_new, OrderEnd::Nothing)?;
         if bytes.is_empty() {
             return till.order_bytes(&self.settings, true, OrderEnd::Nothing);
@@ -720,7 +723,7 @@ impl Driver for SerialDisplay {
         self.port.read();
         let Ok(bytes) = self.bytes_of_order(till) else { return false };
         let is_done = self.port.cable.is_open() && self.shows(till, &bytes, end);
-        (self.is_new, self.ordered_at) = (!is_done, Some(Instant::now()));
+        (self.is_new, self.ordered_at) = (!is_done, uptime());
         if !is_done && self.port.cable.is_open() {
             // The display has a part of it.
             self.port.cable.fault = Some(ETIMEDOUT);
@@ -1042,7 +1045,7 @@ mod tests {
         let listener = TcpListener::bind("127.0.0.1:0").unwrap();
         let port = format!("tcp:{}", listener.local_addr().unwrap());
         let mut display = SerialDisplay::open(port, DisplaySettings::default());
-        (display.is_new, display.ordered_at) = (false, Instant::now().checked_sub(rest));
+        (display.is_new, display.ordered_at) = (false, uptime().saturating_sub(rest));
         let till = Till::open(BUILT_PROFILE, Totals::Memory).unwrap();
         till.drive("p1", display).unwrap();
         let (mut stream, _) = listener.accept().unwrap();

@@ -82,6 +82,8 @@ pub(crate) struct Drives {
     fault: Option<Cause>,
     has_served: bool,
     is_handing_in: bool,
+    /// Whether orders are of output that waits: the line is one that works on it.
+    pub(crate) is_working: bool,
 }
 
 /// What a line does to drivers, once it is done.

@@ -1,6 +1,7 @@
 //! Why a call failed.
 use crate::questions::ProfileMistake;
-use crate::standard::{ExtendedCode, ResultCode};
+use crate::reasons::reason_of;
+use crate::standard::{Category, ExtendedCode, ResultCode};
 use std::fmt;
 use std::io;
 
@@ -9,6 +10,7 @@ use std::io;
 pub struct Error {
     call: &'static str,
     cause: Cause,
+    reason: Option<&'static str>,
 }
 
 /// Why a call failed.
@@ -38,8 +40,8 @@ pub enum Cause {
     /// The first call that fails has the reason, if there is one. A process that was forked from the till's never
     /// writes the file.
     DiskFailed(Option<io::Error>),
-    /// The system refused the file of the totals: `NotFound` if it is missing, `AlreadyExists` if it is there already,
-    /// `WouldBlock` if another till has it.
+    /// The system refused the file of the totals: `NotFound` if it is missing, or its folder or /proc to create it;
+    /// `AlreadyExists` if it is there already, `WouldBlock` if another till has it.
     System(io::Error),
     /// The library is of another version than this crate.
     WrongVersion,
@@ -94,11 +96,26 @@ impl Cause {
             other => other,
         }
     }
+
+    /// The name of the code by which a control refused a call.
+    fn code_name(&self) -> Option<&'static str> {
+        match self {
+            Cause::Code(code) => Some(code.name()),
+            Cause::Extended(code) => Some(code.name()),
+            _ => None,
+        }
+    }
 }
 
 impl Error {
     pub(crate) fn new(call: &'static str, cause: Cause) -> Error {
-        Error { call, cause }
+        Error { call, cause, reason: None }
+    }
+
+    /// A control of this category has refused a line of this verb.
+    pub(crate) fn refused(call: &'static str, cause: Cause, category: Category, verb: &str) -> Error {
+        let reason = cause.code_name().and_then(|code| reason_of(category, verb, call, code));
+        Error { call, cause, reason }
     }
 
     /// Returns the call that failed, by the standard's name (`"openDrawer"`, `"DeviceEnabled"`) or this crate's
@@ -114,6 +131,12 @@ impl Error {
     /// Returns why it failed.
     pub fn cause(&self) -> &Cause {
         &self.cause
+    }
+
+    /// Returns why the control refused this call, in English, if the code means more of it than of any other call. It
+    /// is what the error displays then.
+    pub fn reason(&self) -> Option<&'static str> {
+        self.reason
     }
 
     /// Returns the result code of the standard, if the control refused the call.
@@ -182,7 +205,13 @@ impl fmt::Display for Cause {
 
 impl fmt::Display for Error {
     fn fmt(&self, out: &mut fmt::Formatter<'_>) -> fmt::Result {
-        write!(out, "{}: {}", self.call, self.cause)
+        match (&self.cause, self.reason) {
+            (Cause::Code(code), Some(reason)) => write!(out, "{}: {}: {reason}", self.call, code.name()),
+            (Cause::Extended(code), Some(reason)) => {
+                write!(out, "{}: E_EXTENDED, {}: {reason}", self.call, code.name())
+            }
+            (cause, _) => write!(out, "{}: {cause}", self.call),
+        }
     }
 }
 

@@ -27,8 +27,10 @@
 //! # Errors
 //!
 //! Each call returns a [`Result`] with an [`Error`], which names the call, and has the result code and the extended
-//! code of the standard if the control refused it. A call that fails changed nothing, unless its [`Cause`] says
-//! otherwise.
+//! code of the standard if the control refused it, and often the reason. A call that fails changed nothing, unless its
+//! [`Cause`] says otherwise. Any call may fail for [`Cause::BadArgument`] (as a device's name with a space),
+//! [`Cause::NoMemory`], [`Cause::NoAnswer`], [`Cause::DiskFailed`] or [`Cause::BadAnswer`]. Its documentation lists the
+//! others.
 //!
 //! ```
 //! use kijolvar::standard::{ExtendedCode, PrinterStation, ResultCode};
@@ -39,6 +41,7 @@
 //! let error = printer.print_normal(PrinterStation::Receipt, "Bread\n").unwrap_err();
 //! assert_eq!((error.call(), error.code()), ("printNormal", Some(ResultCode::Extended)));
 //! assert_eq!(error.extended(), Some(ExtendedCode::PrinterCoverOpen));
+//! assert_eq!(error.to_string(), "printNormal: E_EXTENDED, EPTR_COVER_OPEN: The cover is open.");
 //! # Ok::<(), kijolvar::Error>(())
 //! ```
 //!
@@ -71,6 +74,8 @@ mod ports;
 mod property;
 mod questions;
 mod raw;
+#[rustfmt::skip]
+mod reasons;
 mod stack;
 #[rustfmt::skip]
 pub mod standard;

@@ -19,6 +19,11 @@ impl Line {
         Line { text: verb.to_string(), is_sound: true }
     }
 
+    /// The verb by which the line begins.
+    pub(crate) fn verb(&self) -> &str {
+        self.text.split(' ').next().unwrap_or("")
+    }
+
     /// Adds a word of the language.
     pub(crate) fn word(mut self, word: &str) -> Line {
         self.text.push(' ');

@@ -1,7 +1,7 @@
 //! The line to a receipt printer: what is sent, what has been acknowledged, and what the printer says of itself. The
 //! bytes of orders and the meaning of replies are the library's.
 use crate::drivers::{DriverTill, OrderEnd};
-use crate::ports::{end_after, Cable, Lost, Port, ETIMEDOUT, MOST_READS, QUICKLY};
+use crate::ports::{end_after, uptime, Cable, Lost, Port, ETIMEDOUT, MOST_READS, QUICKLY};
 use crate::wire::{Asked, PrinterReply, WireSettings};
 use std::collections::VecDeque;
 use std::time::{Duration, Instant, SystemTime, UNIX_EPOCH};
@@ -111,13 +111,22 @@ struct Parcel {
     place: u64,
 }
 
+/// What an order is: one for the paper, output that waits (AsyncMode), or a pulse for the drawer. Others may come before
+/// output that has failed is tried again, so that its next order is one of its own.
+#[derive(Debug, Clone, Copy, PartialEq, Eq)]
+pub(crate) enum Kind {
+    Paper,
+    Waiting,
+    Pulse,
+}
+
 /// What is waited for.
 #[derive(Debug, Clone, Copy, PartialEq, Eq)]
 enum Until {
     /// The order is printed or torn, or the printer has stopped.
-    Printed,
+    Printed(Kind),
     /// The order is printed, or nothing of it is due any more, or the printer has stopped.
-    Settled,
+    Settled(Kind),
     /// Nothing is due, or the printer has stopped.
     NoneDue,
     /// The printer that was silent has answered something, or it has stopped.
@@ -145,9 +154,8 @@ pub(crate) struct Link {
     /// The devices on it, each with its settings. Its replies are read by the first one that isn't detached.
     pub(crate) devices: Vec<(String, WireSettings)>,
     is_begun: bool,
-    /// The order that failed last, or is out; and a pulse for the drawer.
-    paper: Option<Job>,
-    pulse: Option<Job>,
+    /// The order of each kind that failed last, or is out.
+    orders: [Option<Job>; 3],
     jobs: u64,
     /// When the order that is out began, and when it ends unless the printer acknowledges something before.
     began_at: Instant,
@@ -175,8 +183,9 @@ pub(crate) struct Link {
     is_refreshing: bool,
     asked_at: Option<Instant>,
     heard_at: Option<Instant>,
-    /// When anybody has looked what has come.
+    /// When anybody has looked what has come, and how long the machine had run then.
     looked_at: Option<Instant>,
+    looked_at_in_all: Duration,
     tried_at: Option<Instant>,
     refreshed_at: Option<Instant>,
     /// The last question, how many aren't answered, and when it was put or a late answer came.
@@ -213,8 +222,7 @@ impl Link {
             is_asked,
             devices: Vec::new(),
             is_begun: false,
-            paper: None,
-            pulse: None,
+            orders: [None, None, None],
             jobs: 0,
             began_at: Instant::now(),
             ends_at: Instant::now(),
@@ -238,6 +246,7 @@ impl Link {
             asked_at: None,
             heard_at: None,
             looked_at: None,
+            looked_at_in_all: Duration::ZERO,
             tried_at: None,
             refreshed_at: None,
             question: 0,
@@ -344,7 +353,7 @@ impl Link {
 
     /// The job of a number, if it is still known.
     fn job_of(&mut self, number: u64) -> Option<&mut Job> {
-        [&mut self.paper, &mut self.pulse].into_iter().flatten().find(|job| job.number == number)
+        self.orders.iter_mut().flatten().find(|job| job.number == number)
     }
 
     /// Whether something of a job may still be acknowledged. Acknowledgements without a number don't say of which job
@@ -354,9 +363,8 @@ impl Link {
     }
 
     /// The job of the order that is out.
-    fn current(&mut self, is_once: bool) -> &mut Job {
-        let job = if is_once { &mut self.paper } else { &mut self.pulse };
-        job.get_or_insert_default()
+    fn current(&mut self, kind: Kind) -> &mut Job {
+        self.orders[kind as usize].get_or_insert_default()
     }
 
     /// Puts bytes and the question for their acknowledgement out.
@@ -379,7 +387,7 @@ impl Link {
 
     /// Puts out what comes next, once nothing is left of what went out before: what nothing acknowledges, and then
     /// pieces of the order that is posted.
-    fn fill(&mut self, posting: Option<bool>) {
+    fn fill(&mut self, posting: Option<Kind>) {
         if self.out_sent < self.out.len() {
             return;
         }
@@ -387,14 +395,14 @@ impl Link {
         self.out_sent = 0;
         self.put_out += self.control.len() as u64;
         self.out.append(&mut self.control);
-        let Some(is_once) = posting else { return };
-        while self.out.len() < ENOUGH && !self.current(is_once).is_all_sent {
-            let job = self.current(is_once);
+        let Some(kind) = posting else { return };
+        while self.out.len() < ENOUGH && !self.current(kind).is_all_sent {
+            let job = self.current(kind);
             let (number, from, to) = (job.number, job.sent, piece_end(&job.bytes, job.sent));
             if !self.may_send(number, to - from) {
                 return;
             }
-            let job = self.current(is_once);
+            let job = self.current(kind);
             let piece = job.bytes[from..to].to_vec();
             (job.sent, job.is_all_sent) = (to, to == job.bytes.len());
             let (is_last, is_once) = (job.is_all_sent, job.is_once && !job.bytes.is_empty());
@@ -676,21 +684,16 @@ impl Link {
         Ok(())
     }
 
-    fn is_reached(&mut self, until: Until) -> bool {
+    fn is_reached(&self, until: Until) -> bool {
         let is_stopped = self.is_stopped();
-        let job = self.paper.as_ref().filter(|job| job.is_once);
+        let job = |kind: Kind| self.orders[kind as usize].as_ref();
         match until {
-            Until::Printed => is_stopped || job.is_some_and(|job| job.is_done || job.is_torn),
-            Until::Settled => is_stopped || job.is_some_and(|job| job.is_done || !self.is_due(job.number)),
+            Until::Printed(kind) => is_stopped || job(kind).is_some_and(|job| job.is_done || job.is_torn),
+            Until::Settled(kind) => is_stopped || job(kind).is_some_and(|job| job.is_done || !self.is_due(job.number)),
             Until::NoneDue => is_stopped || self.due.is_empty(),
             Until::Heard => is_stopped || !self.was_silent,
             Until::Known => !self.told.is_empty(),
         }
-    }
-
-    /// Whether a pulse has gone, or is torn.
-    fn is_pulsed(&self) -> bool {
-        self.is_stopped() || self.pulse.as_ref().is_some_and(|job| job.is_done || job.is_torn)
     }
 
     /// How long the order that is out may still take.
@@ -698,9 +701,9 @@ impl Link {
         self.ends_at.saturating_duration_since(Instant::now())
     }
 
-    /// Sends and reads until something is so, or the time is over. What is posted is the paper's order, or a pulse.
-    fn pump(&mut self, till: &mut DriverTill<'_>, until: Until, posting: Option<bool>) -> Result<(), Lost> {
-        while !(if posting == Some(false) { self.is_pulsed() } else { self.is_reached(until) }) {
+    /// Sends and reads until something is so, or the time is over. The order of a kind may be posted meanwhile.
+    fn pump(&mut self, till: &mut DriverTill<'_>, until: Until, posting: Option<Kind>) -> Result<(), Lost> {
+        while !self.is_reached(until) {
             let left = self.time_left();
             if left.is_zero() {
                 // This process may have stood still. What has come meanwhile counts.
@@ -741,10 +744,11 @@ impl Link {
         is_over(self.heard_at.max(Some(self.began_at)), time)
     }
 
-    /// Whether a line may hold back a part of what is due for a printer that should say something.
+    /// Whether a line may hold back a part of what is due for a printer that should say something. One that is asked may
+    /// also be off and on again after it has told why it is offline, and then doesn't say so.
     fn is_held(&self) -> bool {
         let is_any = self.due.iter().any(|parcel| parcel.job != 0 && !parcel.is_torn);
-        is_any && self.cable.holds_back() && !self.may_be_silent()
+        is_any && self.cable.holds_back() && (self.is_asked || !self.may_be_silent())
     }
 
     /// Looks whether the printer has fallen silent while a line may hold something of a job back for it. It is asked
@@ -766,17 +770,20 @@ impl Link {
     /// Whether the printer may have been off since anybody looked, so that what it has acknowledged since is no whole
     /// line.
     fn may_have_been_off(&self) -> bool {
+        if !(self.is_online() && self.is_held()) {
+            return false;
+        }
         let was_long = self.is_quiet(SILENT) && is_over(self.looked_at, self.timeout.min(SILENT) / 2);
-        self.is_online() && self.is_held() && was_long
+        was_long || uptime().saturating_sub(self.looked_at_in_all) >= SILENT
     }
 
-    /// Somebody looks what has come. If nobody has for long, as while this process stood still, the printer may have
-    /// been off meanwhile.
+    /// Somebody looks what has come. If nobody has for long, as while this process stood still or the machine was
+    /// suspended, the printer may have been off meanwhile.
     fn begin_look(&mut self) {
         if self.may_have_been_off() {
             self.lose_held();
         }
-        self.looked_at = Some(Instant::now());
+        (self.looked_at, self.looked_at_in_all) = (Some(Instant::now()), uptime());
     }
 
     /// Whether the printer was switched off and on again since it said that it is offline: it would have said by itself
@@ -940,49 +947,55 @@ impl Link {
         self.send(&[], parcel);
     }
 
-    /// Takes up the order that is out: the one that failed if it is the same, where that one has come to.
-    fn take_up(&mut self, till: &mut DriverTill<'_>, bytes: Vec<u8>, is_once: bool) -> Result<(), Lost> {
-        self.give_up(till)?;
-        if !is_once {
-            self.pulse = Some(self.new_job(bytes, false));
-            return Ok(());
+    /// The number of the order of these bytes that has failed, which is in its place then.
+    fn find_failed(&mut self, bytes: &[u8], kind: Kind) -> Option<u64> {
+        let other = if kind == Kind::Paper { Kind::Waiting } else { Kind::Paper };
+        let number = |order: &Option<Job>| order.as_ref().filter(|job| job.bytes == bytes).map(|job| job.number);
+        if let Some(found) = number(&self.orders[kind as usize]) {
+            return Some(found);
         }
-        let number = match &self.paper {
-            Some(job) if job.bytes == bytes => job.number,
-            _ => {
-                self.forget_failed();
-                self.paper = Some(self.new_job(bytes, true));
-                return Ok(());
-            }
+        self.forget_order(kind);
+        let found = number(&self.orders[other as usize])?;
+        self.orders.swap(kind as usize, other as usize);
+        Some(found)
+    }
+
+    /// Takes up the order that is out: the one that failed if it is the same, where that one has come to.
+    fn take_up(&mut self, till: &mut DriverTill<'_>, bytes: Vec<u8>, kind: Kind) -> Result<(), Lost> {
+        self.give_up(till)?;
+        let failed = if kind == Kind::Pulse { None } else { self.find_failed(&bytes, kind) };
+        let Some(number) = failed else {
+            self.orders[kind as usize] = Some(self.new_job(bytes, kind != Kind::Pulse));
+            return Ok(());
         };
         if self.is_due(number) {
             // What was sent before is printed or lost once this is acknowledged.
             self.put_marker();
-            self.pump(till, Until::Settled, None)?;
+            self.pump(till, Until::Settled(kind), None)?;
         }
         if !self.is_due(number) {
-            if self.current(true).sent > self.current(true).done {
+            if self.current(kind).sent > self.current(kind).done {
                 // Some of it was lost, and the printer may have begun a line.
                 self.put_start();
             }
-            let job = self.current(true);
+            let job = self.current(kind);
             (job.sent, job.is_all_sent, job.is_torn) = (job.done, job.is_done, false);
         }
         Ok(())
     }
 
     /// Sends the order, as far as it wasn't. The printer may have fallen silent since that was found out.
-    fn post(&mut self, till: &mut DriverTill<'_>, is_once: bool) -> Result<(), Lost> {
-        let (number, is_done) = (self.current(is_once).number, self.current(is_once).is_done);
+    fn post(&mut self, till: &mut DriverTill<'_>, kind: Kind) -> Result<(), Lost> {
+        let (number, is_done) = (self.current(kind).number, self.current(kind).is_done);
         let is_hindered = self.is_stopped() || self.is_doubtful() || self.is_due(number);
         if is_done || is_hindered || Instant::now() >= self.ends_at {
             return Ok(());
         }
-        self.fill(Some(is_once));
+        self.fill(Some(kind));
         if self.out_sent < self.out.len() {
             self.write_some()?;
         }
-        self.pump(till, Until::Printed, Some(is_once))
+        self.pump(till, Until::Printed(kind), Some(kind))
     }
 
     /// Whether a printer is silent for which a line would hold an order back.
@@ -1003,14 +1016,19 @@ impl Link {
     /// Takes the next order as a new one, though it is the same as the one that failed. If that was printed after it
     /// had failed, nobody has asked for it again.
     pub(crate) fn forget_failed(&mut self) {
-        let failed = self.paper.take();
+        self.forget_order(Kind::Paper);
+        self.forget_order(Kind::Waiting);
+    }
+
+    fn forget_order(&mut self, kind: Kind) {
+        let failed = self.orders[kind as usize].take();
         self.late += u64::from(failed.is_some_and(|job| job.is_done && !job.bytes.is_empty()));
     }
 
     /// Sends the order that is out, and returns whether the printer acknowledged it, each piece of it within the
-    /// timeout. If an order failed and the next one is the same, only what wasn't printed is sent again, unless it
-    /// isn't `is_once`.
-    pub(crate) fn carry_out(&mut self, till: &mut DriverTill<'_>, settings: &WireSettings, is_once: bool) -> bool {
+    /// timeout. If an order failed and the next one is the same, it goes on with what isn't acknowledged, unless it
+    /// is a pulse. Output that waits has a next one of its own.
+    pub(crate) fn carry_out(&mut self, till: &mut DriverTill<'_>, settings: &WireSettings, kind: Kind) -> bool {
         if self.may_have_been_off() {
             self.lose_held();
         }
@@ -1028,16 +1046,16 @@ impl Link {
         let done = self
             .receive(till)
             .and_then(|()| self.await_answer(till))
-            .and_then(|()| self.take_up(till, bytes, is_once))
-            .and_then(|()| self.post(till, is_once));
+            .and_then(|()| self.take_up(till, bytes, kind))
+            .and_then(|()| self.post(till, kind));
         if done.is_err() {
             self.lose();
             return false;
         }
-        if self.current(is_once).is_done {
-            if is_once {
-                self.lines += self.current(true).bytes.iter().filter(|byte| **byte == b'\n').count() as u64;
-                self.paper = None;
+        if self.current(kind).is_done {
+            if kind != Kind::Pulse {
+                self.lines += self.current(kind).bytes.iter().filter(|byte| **byte == b'\n').count() as u64;
+                self.orders[kind as usize] = None;
             }
             return true;
         }

@@ -212,6 +212,22 @@ pub(crate) fn end_after(time: Duration) -> Instant {
     now.checked_add(time).unwrap_or_else(|| now + Duration::from_secs(1 << 30))
 }
 
+/// A time, as Linux has it.
+#[repr(C)]
+#[derive(Default)]
+struct Time {
+    seconds: i64,
+    nanoseconds: i64,
+}
+
+/// Returns how long the machine has run, with the time in which it was suspended, when an `Instant` stands still.
+pub(crate) fn uptime() -> Duration {
+    let mut now = Time::default();
+    // SAFETY: the time is lent for the call.
+    unsafe { clock_gettime(CLOCK_BOOTTIME, &mut now) };
+    Duration::new(now.seconds as u64, now.nanoseconds as u32)
+}
+
 /// What is waited for at a file, and what has happened there.
 #[repr(C)]
 struct Waiting {
@@ -245,9 +261,11 @@ extern "C" {
     fn poll(files: *mut Waiting, count: c_ulong, milliseconds: c_int) -> c_int;
     fn ioctl(file: c_int, request: c_ulong, ...) -> c_int;
     fn setsockopt(file: c_int, level: c_int, name: c_int, value: *const c_void, size: u32) -> c_int;
+    fn clock_gettime(clock: c_int, now: *mut Time) -> c_int;
 }
 
 // Linux's numbers on x86-64.
+const CLOCK_BOOTTIME: c_int = 7;
 const POLLIN: c_short = 1;
 const POLLOUT: c_short = 4;
 const POLLERR_HUP_NVAL: c_short = 0x38;

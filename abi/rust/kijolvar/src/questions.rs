@@ -182,7 +182,8 @@ fn read_contents(text: &str) -> Option<TotalsContents> {
 /// # Errors
 ///
 /// [`Cause::Damaged`], with the place and the rule; [`Cause::Unformatted`], [`Cause::TooSmall`], [`Cause::NoMemory`];
-/// [`Cause::System`], with `WouldBlock` if a till has the file, or with why it couldn't be synced.
+/// [`Cause::System`], with `NotFound` if there is no file, `WouldBlock` if a till has it, or why it couldn't be opened,
+/// synced or read.
 pub fn files(path: impl AsRef<Path>) -> Result<TotalsContents, Error> {
     let failed = |cause| Error::new("files", cause);
     let bytes = read_file(path.as_ref()).map_err(|cause| failed(Cause::System(cause)))?;
@@ -213,8 +214,8 @@ pub fn check(path: impl AsRef<Path>) -> Result<(), Error> {
 /// # Errors
 ///
 /// [`Cause::Moved`] if they have layout 2 already, [`Cause::Damaged`], [`Cause::Unformatted`], [`Cause::TooSmall`],
-/// [`Cause::DiskFailed`], [`Cause::NoMemory`]; [`Cause::System`], with `WouldBlock` if a till has the file, or with why
-/// it couldn't be written.
+/// [`Cause::DiskFailed`], [`Cause::NoMemory`]; [`Cause::System`], with `NotFound` if there is no file, `WouldBlock` if
+/// a till has it, or why it couldn't be written.
 pub fn migrate(path: impl AsRef<Path>) -> Result<(), Error> {
     let failed = |cause| Error::new("migrate", cause);
     let file = open_existing(path.as_ref()).map_err(|cause| failed(Cause::System(cause)))?;

@@ -206,6 +206,7 @@ impl Inner {
             kijolvar_carry_out(till, out, lines.as_ptr(), lines.len(), text, room, &mut needed)
         };
         if code != library::OK && !self.drives.is_empty() {
+            self.drives.is_working = lines.starts_with(b"work ") && !lines.trim_ascii_end().contains(&b'\n');
             let text = self.served(code, needed)?;
             return String::from_utf8(text).map_err(|fault| Cause::BadAnswer(fault.to_string()));
         }
@@ -519,7 +520,11 @@ impl Till {
     /// Carries out one line of a control of this category, or of a device: what is behind `ok`.
     pub(crate) fn ask(&self, call: &'static str, category: Option<Category>, line: &Line) -> Result<Answer, Error> {
         let mut text = self.answer(call, line)?;
-        let value = value_of(&text, category).map_err(|cause| Error::new(call, cause))?.len();
+        let failed = |cause| match category {
+            Some(category) => Error::refused(call, cause, category, line.verb()),
+            None => Error::new(call, cause),
+        };
+        let value = value_of(&text, category).map_err(failed)?.len();
         Ok(Answer::new(call, text.split_off(text.len() - value)))
     }
 
@@ -668,7 +673,8 @@ impl Till {
     ///
     /// # Errors
     ///
-    /// [`Cause::BadDevice`], [`Cause::BadInput`] if the device is no printer or takes less paper, [`Cause::NoMemory`].
+    /// [`Cause::BadDevice`], [`Cause::BadInput`] if the device is no printer or there are more lines,
+    /// [`Cause::NoMemory`].
     pub fn input_paper(&self, device: &str, lines: u64) -> Result<(), Error> {
         self.ask_device("input_paper", Line::new("input").name(device).word("paper").number(lines))
     }

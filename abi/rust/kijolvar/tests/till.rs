@@ -223,8 +223,16 @@ fn errors_say_what_and_why() {
     let closed = printer.print_normal(PrinterStation::Receipt, "a").unwrap_err();
     assert_eq!((closed.call(), closed.code(), closed.extended()), ("printNormal", Some(ResultCode::Closed), None));
     assert_eq!(closed.to_string(), "printNormal: E_CLOSED: The control is closed.");
+    assert_eq!(closed.reason(), None);
     printer.open("r1").unwrap();
-    assert_eq!(printer.set_device_enabled(true).unwrap_err().code(), Some(ResultCode::NotClaimed));
+    let unclaimed = printer.set_device_enabled(true).unwrap_err();
+    assert_eq!(unclaimed.code(), Some(ResultCode::NotClaimed));
+    let reason = "The control hasn't claimed the device, which is an exclusive-use device.";
+    assert_eq!(unclaimed.reason(), Some(reason));
+    assert_eq!(unclaimed.to_string(), format!("DeviceEnabled: E_NOTCLAIMED: {reason}"));
+    // Reading what the category hasn't is refused for another reason than setting it to what is out of its range.
+    assert_eq!(printer.get(Property::CursorRow).unwrap_err().reason(), None);
+    assert_eq!(printer.set(Property::CursorRow, Value::Number(9)).unwrap_err().reason(), None);
     assert_eq!(printer.rec_line_chars().unwrap_err().call(), "RecLineChars");
     let printer = printer.enabled().unwrap();
     till.input_cover("r1", true).unwrap();

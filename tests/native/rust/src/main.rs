@@ -231,6 +231,12 @@ fn print(printer: &PosPrinter<'_>, digits: &str, is_later: bool) -> Result<Strin
     Ok("ok".to_string())
 }
 
+/// Why printing bytes is refused; nothing if it isn't.
+fn reason(printer: &PosPrinter<'_>, digits: &str) -> String {
+    let refused = print(printer, digits, false).err();
+    refused.map_or(String::new(), |error| error.reason().map_or_else(|| error.to_string(), str::to_string))
+}
+
 /// Delivers all events of a control, each with the reply ER_CLEAR: how many were ErrorEvents.
 fn reply(printer: &PosPrinter<'_>) -> Result<String, Error> {
     let mut count = 0;
@@ -280,6 +286,7 @@ fn obey<'till>(till: &'till Till, typed: &mut Typed<'till>, line: &str) -> Resul
         "why" => till.driver_state(words.0[0]).map(|state| state.port_error.unwrap_or(0).to_string()),
         "lines" => till.carry_out(rest.replace(';', "\n")).map(|answers| answers.replace('\n', ";")),
         "print" | "later" => print(typed.control(till)?, rest, verb == "later"),
+        "reason" => Ok(reason(typed.control(till)?, rest)),
         "clear" => typed.control(till)?.clear_output().map(|()| "ok".to_string()),
         "release" => typed.control(till)?.release().map(|()| "ok".to_string()),
         "close" => {

@@ -63,6 +63,11 @@ returns-else-is_empty-clause-flaw c =
       files = passes.files;
       rest = c.in-Ok.rest.now;
       begin = record { text = c.in-Some.text.now; counted = grind (arith, passes.count_is); read = passes.read };
+      before = record {
+        few = grind (arith, nat_tests, passes.count_is);
+        fits = passes.fits;
+        distinct = passes.distinct;
+      };
       some = λ none. eqb-false _ _ (sym c.is_empty.ensures ∙ c.if-is_empty.false) (ap (λ (r : List ℕ). length r) none);
       place_is = omega (arith, ends (goal.at.returns-else-is_empty-clause-flaw c).In-Some _ _ passes.read);
     }
@@ -75,6 +80,7 @@ returns-in-Err-clause-flaw c =
       files = stops.files;
       rest = c.in-Err.rest.now;
       begin = record { text = c.in-Some.text.now; counted = sym c.in-Some.ensures; read = stops.read };
+      before = record { few = grind (arith, nat_tests); fits = stops.fits; distinct = stops.distinct };
       fewer = stops.fewer;
       place_is = omega (arith, ends (goal.at.returns-in-Err-clause-flaw c).In-Some _ _ stops.read);
       why = stops.why;

@@ -16,6 +16,8 @@ returns-in_default-clause-stopped c =
       files = read.files;
       read = read.read;
       fewer = omega (arith, read.count, c.loop-i-test.true);
+      fits = omega (arith, read.room);
+      distinct = read.distinct;
       why = c.file_flaw.ensures c.args.room read.files (sym c.in_default.ensures);
     }
 
@@ -26,10 +28,13 @@ returns-then-is_used-clause-stopped c =
       files = read.files;
       read = read.read;
       fewer = omega (arith, read.count, c.loop-i-test.true);
+      fits = omega (arith, read.room);
+      distinct = read.distinct;
       why = (
         (file_of c.in-Some.file, c.in-Some.after.now),
         sym c.in-Some.ensures,
         grind (arith, nat_tests, read.read, read.count),
+        grind (arith, nat_tests, read.room),
       );
     }
 

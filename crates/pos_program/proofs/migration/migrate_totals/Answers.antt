@@ -9,5 +9,6 @@ returns g c =
       leaves_moved c.args.totals after c.requires c.file_is_mirrored.ensures.file outcome
           (c.migrate_disk-after.ensures.moves tt) (c.migrate_disk-after.ensures.rest tt)
           (c.migrate_disk-after.ensures.counts tt),
+      c.close_totals.ensures,
       c.file_result.ensures,
     )

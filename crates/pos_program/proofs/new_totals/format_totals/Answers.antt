@@ -7,6 +7,7 @@ returns-in-Ok g c =
       after,
       leaves_formatted c.args.totals after c.requires.new c.file_is_mirrored.ensures.file (c.in-Ok.ensures.rest tt)
           (c.in-Ok.ensures.formatted tt),
+      c.close_totals.ensures,
     )
 
 pub returns-in-Err : goal.returns-in-Err
@@ -15,4 +16,5 @@ returns-in-Err g c =
       after,
       leaves_unformatted c.args.totals after c.requires.new c.file_is_mirrored-in-Err.ensures.file
           (c.in-Err.ensures.rest tt) c.in-Err.fault (c.in-Err.ensures.refused tt),
+      c.close_totals-in-Err.ensures,
     )

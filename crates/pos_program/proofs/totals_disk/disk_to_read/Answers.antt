@@ -4,5 +4,5 @@ use Rattle.pos_program.proofs.totals_disk.disk_to_read.Goals as goal
 pub returns-in-Ok : goal.returns-in-Ok
 returns-in-Ok g c = (c.over_shared.result, c.over_shared.ensures, rw c.in-Ok.is refl)
 
-pub returns : goal.returns
-returns g c = (c.over_shared.result, c.over_shared.ensures, rw c.in-Err.is c.fault_of_disk.ensures)
+pub returns-in-Err : goal.returns-in-Err
+returns-in-Err g c = (c.over_shared.result, c.over_shared.ensures, rw c.in-Err.is c.closed_fault.ensures)

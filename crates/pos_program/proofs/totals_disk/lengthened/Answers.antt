@@ -16,4 +16,4 @@ returns g c =
     let lengthens = subst (λ (zeros : List ℕ). Lengthens g.F.BlockFile.calls c.args.disk zeros c.lengthen.result)
     (c.deref.ensures.value ∙ c.in-Ok.ensures ∙ ap (λ size. replicate (disk_size - size) 0) c.len.ensures)
     c.lengthen.ensures in
-    inr (c.lengthen.result, lengthens, rw c.in-Err.is c.fault_of_disk.ensures)
+    inr (c.lengthen.result, lengthens, rw c.in-Err.is c.closed_fault.ensures)

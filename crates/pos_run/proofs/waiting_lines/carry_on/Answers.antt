@@ -1,10 +1,10 @@
-use Rattle.std.proofs.Common.{All, Global, List, Vec, arith, refl, ℕ}
+use Rattle.std.proofs.Common.{All, Bool, Global, List, Vec, arith, false, refl, true≢false, ℕ}
 use Rattle.std.proofs.lemmas.List.Elements.{All-tail}
 use Rattle.pos_drive.specs.declared.courses.Progress.{Progress}
 use Rattle.pos_script.specs.Lines.{lines_of}
 use Rattle.pos_run.proofs.Common.{Ok, ap, session_of, subst, sym, true, ◌∙◌, ◌≡◌}
 use Rattle.pos_run.proofs.WaitingLemmas.{carries_held, carries_line, carries_none, carries_stay, cuts_off, first_of}
-use Rattle.pos_run.proofs.WaitingLemmas.{leaves_as, none_left}
+use Rattle.pos_run.proofs.WaitingLemmas.{leaves_as, none_left, some_left}
 use Rattle.pos_run.specs.WaitingLines.{CarriesOn, IsOneLine, IsReady, is_out}
 use Rattle.pos_run.specs.declared.waiting_lines.LineProgress.TheVariants as held
 use Rattle.pos_run.proofs.waiting_lines.carry_on.Goals as goal
@@ -14,8 +14,19 @@ returns-then-is_out-clause-carried g c = (
   carries_none g.D.Disk g.P.Peripheral g.met.D.Disk.only_now c.args.counter.now
       (session_of g.P.Peripheral c.args.names.now c.args.spares.now)
       c.args.lines.now.items (g.W.Sink.given c.args.writer.now),
-  subst (λ (p : Progress). is_out p ≡ true) c.progress.ensures (sym c.is_out.ensures ∙ c.if-is_out.true),
+  (
+    λ none. none,
+    subst (λ (p : Progress). is_out p ≡ true) c.progress.ensures (sym c.is_out.ensures ∙ c.if-is_out.true),
+  ),
+  λ out. record { waits = refl; counter = refl; session_stays = refl; all_left = refl; nothing = refl },
 )
+
+-- the host has no order, and is to get none
+idle : (far : Progress) {now : Progress} {is : Bool} → far ≡ now → is ≡ is_out far → is ≡ false → is_out now ≡ false
+idle far same is none = ap is_out (sym same) ∙ sym is ∙ none
+
+never : {A : Type 0} (far : Progress) → is_out far ≡ false → is_out far ≡ true → A
+never far none out = absurd (true≢false (sym out ∙ none))
 
 pub loop-line-init : goal.loop-line-init
 loop-line-init g c = record {
@@ -69,7 +80,8 @@ returns-in-Ok-Waits-clause-carried g c =
     line before after waits (c.run_settled.ensures.line line (ap lines_of c.as_slice.ensures.value ∙ is)) in (
       carries_held g.D.Disk g.P.Peripheral c.args.counter.now c.loop-line.counter first new
           (g.W.Sink.given c.args.writer.now) after c.loop-line.invariant.carries holds,
-      out,
+      (λ none. absurd (some_left split none), out),
+      never _ (idle _ c.progress.ensures c.is_out.ensures c.if-is_out.false),
     )
 
 pub returns-in-Ok-NoMemory-clause-carried : goal.returns-in-Ok-NoMemory-clause-carried
@@ -89,7 +101,8 @@ returns-in-Ok-NoMemory-clause-carried g c =
     line before after wants (c.run_settled.ensures.line line (ap lines_of c.as_slice.ensures.value ∙ is)) in (
       carries_held g.D.Disk g.P.Peripheral c.args.counter.now c.loop-line.counter first new
           (g.W.Sink.given c.args.writer.now) after c.loop-line.invariant.carries holds,
-      reported,
+      (some_left split, reported),
+      never _ (idle _ c.progress.ensures c.is_out.ensures c.if-is_out.false),
     )
 
 pub returns-in-Err-clause-carried : goal.returns-in-Err-clause-carried
@@ -110,6 +123,7 @@ returns-in-Err-clause-carried g c =
           g.P.Peripheral c.args.counter.now first c.args.lines.now.items xs
           (g.W.Sink.given c.args.writer.now) before c.loop-line.counter old) split c.loop-line.invariant.carries) cuts,
       ready,
+      idle _ c.progress.ensures c.is_out.ensures c.if-is_out.false,
     )
 
 pub returns-in-Err-clause-lines : goal.returns-in-Err-clause-lines
@@ -120,10 +134,10 @@ returns-in-Err-clause-lines g c =
     All-tail IsOneLine c.in-Some.line.now rest (subst (All IsOneLine) split c.loop-line.invariant.lines)
 
 pub returns-clause-carried : goal.returns-clause-carried
-returns-clause-carried g c = (
-  carries_stay g.D.Disk g.P.Peripheral c.loop-line.invariant.carries c.settle.ensures.stays,
-  (
-    none_left c.loop-line.lines.items (λ some. c.in_default.ensures.variant.1 (grind (arith, some))),
-    c.settle.ensures.progress,
-  ),
-)
+returns-clause-carried g c =
+    let none = none_left c.loop-line.lines.items (λ some. c.in_default.ensures.variant.1 (grind (arith, some))) in (
+      carries_stay g.D.Disk g.P.Peripheral c.loop-line.invariant.carries c.settle.ensures.stays
+          c.settle.ensures.alone none,
+      (none, c.settle.ensures.progress),
+      never _ (idle _ c.progress.ensures c.is_out.ensures c.if-is_out.false),
+    )

@@ -14,9 +14,11 @@ returns-in-Ok-Printed-clause-line g c line_in one =
     let told : c.run_held.result ≡ Ok held.Printed = grind (arith, c.in-Ok-Printed.is, c.in-Ok-Printed.field-0-is) in
     tells_settled g.D.Disk g.P.Peripheral (IsNotHeld (progress_in g.P.Awaits.course c.run_held.new.counter))
     (leaves_as g.D.Disk g.P.Peripheral g.P.Awaits.course IsNotHeld c.args.counter.now c.run_held.new.counter old new
-    line_in before after told (c.run_held.ensures.line line_in one)) c.settle.ensures.stays c.settle.ensures.progress
+    line_in before after told (c.run_held.ensures.line line_in one)) c.settle.ensures.stays
+    c.settle.ensures.alone c.settle.ensures.progress
 
 pub returns-in-Err-clause-line : goal.returns-in-Err-clause-line
 returns-in-Err-clause-line g c line_in one =
     cuts_settled g.D.Disk g.P.Peripheral (IsNotHeld (progress_in g.P.Awaits.course c.run_held.new.counter))
-    (c.in-Err.ensures.line line_in one) c.settle-in-Err.ensures.stays c.settle-in-Err.ensures.progress
+    (c.in-Err.ensures.line line_in one) c.settle-in-Err.ensures.stays
+    c.settle-in-Err.ensures.alone c.settle-in-Err.ensures.progress

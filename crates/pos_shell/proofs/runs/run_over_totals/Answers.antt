@@ -12,5 +12,6 @@ returns g c =
       file = mirrored.file;
       cuts = λ left leaves. leaves_cuts _ _ c.args.totals c.requires _ mirrored.cut left (steps_of ran.runs)
           (ran.moments left tt leaves);
+      closed = c.close_totals.ensures;
       ends = c.at_end.ensures;
     }

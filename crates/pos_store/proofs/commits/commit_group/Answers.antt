@@ -2,7 +2,7 @@ use Rattle.pos_store.proofs.Common.{Err, HasItsFiles, ImageFault, IsErrOf, Ok, a
 use Rattle.pos_store.proofs.Common.{limits_of, outcome_of_all, refl, rules, sym, weaker, ⊎_elim, ◌+◌, ◌∙◌, ◌≡◌}
 use Rattle.pos_store.proofs.CommitLemmas.{IsGiven, same_layout, short, appending_stands, renewing_stands}
 use Rattle.pos_store.proofs.CommitLemmas.{failed_commits, appended_holds, appended_commits, renewed_holds}
-use Rattle.pos_store.proofs.CommitLemmas.{renewed_commits}
+use Rattle.pos_store.proofs.CommitLemmas.{renewed_commits, wrote_image, wrote_record}
 use Rattle.pos_store.proofs.DraftLemmas.{unmade_commits}
 use Rattle.pos_store.proofs.commits.commit_group.Given.{Over}
 use Rattle.pos_store.proofs.commits.commit_group.Goals.{After-make_draft}
@@ -62,7 +62,7 @@ returns-in-Err-append_fitting-clause-commits g c =
     (λ h. weaker _ _ _ _ (appending_stands it h) (did.any_moment h))
     (λ h bytes. g.met.D.Disk.counts_now c.append_fitting.new.self.images.disk
     (g.D.Disk.state c.in-Ready.log.images.disk).moment bytes (did.keeps.honest.0 h))
-    (λ h. did.device h failed) did.keeps)
+    (λ h. did.device h failed) (wrote_record it fits did) did.keeps)
 
 pub returns-in-Ok-renew : goal.returns-in-Ok-renew
 returns-in-Ok-renew g c =
@@ -79,7 +79,8 @@ returns-in-Ok-renew g c =
         renewed_holds it c.renew.new.self over body whole spelled did,
         c.make_draft.ensures.limits ∙ limits ∙ ap limits_of (sym did.layout_is),
       );
-      commits = rw c.in-Ready.is (renewed_commits it c.renew.new.self over body whole spelled did more);
+      commits = rw c.in-Ready.is (renewed_commits it c.renew.new.self over body whole spelled did more
+          (wrote_image it over (short (layout_of c.in-Ready.log.images.slot) body fits) c.in-Ok-renew.ensures.rest));
     }
 
 pub returns-in-Err-renew-clause-commits : goal.returns-in-Err-renew-clause-commits
@@ -104,7 +105,8 @@ returns-in-Err-renew-clause-commits g c =
     (λ h. weaker _ _ _ _ (renewing_stands it body whole spelled h) (did.any_moment h))
     (λ h bytes. g.met.D.Disk.counts_now c.renew.new.self.images.disk
     (g.D.Disk.state c.in-Ready.log.images.disk).moment bytes (did.keeps.honest.0 h))
-    (λ h. did.device h (c.in-Err-renew.is ∙ ap (λ (f : ImageFault). Err f) device)) did.keeps)
+    (λ h. did.device h (c.in-Err-renew.is ∙ ap (λ (f : ImageFault). Err f) device))
+    (wrote_image it over inside c.renew.ensures.rest) did.keeps)
 
 pub returns-in-Err-clause-commits : goal.returns-in-Err-clause-commits
 returns-in-Err-clause-commits g c =

@@ -5,10 +5,11 @@ use Rattle.pos_survey.proofs.HeadLemmas.{long_body}
 use Rattle.pos_survey.proofs.image.damage_of.Goals as goal
 
 pub returns : goal.returns
-returns c bytes heads is = (
-  damaged_stands bytes is,
-  (
-    long_body bytes is (sym (c.is_tied.ensures bytes heads) ∙ c.if-is_tied.false),
-    ap (λ (k : ℕ). k + 9) (c.start.ensures ∙ ap start (c.current_slot.ensures bytes heads)),
-  ),
-)
+returns c bytes heads is =
+    let apart = sym (c.is_tied.ensures bytes heads) ∙ c.if-is_tied.false in (
+      damaged_stands bytes is,
+      (
+        (apart, long_body bytes is apart),
+        ap (λ (k : ℕ). k + 9) (c.start.ensures ∙ ap start (c.current_slot.ensures bytes heads)),
+      ),
+    )

@@ -5,5 +5,5 @@ pub returns : goal.returns
 returns g c = (
   Ok c.in_ok-file.file,
   c.in_ok-file.ensures.opens,
-  (c.in_ok-file.ensures.new, (c.read_steady.new.file, c.read_steady.ensures)),
+  (c.in_ok-file.ensures.new, (c.read_steady-bytes.new.file, c.read_steady-bytes.ensures, c.close.ensures)),
 )

@@ -14,5 +14,6 @@ begin_answer-requires c = record {
 
 pub returns-clause-takes : goal.returns-clause-takes
 returns-clause-takes c = takes_done disks hosts devices c.in-Ok.lines.items refl c.begin_answer.ensures.begins
-    c.report.ensures.stays c.report.ensures.hosts c.in-Ok.ensures.lines c.in-Ok-insert_behind_first.ensures.inserted
+    c.report.ensures.stays c.report.ensures.hosts c.report.ensures.tally c.in-Ok.ensures.lines
+    c.in-Ok-insert_behind_first.ensures.inserted
     c.requires.held c.go_on.ensures.go_on c.go_on.ensures.rest

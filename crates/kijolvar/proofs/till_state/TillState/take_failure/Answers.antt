@@ -16,7 +16,8 @@ returns-then-is_ok-clause-takes c =
     let file = lines_fixed disks devices begun.counter ran.new.counter (session_in devices begun)
     (lines_of c.args.inputs.now) _ _ ran.result _ ran.ensures.lines in
     inl (takes_failure disks hosts devices _ _ ran.result c.begin_answer.ensures.begins ran.ensures.lines
-    (sym c.is_ok.ensures.value ∙ c.if-is_ok.true) file c.report.ensures.stays c.report.ensures.hosts refl
+    (sym c.is_ok.ensures.value ∙ c.if-is_ok.true) file c.report.ensures.stays c.report.ensures.hosts
+    c.report.ensures.tally refl
     c.go_on.ensures.go_on c.go_on.ensures.rest)
 
 pub returns-else-is_ok-clause-takes : goal.returns-else-is_ok-clause-takes

@@ -6,7 +6,7 @@ use Rattle.pos_counter.proofs.counter.Counter.attach.Goals as goal
 pub returns : goal.returns
 returns g c =
     let old = c.args.self.now in
-    let both = steps_beside c.requires.sound (record { registry = c.attach.ensures.sound }) refl
+    let both = steps_beside c.requires.sound (record { registry = c.attach.ensures.sound }) refl refl
     (λ part. attach_step old.controls.items (registered g.P.Peripheral old.devices.registry)
     (registered g.P.Peripheral c.attach.new.self) c.args.name.now old.claims old.totals_name part g.P.Peripheral.state
     c.args.peripheral c.attach.result c.attach.ensures.handed_back c.attach.ensures.attaches) in

@@ -8,8 +8,8 @@ use Rattle.pos_counter.proofs.TotalsStepLemmas.{files_serve}
 use Rattle.pos_common.proofs.CheckLemmas.{lets_own}
 use Rattle.pos_counter.proofs.counter.Counter.call_totals.Goals as goal
 
-pub returns-in-Err : goal.returns-in-Err
-returns-in-Err g c =
+pub returns-in-Err-clause-served : goal.returns-in-Err-clause-served
+returns-in-Err-clause-served g c =
     let old = c.args.self.now in
     let h = c.index-control.result.now in
     let found = kept_at _ _ _ c.requires.in_range c.index-control.ensures in
@@ -18,7 +18,7 @@ returns-in-Err g c =
     let part = part_with old.totals.totals [] 0 in
     let is = totals_category c.args.number (c.requires.sound.machine part) found opens in
     let out = simp (c.in-Err.is, c.area.ensures, c.needs-needs.ensures) at c.check_by.ensures in
-    quiet_serves g.D.Disk g.P.Peripheral old _ _ _ old.totals.totals (g.met.D.Disk.only_now _) refl refl
+    quiet_serves g.D.Disk g.P.Peripheral old _ _ _ refl old.totals.totals (g.met.D.Disk.only_now _) refl refl
     (λ left. refl) c.requires.sound c.requires.sound.devices
     (λ left failures so.
     let m = machine g.P.Peripheral old (part_with old.totals.totals left failures) in
@@ -31,8 +31,8 @@ call_files-requires g c =
     let lets = simp (c.in_default.is, c.needs-needs.ensures) at c.check_by.ensures in
     lets_own c.args.number _ one (needs_of HardTotals c.args.call.now) (lets [])
 
-pub returns : goal.returns
-returns g c =
+pub returns-clause-served : goal.returns-clause-served
+returns-clause-served g c =
     let h = c.index-control.result.now in
     let found = kept_at _ _ _ c.requires.in_range c.index-control.ensures in
     let lets = simp (c.in_default.is, c.area.ensures, c.needs-needs.ensures) at c.check_by.ensures in

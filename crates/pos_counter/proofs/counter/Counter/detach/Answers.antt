@@ -8,7 +8,7 @@ use Rattle.pos_counter.proofs.counter.Counter.detach.Goals as goal
 pub returns : goal.returns
 returns g c =
     let old = c.args.self.now in
-    let both = steps_beside c.requires.sound (record { registry = c.detach.ensures.sound }) refl
+    let both = steps_beside c.requires.sound (record { registry = c.detach.ensures.sound }) refl refl
     (λ part. detach_step old.controls.items (registered g.P.Peripheral old.devices.registry)
     (registered g.P.Peripheral c.detach.new.self) c.args.name.now old.claims old.totals_name part g.P.Peripheral.state
     c.is_open-is_open.result c.detach.result

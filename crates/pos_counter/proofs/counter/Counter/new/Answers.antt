@@ -17,6 +17,7 @@ returns-in-Ok-new-clause-begins g c =
           ∙ ap (λ (ds : List Device). machine_with [] none ds c.in-Ok.totals_name part) c.in-Ok-new.ensures.vacant
           ∙ ap (λ (tn : Option (List ℕ)). machine_with [] none (profile_devices entries) tn part) c.in-Ok.ensures.name;
       totals = c.new-in-Ok-new-2.ensures;
+      tally = c.none.ensures;
     }
 
 pub returns-in-Ok-new-clause-sound : goal.returns-in-Ok-new-clause-sound

@@ -3,15 +3,15 @@ use Rattle.pos_counter.proofs.LiftLemmas.{decided_weaker, kept_at, kept_machine,
 use Rattle.pos_counter.proofs.ServiceLemmas.{stays_serves}
 use Rattle.pos_counter.proofs.counter.Counter.open.Goals as goal
 
-pub returns : goal.returns
-returns g c =
+pub returns-clause-served : goal.returns-clause-served
+returns-clause-served g c =
     let old = c.args.self.now in
     let n = c.args.number in
     let h = c.index_mut.result.now in
     let is = c.index_mut.ensures.value in
     let same = kept_same old.controls.items h c.requires.in_range c.index.ensures is in
     let category = c.category.ensures ∙ ap (λ (kept : KeptControl). kept.control.category) same in
-    stays_serves g.D.Disk g.P.Peripheral old _ _ _
+    stays_serves g.D.Disk g.P.Peripheral old _ _ _ refl
     (g.met.D.Disk.only_now _) c.requires.sound refl c.requires.sound.devices
     (λ part.
     let found = c.find_target-found.ensures part

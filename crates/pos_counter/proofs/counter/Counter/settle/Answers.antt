@@ -1,8 +1,8 @@
 use Rattle.pos_counter.proofs.Common.{ap, arith, length-map, ◌+◌, ◌∙◌, suc, ◌≡◌}
-use Rattle.pos_counter.proofs.HostsLemmas.{changed_front, front_all, front_more, settled_none}
+use Rattle.pos_counter.proofs.HostsLemmas.{changed_front, front_all, front_more, settled_alone, settled_none}
 use Rattle.pos_drive.specs.Courses.{settled_course}
 use Rattle.pos_profile.specs.Registries.{device_of}
-use Rattle.pos_counter.specs.Hosts.{changed_at, host_of, hosts_in, pending_of, progress_with}
+use Rattle.pos_counter.specs.Hosts.{changed_at, host_of, hosts_in, pending_of, progress_in, progress_with}
 use Rattle.pos_counter.proofs.counter.Counter.settle.Goals as goal
 
 pub loop-place-preserved : goal.loop-place-preserved
@@ -13,6 +13,7 @@ loop-place-preserved g c =
     record {
       hosts = c.settle_at.ensures.hosts ∙ ap (changed_at settled_course place) c.loop-place.invariant.hosts
           ∙ front_more settled_course place hosts ∙ ap (λ n. changed_front settled_course n hosts) one_more;
+      tally = c.settle_at.ensures.tally ∙ c.loop-place.invariant.tally;
       stays = record {
         machine = λ part. c.settle_at.ensures.stays.machine part ∙ c.loop-place.invariant.stays.machine part;
         totals = c.settle_at.ensures.stays.totals ∙ c.loop-place.invariant.stays.totals;
@@ -44,3 +45,7 @@ returns-clause-progress g c =
       length-map slots (λ s. device_of g.P.Peripheral s),
       length-map slots (λ s. host_of g.P.Awaits.course s),
     ))) ∙ ap progress_with (settled_none hosts)
+
+pub returns-clause-alone : goal.returns-clause-alone
+returns-clause-alone g c =
+    settled_alone (progress_in g.P.Awaits.course c.args.self.now) c.loop-place.invariant.tally

@@ -13,6 +13,7 @@ returns-in-Ok-clause-torn g c =
       machine = λ part. on_hardware _ _ _ _ _ _ part c.in-Some.place _
           (λ place. IsTorn) c.in-Some.ensures.0 (c.in-Ok.ensures.done old.controls.items);
       totals = refl;
+      tally = refl;
     }
 
 pub returns-in-Ok-clause-sound : goal.returns-in-Ok-clause-sound
@@ -26,12 +27,14 @@ returns-in-Ok-clause-sound g c =
 
 pub returns-in-Err-clause-torn : goal.returns-in-Err-clause-torn
 returns-in-Err-clause-torn g c =
-    let old = c.args.self.now in
-    record {
-      machine = λ part. ap (λ ds. machine_with old.controls.items old.claims ds old.totals_name part)
-          (c.in-Err.ensures.done old.controls.items);
-      totals = refl;
-    }
+    let old = c.args.self.now in (
+      record {
+        machine = λ part. ap (λ ds. machine_with old.controls.items old.claims ds old.totals_name part)
+            (c.in-Err.ensures.done old.controls.items);
+        totals = refl;
+      },
+      refl,
+    )
 
 pub returns-in-Err-clause-sound : goal.returns-in-Err-clause-sound
 returns-in-Err-clause-sound g c =

@@ -1,5 +1,5 @@
 use Rattle.pos_log.proofs.Common.{IsLogReady, View, [], ap, arith, layout_of, length, log_over}
-use Rattle.pos_log.proofs.Common.{log_place, rules, slot_size, take, text_behind_gate, ◌+◌, ◌-◌, ◌∙◌, ◌∷◌, ◌≡◌, ◌≤◌}
+use Rattle.pos_log.proofs.Common.{log_place, rules, slot_size, take, text_behind_gate, wider, ◌+◌, ◌-◌, ◌∙◌, ◌∷◌, ◌≡◌, ◌≤◌}
 use Rattle.pos_log.proofs.AppendLemmas.{WritesThrough, appended, failed_open, failed_put, never_failed}
 use Rattle.pos_log.proofs.log.Log.append_fitting.Given.{Over}
 use Rattle.pos_log.proofs.log.Log.append_fitting.Goals.{After-write_through, After-write_through-2}
@@ -24,6 +24,8 @@ module _ (g : Over) (c : After-write_through g) where
       (text_behind_gate c.args.group.now) c.write_through.new.images.disk
   puts = rw (← at_is, ← text_is) record {
     moments = c.write_through.ensures.any_moment;
+    rest = λ honest. wider (omega (arith, c.self.invariant.0)) (omega (arith, c.self.invariant.0))
+        (c.write_through.ensures.rest honest);
     keeps = c.write_through.ensures.keeps;
   }
 
@@ -41,6 +43,8 @@ module _ (g : Over) (c : After-write_through-2 g) where
       (165 ∷ []) c.write_through-2.new.images.disk
   opens = record {
     moments = rw c.write_through.ensures.same at c.write_through-2.ensures.any_moment;
+    rest = λ honest. wider (omega (arith, c.self.invariant.0)) (omega (arith, c.self.invariant.0))
+        ((rw c.write_through.ensures.same at c.write_through-2.ensures.rest) honest);
     keeps = rw c.write_through.ensures.same at c.write_through-2.ensures.keeps;
   }
 

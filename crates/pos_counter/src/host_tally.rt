@@ -1,0 +1,66 @@
+//! What passes between a counter and its host.
+ghost use Rattle.std.specs.Prelude.{◌≡◌};
+ghost use Rattle.pos_counter.specs.HostTallies.{forgets, gives, hears};
+
+use pos_drive::Progress;
+
+/// How often a counter gave its host an order, and heard of one. A count stays at its last value.
+#[derive(Clone, Copy)]
+pub struct HostTally {
+    /// How often it gave the host an order.
+    pub(crate) given: u64,
+    /// How often the host reported that an order is done.
+    pub(crate) done: u64,
+    /// How often the host reported that an order isn't done.
+    pub(crate) not_done: u64,
+    /// How many of these reports were forgotten before their order was given again.
+    pub(crate) forgotten: u64,
+}
+
+impl HostTally {
+    /// Returns that of a host that had no order.
+    pub(crate) fn none() -> HostTally
+        ensures { result ≡ record { given = 0; done = 0; not_done = 0; forgotten = 0 } }
+    {
+        HostTally {
+            given: 0,
+            done: 0,
+            not_done: 0,
+            forgotten: 0,
+        }
+    }
+
+    /// Returns this after an order was handed out to a host that is so far with it. It counts if the order waits.
+    pub(crate) fn give(mut self, progress: Progress) -> HostTally
+        ensures { result ≡ gives progress self }
+    {
+        if progress == Progress::Waits {
+            self.given = self.given.saturating_add(1);
+        }
+        self
+    }
+
+    /// Returns this after a report of a host that is so far with the order. It counts if the host has the order.
+    pub(crate) fn hear(mut self, is_done: bool, progress: Progress) -> HostTally
+        ensures { result ≡ hears is_done progress self }
+    {
+        if progress == Progress::HandedOut {
+            if is_done {
+                self.done = self.done.saturating_add(1);
+            } else {
+                self.not_done = self.not_done.saturating_add(1);
+            }
+        }
+        self
+    }
+
+    /// Returns this after orders were settled, where the host is so far with the first. A report that is there counts.
+    pub(crate) fn forget(mut self, progress: Progress) -> HostTally
+        ensures { result ≡ forgets progress self }
+    {
+        if progress == Progress::Reported {
+            self.forgotten = self.forgotten.saturating_add(1);
+        }
+        self
+    }
+}
