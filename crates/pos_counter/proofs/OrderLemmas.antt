@@ -81,10 +81,10 @@ module _ (m : Machine) (n : ℕ) (asked : Call) where
   none_given c (Ok result) orders is = ap (λ p. given_at p orders) (sym is)
   none_given c (Err want) orders is = inl refl
 
-  -- a call that every category has gives no order
-  pub common_orders : (o : Result Answer NoMemory) (orders : List (Option ℕ)) → is_common asked ≡ true
-      → OrdersOfCall m n asked o orders orders
-  common_orders o orders common = by (slice_get m.controls n)
+  -- a call that every category has gives no order: where the counts stay as they were, its clause holds
+  pub common_orders : (o : Result Answer NoMemory) (orders : List (Option ℕ)) {new : List (Option ℕ)} → new ≡ orders
+      → is_common asked ≡ true → OrdersOfCall m n asked o new orders
+  common_orders o orders same common = rw same (by (slice_get m.controls n))
     where
       by : (found : Option Control) → MatchOption found (orders ≡ orders)
           (λ control. OrdersOfControl m n control asked o orders orders)

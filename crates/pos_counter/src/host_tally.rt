@@ -4,7 +4,7 @@ ghost use Rattle.pos_counter.specs.HostTallies.{forgets, gives, hears};
 
 use pos_drive::Progress;
 
-/// How often a counter gave its host an order, and heard of one. A count stays at its last value.
+/// How often a counter gave its host an order, and heard of one. No count goes beyond the largest u64.
 #[derive(Clone, Copy)]
 pub struct HostTally {
     /// How often it gave the host an order.
@@ -13,7 +13,7 @@ pub struct HostTally {
     pub(crate) done: u64,
     /// How often the host reported that an order isn't done.
     pub(crate) not_done: u64,
-    /// How many of these reports were forgotten before their order was given again.
+    /// How often orders were settled while such a report, of the first one, was there.
     pub(crate) forgotten: u64,
 }
 

@@ -18,7 +18,7 @@ pub trait BlockFile {
     /// What it was asked so far, the first call first.
     ghost calls: { Self → List Call };
 
-    /// What is known of a file that was closed as it is. Each type defines it.
+    /// What is known of a file that was closed as it is: nothing, where a type doesn't say more.
     ghost closed: { Self → Type 0 } = { λ _. ⊤ };
 
     /// Locks it for this program alone, without waiting. It stays locked until it is closed.

@@ -26,36 +26,35 @@ returns-in-Get-clause-step g c = search (rules, quiet_step, c.in-Get.is, g.met.D
 
 pub returns-in-Open-clause-orders : goal.returns-in-Open-clause-orders
 returns-in-Open-clause-orders g c part =
-    let old = c.args.self.now in
-    rw c.open.ensures.devices (common_orders (machine g.P.Peripheral old part) c.args.number c.args.call.now
-    (Ok c.open.result) (orders_in g.P.Peripheral old.devices) (ap is_common c.in-Open.is))
+    common_orders (machine g.P.Peripheral c.args.self.now part) c.args.number c.args.call.now (Ok c.open.result)
+    (orders_in g.P.Peripheral c.args.self.now.devices) (ap (orders_in g.P.Peripheral) c.open.ensures.devices)
+    (ap is_common c.in-Open.is)
 
 pub returns-in-Close-clause-orders : goal.returns-in-Close-clause-orders
 returns-in-Close-clause-orders g c part =
-    let old = c.args.self.now in
-    rw c.close.ensures.devices (common_orders (machine g.P.Peripheral old part) c.args.number c.args.call.now
-    (Ok c.close.result) (orders_in g.P.Peripheral old.devices) (ap is_common c.in-Close.is))
+    common_orders (machine g.P.Peripheral c.args.self.now part) c.args.number c.args.call.now (Ok c.close.result)
+    (orders_in g.P.Peripheral c.args.self.now.devices) (ap (orders_in g.P.Peripheral) c.close.ensures.devices)
+    (ap is_common c.in-Close.is)
 
 pub returns-in-Claim-clause-orders : goal.returns-in-Claim-clause-orders
 returns-in-Claim-clause-orders g c part =
-    let old = c.args.self.now in
-    rw c.claim.ensures.devices (common_orders (machine g.P.Peripheral old part) c.args.number c.args.call.now
-    (Ok c.claim.result) (orders_in g.P.Peripheral old.devices) (ap is_common c.in-Claim.is))
+    common_orders (machine g.P.Peripheral c.args.self.now part) c.args.number c.args.call.now (Ok c.claim.result)
+    (orders_in g.P.Peripheral c.args.self.now.devices) (ap (orders_in g.P.Peripheral) c.claim.ensures.devices)
+    (ap is_common c.in-Claim.is)
 
 pub returns-in-Release-clause-orders : goal.returns-in-Release-clause-orders
 returns-in-Release-clause-orders g c part =
-    let old = c.args.self.now in
-    rw c.release.ensures.devices (common_orders (machine g.P.Peripheral old part) c.args.number c.args.call.now
-    (Ok c.release.result) (orders_in g.P.Peripheral old.devices) (ap is_common c.in-Release.is))
+    common_orders (machine g.P.Peripheral c.args.self.now part) c.args.number c.args.call.now (Ok c.release.result)
+    (orders_in g.P.Peripheral c.args.self.now.devices) (ap (orders_in g.P.Peripheral) c.release.ensures.devices)
+    (ap is_common c.in-Release.is)
 
 pub returns-in-Set-clause-orders : goal.returns-in-Set-clause-orders
 returns-in-Set-clause-orders g c part =
-    let old = c.args.self.now in
-    rw c.set.ensures.devices (common_orders (machine g.P.Peripheral old part) c.args.number c.args.call.now
-    c.set.result (orders_in g.P.Peripheral old.devices) (ap is_common c.in-Set.is))
+    common_orders (machine g.P.Peripheral c.args.self.now part) c.args.number c.args.call.now c.set.result
+    (orders_in g.P.Peripheral c.args.self.now.devices) (ap (orders_in g.P.Peripheral) c.set.ensures.devices)
+    (ap is_common c.in-Set.is)
 
 pub returns-in-Get-clause-orders : goal.returns-in-Get-clause-orders
 returns-in-Get-clause-orders g c part =
-    let old = c.args.self.now in
-    common_orders (machine g.P.Peripheral old part) c.args.number c.args.call.now c.get.result
-    (orders_in g.P.Peripheral old.devices) (ap is_common c.in-Get.is)
+    common_orders (machine g.P.Peripheral c.args.self.now part) c.args.number c.args.call.now c.get.result
+    (orders_in g.P.Peripheral c.args.self.now.devices) refl (ap is_common c.in-Get.is)
