@@ -6,7 +6,7 @@ use pos_drive::Progress;
 
 /// How often a counter gave its host an order, and heard of one. No count goes beyond the largest u64.
 #[derive(Clone, Copy)]
-pub struct HostTally {
+pub(crate) struct HostTally {
     /// How often it gave the host an order.
     pub(crate) given: u64,
     /// How often the host reported that an order is done.

@@ -2,7 +2,6 @@
 //!
 //! - [`Counter`] has the controls, the claims, the devices and the totals. Its methods are the requests, and [`Ended`]
 //!   is what is left of it.
-//! - [`HostTally`] counts what passes between it and the host of its devices.
 //! - [`ControlFault`], [`InputFault`], [`WorkFault`] and [`SnapshotFault`] say why a request did nothing.
 //! - [`laws`] and [`moves`] are what follows for each run of a counter, above all what a crash leaves.
 //!
@@ -30,4 +29,3 @@ mod totals_calls;
 
 pub use counter::{Counter, Ended};
 pub use faults::{ControlFault, InputFault, SnapshotFault, WorkFault};
-pub use host_tally::HostTally;

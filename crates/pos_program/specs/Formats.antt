@@ -1,7 +1,7 @@
 -- What formatting a disk answers, and what it leaves (docs/reference/totals-file.md, "Formatting").
 use Rattle.std.specs.Prelude.{◌≡◌, ◌⊎◌, ℕ, List, true, false, Result, Ok, Err, OnOk}
 use Rattle.pos_disk.specs.Memory.{state_of}
-use Rattle.pos_disk.specs.State.{DiskState, IsAtRest, Watches}
+use Rattle.pos_disk.specs.State.{DiskState, IsAtRest}
 use Rattle.pos_file.specs.Calls.{Call}
 use Rattle.pos_file.specs.declared.block_file.BlockFile.{Ghosts as FileGhosts}
 use Rattle.pos_file.specs.declared.file_disk.FileDisk.{FileDisk}
@@ -23,12 +23,11 @@ pub record IsFormatted (old new : DiskState) : Type 0 where
   pub image : HasNewImage Layout1 no_files 1 new.reading
   pub gates : HasClosedGates new.reading
 
--- A disk that can't be formatted: totals are there, and it was only looked at; or it failed.
+-- A disk that can't be formatted: totals are there, or it failed. One with totals was only looked at, whatever is told.
 pub record IsUnformatted (old new : DiskState) (why : FileFault) : Type 0 where
   pub why_told : (why ≡ Formatted) ⊎ (why ≡ Device)
-  pub formatted : why ≡ Formatted → (is_marked old.reading ≡ true) × Watches old new
+  pub formatted : why ≡ Formatted → is_marked old.reading ≡ true
   pub device : why ≡ Device → HasFailed old new
-  -- whatever is told, a disk with totals was only looked at
   pub kept : KeepsMarked old new
 
 -- the disk that was formatted, or that a refusal hands back
