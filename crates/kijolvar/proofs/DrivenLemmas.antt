@@ -106,13 +106,6 @@ module _ (bound : DiskGhosts HostedDisk) (hosts : Device → Course) (peripheral
   all_carried (Ok u) is done = done
   all_carried (Err fault) is done = absurd (true≢false (sym is))
 
-  cut_carried : {E : Type 0} {old new : Counter HostedDisk Device} {s left : Session} {lines : List (List ℕ)}
-      {before after : Given} (result : Result (Unit {0}) E) → is_ok result ≡ false
-      → RunsGivenLines bound peripherals old s lines before after result left new
-      → RunsGivenLines {E = Unit {0}} bound peripherals old s lines before after (Err tt) left new
-  cut_carried (Ok u) is done = absurd (true≢false is)
-  cut_carried (Err fault) is done = done
-
   -- lines are carried out by a till that has begun its answer
   carries_from : {E : Type 0} (old begun : TillState) (fed : Counter HostedDisk Device) (left : Session)
       (lines : List (List ℕ)) (between : Given) (result : Result (Unit {0}) E) → BeginsAnswer old begun
@@ -162,38 +155,37 @@ module _ (bound : DiskGhosts HostedDisk) (hosts : Device → Course) (peripheral
             (ap (λ (k : TillState). k.is_driven) is ∙ ap (λ (k : TillState). k.is_driven) begins.stays) rest;
       }
 
-  pub cuts_inputs : {E : Type 0} {old begun mid : TillState} {fed : Counter HostedDisk Device}
-      (result : Result (Unit {0}) E) {new : TillState} {inputs : List ℕ} → BeginsAnswer old begun
+  pub cuts_inputs : {old begun mid : TillState} {fed : Counter HostedDisk Device} {new : TillState} {inputs : List ℕ}
+      → BeginsAnswer old begun
       → RunsGivenLines bound peripherals begun.counter (session_in peripherals begun) (lines_of inputs)
-      (given_to begun.answer) (given_to mid.answer) result (session_in peripherals mid) fed → is_ok result ≡ false
-      → fixed_of fed.totals.disk ≡ fixed_of (disk_of begun) → mid ≡ record begun {
+      (given_to begun.answer) (given_to mid.answer) mid.outcome (session_in peripherals mid) fed
+      → is_ok mid.outcome ≡ false → fixed_of fed.totals.disk ≡ fixed_of (disk_of begun) → mid ≡ record begun {
         counter = fed;
         names = mid.names;
         spares = mid.spares;
         answer = mid.answer;
         outcome = mid.outcome;
-      } → DropsHeld peripherals mid new → IsInStep (disk_of new) → CutsInputs bound hosts peripherals old inputs new
-  cuts_inputs {old} {begun} {mid} {fed} result {new} {inputs} begins done cut file is drops in_step =
+      } → DropsHeld hosts peripherals mid new → IsInStep (disk_of new)
+      → CutsInputs bound hosts peripherals old inputs new
+  cuts_inputs {old} {begun} {mid} {fed} {new} {inputs} begins done cut file is drops in_step =
       let counter : mid.counter ≡ fed = ap (λ (k : TillState). k.counter) is in
-      let answer : given_to mid.answer ≡ given_to new.answer =
-      sym (ap (λ (k : TillState). given_to k.answer) drops.stays) in
-      let session : session_in peripherals mid ≡ session_in peripherals new =
-      sym (ap (session_in peripherals) drops.stays) in
-      let whole = cut_carried result cut (carries_from old begun fed _ _ _ result begins done) in
+      let Runs : TillState → Type 0 = λ k. RunsGivenLines bound peripherals old.counter (session_in peripherals old)
+      (lines_of inputs) (given_with [] (given_to old.answer).faults) (given_to k.answer) k.outcome
+      (session_in peripherals k) fed in
       let file_stays : fixed_of (disk_of new) ≡ fixed_of (disk_of old) =
       ap (λ (t : TotalsView HostedDisk). fixed_of t.disk) drops.counter.totals
       ∙ ap (λ (c : Counter HostedDisk Device). fixed_of c.totals.disk) counter ∙ file
       ∙ ap (λ (k : TillState). fixed_of (disk_of k)) begins.stays in
       record {
         fed = fed;
-        carries = subst (λ (x : Given). RunsGivenLines {E = Unit {0}} bound peripherals old.counter
-            (session_in peripherals old) (lines_of inputs) (given_with [] (given_to old.answer).faults) x (Err tt)
-            (session_in peripherals new) fed) answer (subst (λ (x : Session). RunsGivenLines {E = Unit {0}} bound
-            peripherals old.counter (session_in peripherals old) (lines_of inputs)
-            (given_with [] (given_to old.answer).faults) (given_to mid.answer) (Err tt) x fed) session whole);
+        carries = subst Runs (sym drops.stays)
+            (carries_from old begun fed (session_in peripherals mid) (lines_of inputs) (given_to mid.answer)
+            mid.outcome begins done);
+        cut = ap (λ (k : TillState). is_ok k.outcome) drops.stays ∙ cut;
         stays = subst (λ (c : Counter HostedDisk Device). Stays peripherals c new.counter) counter drops.counter;
         tally = subst (λ (c : Counter HostedDisk Device). LeavesHostAlone c.tally new.counter.tally) counter
             drops.tally;
+        ready = drops.ready;
         held = drops.held;
         left = ap (λ (k : TillState). k.left) drops.stays;
         rest = record {

@@ -5,9 +5,11 @@ use Rattle.std.specs.declared.alloc.Global.{Global}
 use Rattle.pos_disk.specs.declared.device.Disk.{Ghosts as DiskGhosts}
 use Rattle.pos_service.specs.declared.peripheral.Peripheral.{Ghosts}
 use Rattle.pos_drive.specs.declared.courses.Course.{Course}
+use Rattle.pos_drive.specs.declared.courses.Progress.TheVariants as progress
 use Rattle.pos_counter.specs.declared.counter.Counter.{Counter}
 use Rattle.pos_counter.specs.Counters.{IsCounterSound, Stays}
 use Rattle.pos_counter.specs.HostTallies.{LeavesHostAlone}
+use Rattle.pos_counter.specs.Hosts.{progress_in}
 use Rattle.pos_script.specs.Lines.{lines_of}
 use Rattle.pos_streams.specs.Streams.{Given, given_with}
 use Rattle.pos_streams.specs.Transfers.{given_to}
@@ -49,10 +51,11 @@ pub record BeginsAnswer (old new : TillState) : Type 0 where
   pub answer : given_to new.answer ≡ given_with [] (given_to old.answer).faults
 
 -- no line is held, and no order is pending; the host was given none, and no report was taken
-pub record DropsHeld (peripherals : Ghosts Device) (old new : TillState) : Type 0 where
+pub record DropsHeld (hosts : Device → Course) (peripherals : Ghosts Device) (old new : TillState) : Type 0 where
   pub stays : new ≡ record old { counter = new.counter; held = new.held; left = Printed }
   pub counter : Stays peripherals old.counter new.counter
   pub tally : LeavesHostAlone old.counter.tally new.counter.tally
+  pub ready : progress_in hosts new.counter ≡ progress.Ready
   pub held : new.held.items ≡ []
 
 -- How lines ended is noted. Where memory ran out for what one prints, none is held any more.

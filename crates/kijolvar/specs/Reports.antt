@@ -1,5 +1,6 @@
 -- What a host's report of an order does and answers (abi/README.md, "Driven devices").
-use Rattle.std.specs.Prelude.{◌≡◌, ◌≢◌, ◌⊎◌, ◌==◌, [], ℕ, Bool, List, Ok, Err, Result, MatchResult, false, true}
+use Rattle.std.specs.Prelude.{◌≡◌, ◌≢◌, ◌⊎◌, ◌==◌, [], ℕ, Bool, List, Ok, Err, Result, MatchResult, false, is_ok}
+use Rattle.std.specs.Prelude.{true}
 use Rattle.std.specs.declared.vec.Vec.{Vec}
 use Rattle.std.specs.declared.alloc.Global.{Global}
 use Rattle.pos_disk.specs.declared.device.Disk.{Ghosts as DiskGhosts}
@@ -68,15 +69,17 @@ pub record TakesFailure (bound : DiskGhosts HostedDisk) (hosts : Device → Cour
   pub go_on : GoesOn bound hosts peripherals reported session between old.held.items new
   pub rest : KeepsRest old new
 
--- The order is not done, and memory ran out for what an input prints. No later line is carried out, and none is held.
+-- The order is not done, and memory ran out for what an input prints. No later line is carried out, none is held, and no
+-- order is pending.
 pub record CutsInputs (bound : DiskGhosts HostedDisk) (hosts : Device → Course) (peripherals : Ghosts Device)
     (old : TillState) (inputs : List ℕ) (new : TillState) : Type 0 where
   pub fed : Counter HostedDisk Device
-  pub carries : RunsGivenLines {E = Unit {0}} bound peripherals old.counter (session_in peripherals old)
-      (lines_of inputs) (given_with [] (given_to old.answer).faults) (given_to new.answer) (Err tt)
-      (session_in peripherals new) fed
+  pub carries : RunsGivenLines bound peripherals old.counter (session_in peripherals old) (lines_of inputs)
+      (given_with [] (given_to old.answer).faults) (given_to new.answer) new.outcome (session_in peripherals new) fed
+  pub cut : is_ok new.outcome ≡ false
   pub stays : Stays peripherals fed new.counter
   pub tally : LeavesHostAlone fed.tally new.counter.tally
+  pub ready : progress_in hosts new.counter ≡ progress.Ready
   pub held : new.held.items ≡ []
   pub left : new.left ≡ Printed
   pub rest : KeepsRest old new

@@ -11,7 +11,7 @@ use Rattle.pos_streams.specs.Streams.{given_with}
 use Rattle.pos_streams.specs.Transfers.{given_to}
 use Rattle.pos_run.specs.LineRuns.{RunsGivenLines, session_of}
 use Rattle.pos_run.specs.Runs.{off_over}
-use Rattle.pos_run.specs.Simulations.{simulated_all, simulated_machine}
+use Rattle.pos_run.specs.Simulations.{AreMounted, simulated_all, simulated_machine}
 use Rattle.pos_run.specs.declared.waiting_lines.LineProgress.TheVariants.{Printed}
 use Rattle.pos_run.specs.Transcript.{Session, begun_session}
 use Rattle.kijolvar.specs.declared.device.Device.{Device}
@@ -22,6 +22,7 @@ use Rattle.kijolvar.specs.Errands.{WritesOldest}
 use Rattle.kijolvar.specs.TillDisks.{DoesTold, FileFollows, HostedDisk, IsInFile, IsInStep, errands_of, fixed_of}
 use Rattle.kijolvar.specs.TillDisks.{settlement_with}
 use Rattle.kijolvar.specs.Codes.{carried, disk_failed, errands_left, ok}
+use Rattle.kijolvar.specs.Orders.{mounts_device}
 
 -- what the lines of a till have: the names of its controls, and its spares
 abbrev pub session_in : Ghosts Device → TillState → Session
@@ -40,13 +41,14 @@ abbrev pub settlement_of : TillState → Settlement
 settlement_of till = settlement_with (disk_of till).work till.failed
 
 -- A new till over a disk: the devices of a profile, each served by what is simulated for it, its spares, no control,
--- totals that are off, and no order; no errand was told, and none failed.
+-- totals that are off, and no order; no errand was told, and none failed. No device is driven.
 pub record Begins (peripherals : Ghosts Device) (contents : Contents) (disk : HostedDisk)
     (till : TillState) : Type 0 where
   pub profile : till.profile ≡ contents
   pub served : (part : TotalsPart)
       → machine peripherals till.counter part ≡ simulated_machine contents.devices part
   pub totals : till.counter.totals ≡ off_over disk
+  pub mounted : AreMounted mounts_device contents till.counter till.spares
   pub session : session_in peripherals till ≡ begun_session (simulated_all contents.spares)
   pub answer : given_to till.answer ≡ given_with [] 0
   pub outcome : till.outcome ≡ Ok tt

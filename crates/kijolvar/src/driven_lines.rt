@@ -37,7 +37,7 @@ impl TillState {
     /// Drops the lines that are held, and what the host has of their order.
     fn drop_held(&mut self)
         requires { IsTillSound ⟦<Device as Peripheral>⟧ self.old }
-        ensures drops { DropsHeld ⟦<Device as Peripheral>⟧ self.old self.new }
+        ensures drops { DropsHeld ⟦<Device as Awaits>⟧.course ⟦<Device as Peripheral>⟧ self.old self.new }
         ensures sound { IsTillSound ⟦<Device as Peripheral>⟧ self.new }
     {
         self.held.clear();

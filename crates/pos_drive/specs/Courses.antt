@@ -1,5 +1,5 @@
 -- How a peripheral stands to its host, and what becomes of that.
-use Rattle.std.specs.Prelude.{◌≡◌, ◌⊎◌, Bool, Option, Some, None, Result, Ok, Err}
+use Rattle.std.specs.Prelude.{◌≡◌, ◌≢◌, ◌⊎◌, Bool, Option, Some, None, Result, Ok, Err}
 use Rattle.pos_service.specs.declared.faults.NoMemory.{NoMemory}
 use Rattle.pos_service.specs.declared.order.Order.{Order}
 use Rattle.pos_service.specs.declared.order.Reply.{Reply}
@@ -44,7 +44,9 @@ abbrev pub settled_course : Course → Course
 settled_course Free = Free
 settled_course course = Ready
 
--- an answer settles the order that was given; otherwise nothing has changed, or the order waits from now on
+-- an answer settles the order that was given; otherwise nothing has changed, or the order waits from now on, unless the
+-- host has reported what became of it
 abbrev pub MovesOn : Course → Order → Result Reply NoMemory → Course → Type 0
 MovesOn old asked (Ok said) new = new ≡ settled_course old
-MovesOn old asked (Err want) new = (new ≡ old) ⊎ (new ≡ Waits asked)
+MovesOn old asked (Err want) new =
+    (new ≡ old) ⊎ ((new ≡ Waits asked) × ((is_done : Bool) → old ≢ Reported asked is_done))

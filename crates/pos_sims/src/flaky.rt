@@ -1,5 +1,6 @@
 //! A flaky line to a peripheral.
 ghost use Rattle.std.specs.Prelude.{◌≡◌, ◌+◌, ◌&&◌, true, false, nat_le, nat_lt};
+ghost use Rattle.pos_drive.specs.Papers.{TearsOff};
 ghost use Rattle.pos_service.specs.Peripherals.{Asked, Fed, Parks, input_fits, order_fits};
 ghost use Rattle.pos_sims.specs.Flakies.{CountsOrder, Fails, KeepsSchedule, fails_next, flaky_of, state_of};
 
@@ -115,7 +116,10 @@ impl<P: PrintPreview> PrintPreview for Flaky<P> {
 }
 
 impl<P: Tears> Tears for Flaky<P> {
-    fn tear_off(&mut self) -> Result<(), NoMemory> {
+    fn tear_off(&mut self) -> Result<(), NoMemory>
+        ensures torn { TearsOff (state_of P.Peripheral self.old) result (state_of P.Peripheral self.new) }
+        ensures schedule { KeepsSchedule self.old self.new }
+    {
         self.inner.tear_off()
     }
 }

@@ -26,6 +26,6 @@ returns-else-is_ok-clause-takes c =
     let ran = c.run_given_lines-self in
     let file = lines_fixed disks devices begun.counter ran.new.counter (session_in devices begun)
     (lines_of c.args.inputs.now) _ _ ran.result _ ran.ensures.lines in
-    inr (cuts_inputs disks hosts devices ran.result c.begin_answer.ensures.begins ran.ensures.lines
+    inr (cuts_inputs disks hosts devices c.begin_answer.ensures.begins ran.ensures.lines
     (sym c.is_ok.ensures.value ∙ c.if-is_ok.false) file refl c.drop_held.ensures.drops
     (rw c.disk.ensures at c.is_in_step.ensures))
