@@ -5,13 +5,21 @@
 
 static void refuses(void) {
     static const char *const none[] = {"d", "d11", "t1", "", "r2"};
-    static const char profile[] = "[[device]]\nname = \"d1\"\ncategory = \"CashDrawer\"\nflaky = [2, 1]\n";
+    static const char profile[] = "[[device]]\nname = \"d1\"\ncategory = \"CashDrawer\"\nflaky = [2, 1]\n"
+                                  "[[spare]]\ncategory = \"CashDrawer\"\n"
+                                  "[[spare]]\ncategory = \"CashDrawer\"\nflaky = [2, 1]\n";
     shop self;
     opens(&self);
     for (size_t place = 0; place < sizeof none / sizeof none[0]; place++) drives(&self, none[place], KIJOLVAR_NO_DEVICE);
     done(&self, "", KIJOLVAR_NO_ORDER, NULL);
     kijolvar_close(self.till);
     wants("a profile", kijolvar_open((const uint8_t *)profile, strlen(profile), &self.till.at) == KIJOLVAR_OK);
+    drives(&self, "d1", KIJOLVAR_NO_DEVICE);
+    lines(&self, "detach d1\n", KIJOLVAR_OK, "ok\n");
+    drives(&self, "d1", KIJOLVAR_NO_DEVICE);
+    lines(&self, "attach d1 1\n", KIJOLVAR_OK, "ok\n");
+    drives(&self, "d1", KIJOLVAR_OK);
+    lines(&self, "detach d1\nattach d1 2\n", KIJOLVAR_OK, "ok\nok\n");
     drives(&self, "d1", KIJOLVAR_NO_DEVICE);
     kijolvar_close(self.till);
 }
@@ -86,8 +94,10 @@ static void works(void) {
     kijolvar_close(self.till);
 }
 
+static int cuts;
+
 /* A report whose nth allocation is refused, and each later one: it is made again until it is taken, with enough memory
-   from then on. Returns whether memory ran out. */
+   from then on. After one whose answer was cut the till goes on without its lines. Returns whether memory ran out. */
 static bool runs_out(long n, uint32_t outcome, const char *inputs, const char *wanted, const char *shown) {
     shop self;
     char text[64] = "";
@@ -104,6 +114,10 @@ static bool runs_out(long n, uint32_t outcome, const char *inputs, const char *w
     }
     may_come = 1L << 40;
     if (code == KIJOLVAR_CUT) {
+        cuts++;
+        order(&self, "");
+        done(&self, "", KIJOLVAR_NO_ORDER, NULL);
+        lines(&self, "show d1\n", KIJOLVAR_OK, "ok closed\n");
         kijolvar_close(self.till);
         return true;
     }
@@ -128,6 +142,7 @@ int main(void) {
         wants("an end", n < 1000);
     for (n = 0; runs_out(n, 1, "input r1 cover open\n", "ok\nerr 114 201\nok 2\n", "ok open 100 -:-\n"); n++)
         wants("an end", n < 1000);
+    wants("a cut answer", cuts > 0);
     printf("as they should be\n");
     return 0;
 }

@@ -3,6 +3,7 @@ ghost use Rattle.std.specs.Prelude.{◌≡◌, ◌≢◌, false, true, Ok};
 ghost use Rattle.pos_service.specs.Peripherals.{Asked, Fed, Parks, input_fits, order_fits};
 ghost use Rattle.pos_drive.specs.Courses.{MovesOn};
 ghost use Rattle.pos_drive.specs.declared.courses.Course.TheVariants.{Free, Reported};
+ghost use Rattle.kijolvar.specs.Hosts.{has_steady_line};
 ghost use Rattle.kijolvar.specs.Orders.{device_course, device_state, mounts_device};
 
 use crate::order_queue::{OrderQueue, OrderSender};
@@ -32,6 +33,16 @@ impl Device {
         ensures { result.now ≡ self.now.driven.twin }
     {
         self.driven.twin()
+    }
+
+    /// Returns whether the line of the simulated peripheral doesn't fail.
+    pub(crate) fn is_steady(&self) -> bool
+        ensures { result ≡ has_steady_line self.now.driven.twin }
+    {
+        match self.driven.twin() {
+            Wrapped::Bare(_) | Wrapped::Recorded(_) => true,
+            Wrapped::Flaky(_) | Wrapped::Both(_) => false,
+        }
     }
 }
 

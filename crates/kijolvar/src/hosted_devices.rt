@@ -1,7 +1,9 @@
 //! What a till has for a host with devices of its own.
 ghost use Rattle.std.specs.Prelude.{◌≡◌};
+ghost use Rattle.pos_counter.specs.Hosts.{served_named};
+ghost use Rattle.pos_counter.specs.KeptDevices.{slots_in};
 ghost use Rattle.kijolvar.specs.HeldLines.{IsTillSound};
-ghost use Rattle.kijolvar.specs.Hosts.{Drives, IsHostCode, is_drivable, is_hostable, may_be_driven, may_be_hosted};
+ghost use Rattle.kijolvar.specs.Hosts.{Drives, IsHostCode, is_drivable, is_hostable, may_be_hosted};
 ghost use Rattle.kijolvar.specs.NextOrders.{GivesDriven, HandsOut, NextOrder};
 ghost use Rattle.kijolvar.specs.Orders.{Refills, order_lines};
 
@@ -48,32 +50,30 @@ pub(crate) fn host_device(profile: &Profile, order_queue: &OrderQueue, name: &[u
     }
 }
 
-/// Returns whether an entry has this name, may have a peripheral, and has no line that fails.
-fn is_drivable(entry: &Entry, name: &[u8]) -> bool
-    ensures { result ≡ is_drivable name.now entry.now }
+/// Returns whether the device of a name is served by a peripheral whose line doesn't fail.
+fn is_drivable(till_state: &TillState, name: &[u8]) -> bool
+    ensures { result ≡ is_drivable (served_named name.now (slots_in till_state.now.counter.devices)) }
 {
-    is_hostable(entry, name) && entry.flaky.is_none()
-}
-
-/// Returns whether a device of this name may be driven.
-fn may_be_driven(entries: &[Entry], name: &[u8]) -> bool
-    ensures { result ≡ may_be_driven entries.now name.now }
-{
-    entries.iter().any(|entry| is_drivable(entry, name))
+    match till_state.counter.served(name) {
+        Some(device) => device.is_steady(),
+        None => false,
+    }
 }
 
 /// Makes the orders of the device of a name wait for the host from now on, and returns OK.
 ///
 /// # Errors
 ///
-/// NO_DEVICE if no device of the name may be driven, or nothing serves it. Then nothing changes.
+/// NO_DEVICE if there is no device of the name, or it is vacant, or the line of what serves it fails. Then nothing
+/// changes.
+#[tactic(auto, using(crate::proofs::HostsLemmas::drivable_is_served))]
 pub(crate) fn drive_device(till_state: &mut TillState, name: &[u8]) -> u32
     requires { IsTillSound ⟦<Device as Peripheral>⟧ till_state.old }
     ensures drives { Drives ⟦<Device as Awaits>⟧.course ⟦<Device as Peripheral>⟧ till_state.old name.now result
         till_state.new }
     ensures sound { IsTillSound ⟦<Device as Peripheral>⟧ till_state.new }
 {
-    if !may_be_driven(till_state.profile.devices(), name) {
+    if !is_drivable(till_state, name) {
         return NO_DEVICE;
     }
     if !till_state.counter.drive(name) {

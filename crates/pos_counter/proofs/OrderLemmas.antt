@@ -83,7 +83,7 @@ module _ (m : Machine) (n : ℕ) (asked : Call) where
 
   -- a call that every category has gives no order: where the counts stay as they were, its clause holds
   pub common_orders : (o : Result Answer NoMemory) (orders : List (Option ℕ)) {new : List (Option ℕ)} → new ≡ orders
-      → is_common asked ≡ true → OrdersOfCall m n asked o new orders
+      → is_common asked ≡ true → OrdersOfCall m n asked o orders new
   common_orders o orders same common = rw same (by (slice_get m.controls n))
     where
       by : (found : Option Control) → MatchOption found (orders ≡ orders)
