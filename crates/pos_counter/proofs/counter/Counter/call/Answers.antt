@@ -1,4 +1,4 @@
-use Rattle.pos_counter.proofs.Common.{Ok, SFits, ap, is_common, machine, rules, to_z-of_z, w128}
+use Rattle.pos_counter.proofs.Common.{Ok, SFits, ap, is_common, machine, refl, rules, to_z-of_z, w128}
 use Rattle.pos_counter.proofs.OrderLemmas.{common_orders}
 use Rattle.pos_counter.proofs.ServiceLemmas.{quiet_step}
 use Rattle.pos_counter.specs.Orders.{orders_in}
