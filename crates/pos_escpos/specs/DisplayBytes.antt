@@ -12,6 +12,10 @@ use Rattle.pos_escpos.specs.Screens.{Make}
 abbrev pub make_of : DisplayProtocol → Display → Make
 make_of is display = record { protocol = is; rows = display.rows; columns = display.columns }
 
+-- ESC @, and then clear
+abbrev pub display_start : List ℕ
+display_start = 27 ∷ 64 ∷ 12 ∷ []
+
 -- the characters of cells: attributes aren't shown
 abbrev pub characters_of : List DisplayCell → List ℕ
 characters_of cells = map (λ cell. cell.character) cells

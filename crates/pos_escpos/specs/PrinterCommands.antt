@@ -35,6 +35,15 @@ pin_number pin.Five = 5
 abbrev pub kick_pulse : DrawerKick → Pulse
 kick_pulse kick = record { pin = pin_number kick.pin; on = kick.on; off = kick.off }
 
+-- the number of a pin in ESC p
+abbrev pub kick_number : DrawerPin → ℕ
+kick_number pin.Two = 0
+kick_number pin.Five = 1
+
+-- ESC p
+abbrev pub kick_command : DrawerKick → List ℕ
+kick_command kick = 27 ∷ 112 ∷ kick_number kick.pin ∷ kick.on ∷ kick.off ∷ []
+
 -- the number of a status in DLE EOT
 abbrev pub now_number : NowStatus → ℕ
 now_number now.Printer = 1

@@ -3,7 +3,7 @@ ghost use Rattle.std.specs.Prelude.{◌≡◌, [], ◌++◌, ◌+◌, ◌*◌, �
 ghost use Rattle.std.specs.List.{list_all};
 ghost use Rattle.pos_service.specs.Displays.{blank_display};
 ghost use Rattle.pos_escpos.specs.declared.bytes_fault.BytesFault.TheVariants as fault;
-ghost use Rattle.pos_escpos.specs.DisplayBytes.{can_become, characters_of, is_character, is_whole, make_of, row_bytes, row_start, rows_bytes};
+ghost use Rattle.pos_escpos.specs.DisplayBytes.{can_become, characters_of, display_start, is_character, is_whole, make_of, row_bytes, row_start, rows_bytes};
 ghost use Rattle.pos_escpos.specs.Screens.{IsShowing, Make, Screen, ShowsOnly, screen_after};
 
 use crate::bytes_fault::BytesFault;
@@ -14,8 +14,9 @@ use std::alloc::{AllocError, Global};
 
 /// Returns the bytes that a connection to a display begins with: it is initialized and cleared.
 pub fn display_start_bytes() -> [u8; 3]
+    ensures bytes { result ≡ display_start }
     // Whatever it showed, it shows blanks then.
-    ensures { (make : Make) (screen : Screen) → screen.begun ≡ [] →
+    ensures starts { (make : Make) (screen : Screen) → screen.begun ≡ [] →
         ShowsOnly screen (characters_of (blank_display make.rows make.columns).cells)
         (screen_after make screen result) }
 {

@@ -1,6 +1,6 @@
 //! The commands for a printer that print nothing: the start, the drawer, and what asks for a status.
 ghost use Rattle.std.specs.Prelude.{◌≡◌, ℕ, ◌++◌, ◌∷◌, []};
-ghost use Rattle.pos_escpos.specs.PrinterCommands.{IsStarted, job_command, kick_pulse, now_command, order_command, start_command};
+ghost use Rattle.pos_escpos.specs.PrinterCommands.{IsStarted, job_command, kick_command, kick_pulse, now_command, order_command, start_command};
 ghost use Rattle.pos_escpos.specs.Printers.{Press, press_after, questioned};
 
 use crate::settings::{DrawerKick, DrawerPin};
@@ -40,7 +40,8 @@ pub fn start_bytes(is_automatic: bool) -> [u8; 5]
 impl DrawerKick {
     /// Returns the bytes that open the drawer: one pulse.
     pub fn bytes(self) -> [u8; 5]
-        ensures { (width : ℕ) (press : Press) → press.begun ≡ [] →
+        ensures bytes { result ≡ kick_command self }
+        ensures kicks { (width : ℕ) (press : Press) → press.begun ≡ [] →
             press_after width press result ≡ record press { pulses = press.pulses ++ kick_pulse self ∷ [] } }
     {
         let pin = match self.pin {

@@ -1,6 +1,6 @@
 -- What devices do with the bytes of an order, by the machine's mechanism.
 use Rattle.std.proofs.Common.{◌≡◌, ℕ, List, [], ◌∷◌, ◌++◌, Bool, true, false, append-nil, refl, sym, ◌∙◌, subst, arith}
-use Rattle.std.proofs.Common.{inl, inr}
+use Rattle.std.proofs.Common.{inl, inr, Err, IfOk, Ok, Result}
 use Rattle.pos_service.specs.declared.kind.Kind.TheVariants as kind
 use Rattle.pos_service.specs.declared.order.Order.{Order}
 use Rattle.pos_service.specs.declared.order.Order.TheVariants as order
@@ -15,14 +15,21 @@ use Rattle.pos_service.specs.Receipts.{Item, Printer, printed_by}
 use Rattle.pos_sims.specs.Additions.{Adds, PrintsNothing, pieces_ordered}
 use Rattle.pos_escpos.specs.declared.settings.DrawerKick.{DrawerKick}
 use Rattle.pos_escpos.specs.DisplayBytes.{can_become}
-use Rattle.pos_escpos.specs.PrinterBytes.{all_fit, all_on_paper}
-use Rattle.pos_escpos.specs.PrinterCommands.{kick_pulse}
+use Rattle.pos_escpos.specs.PrinterBytes.{all_fit, all_on_paper, items_bytes}
+use Rattle.pos_escpos.specs.PrinterCommands.{kick_command, kick_pulse}
 use Rattle.pos_escpos.specs.Printers.{IsReady, OnPaper, Press, PrintsOnly, press_after}
 use Rattle.pos_wire.specs.declared.frames.JobEnd.{JobEnd}
 use Rattle.pos_wire.specs.declared.settings.WireSettings.{WireSettings}
-use Rattle.pos_wire.specs.Frames.{AllDo, Does, asked_first, asked_last}
-use Rattle.pos_wire.specs.Orders.{AllShow, HasNoBytes, Sends, SendsOrder, has_bytes, known_before, lit}
+use Rattle.pos_wire.specs.Frames.{AllDo, Does, asked_first, asked_last, framed_bytes}
+use Rattle.pos_wire.specs.Orders.{AllShow, HasNoBytes, Sends, SendsOrder, bytes_of, has_bytes, known_before, lit}
+use Rattle.pos_wire.specs.Orders.{shown_bytes}
 use Rattle.pos_wire.specs.Settings.{cut_of, kick_of}
+
+-- what two facts of a value say together
+pub both_of_ok : {X Y : Type 0} (r : Result X Y) (P Q R : X → Type 0) → ((x : X) → P x → Q x → R x) → IfOk r P
+    → IfOk r Q → IfOk r R
+both_of_ok (Ok x) P Q R both p q = both x p q
+both_of_ok (Err e) P Q R both p q = tt
 
 -- A drawer that takes an order opens by it. That one order is named makes the last line one for each of the others.
 drawer_opens : (asked : Order) (was : Bool) → order_fits kind.Drawer asked ≡ true
@@ -30,34 +37,33 @@ drawer_opens : (asked : Order) (was : Bool) → order_fits kind.Drawer asked ≡
 drawer_opens order.ClearText was fits = grind arith
 drawer_opens asked was fits = grind arith
 
-opens : (asked : Order) (old : Mechanism) → IsMechanismOf kind.Drawer old → order_fits kind.Drawer asked ≡ true
-    → Obeys asked old reply.Done (mechanism.Drawer true)
-opens asked (mechanism.Drawer was) is fits = drawer_opens asked was fits
-opens asked mechanism.Scanner is fits = absurd is
-opens asked (mechanism.Display shown) is fits = absurd is
-opens asked (mechanism.Printer printed) is fits = absurd is
-
--- a pulse for it
-pulses : (settings : WireSettings) (is_new : Bool) (end : JobEnd) (asked : Order) (old : Mechanism) (bytes : List ℕ)
-    → IsMechanismOf kind.Drawer old → ((width : ℕ)
-    → AllDo is_new width [] (kick_pulse (kick_of settings) ∷ []) (asked_first is_new ++ asked_last end) bytes)
-    → Sends settings is_new end asked old (mechanism.Drawer true) bytes
-pulses settings is_new end asked (mechanism.Drawer was) bytes is all = all
-pulses settings is_new end asked mechanism.Scanner bytes is all = grind arith
-pulses settings is_new end asked (mechanism.Display shown) bytes is all = grind arith
-pulses settings is_new end asked (mechanism.Printer printed) bytes is all = grind arith
+-- the mechanism of a drawer
+is_drawer : (old : Mechanism) → IsMechanismOf kind.Drawer old → (was : Bool) × (old ≡ mechanism.Drawer was)
+is_drawer (mechanism.Drawer was) is = (was, refl)
+is_drawer mechanism.Scanner is = absurd is
+is_drawer (mechanism.Display shown) is = absurd is
+is_drawer (mechanism.Printer printed) is = absurd is
 
 pub drawer_sends : {settings : WireSettings} {is_new : Bool} {end : JobEnd} {state : PeripheralState} {asked : Order}
     {bytes : List ℕ} → IsOn state.plant → IsPlantOf kind.Drawer state.plant → order_fits kind.Drawer asked ≡ true
-    → ((width : ℕ)
+    → bytes ≡ framed_bytes is_new end (kick_command (kick_of settings)) → ((width : ℕ)
     → AllDo is_new width [] (kick_pulse (kick_of settings) ∷ []) (asked_first is_new ++ asked_last end) bytes)
     → SendsOrder settings is_new end state asked bytes
-drawer_sends {settings} {is_new} {end} {state} {asked} {bytes} is_on is fits all =
-    let there = opens asked state.plant.mechanism is fits in
+drawer_sends {settings} {is_new} {end} {state} {asked} {bytes} is_on is fits exact all =
+    let left = mechanism.Drawer true in
+    let drawer = is_drawer state.plant.mechanism is in
     record {
-      new = switched_on (mechanism.Drawer true);
-      done = (is_on, refl, there);
-      sends = pulses settings is_new end asked state.plant.mechanism bytes is all;
+      new = switched_on left;
+      done = (
+        is_on,
+        refl,
+        subst (λ (old : Mechanism). Obeys asked old reply.Done left) (sym drawer.1)
+            (drawer_opens asked drawer.0 fits),
+      );
+      sends =
+          subst (λ (old : Mechanism). Sends settings is_new end asked old left bytes) (sym drawer.1) all;
+      exact =
+          subst (λ (old : Mechanism). bytes ≡ bytes_of settings is_new end asked old left) (sym drawer.1) exact;
     }
 
 -- a printer that gives a pulse alone
@@ -88,18 +94,22 @@ prints_alone width sent h press ready =
     }
 
 pub printer_sends : {settings : WireSettings} {is_new : Bool} {end : JobEnd} {state : PeripheralState} {asked : Order}
-    {roll : Printer} {bytes : List ℕ} → Adds state.plant asked roll → AllDo is_new settings.width
+    {roll : Printer} {bytes : List ℕ} → Adds state.plant asked roll
+    → bytes ≡ framed_bytes is_new end (items_bytes (cut_of settings) roll.items) → AllDo is_new settings.width
     (all_on_paper (cut_of settings) roll.items) [] (asked_first is_new ++ asked_last end) bytes
     → SendsOrder settings is_new end state asked bytes
-printer_sends {settings} {is_new} {end} {state} {asked} {roll} {bytes} adds all =
+printer_sends {settings} {is_new} {end} {state} {asked} {roll} {bytes} adds exact all =
     let printer = adds.printer in
     let left = mechanism.Printer (record roll { items = printer.items ++ roll.items }) in
     let same = subst (λ (items : List Item). AllDo is_new settings.width (all_on_paper (cut_of settings) items) []
     (asked_first is_new ++ asked_last end) bytes) adds.items all in
+    let sent = subst (λ (items : List Item). bytes ≡ framed_bytes is_new end (items_bytes (cut_of settings) items))
+    adds.items exact in
     record {
       new = record state.plant { mechanism = left };
       done = adds.done;
       sends = subst (λ (old : Mechanism). Sends settings is_new end asked old left bytes) (sym adds.stands) same;
+      exact = subst (λ (old : Mechanism). bytes ≡ bytes_of settings is_new end asked old left) (sym adds.stands) sent;
     }
 
 -- a display that is on
@@ -108,12 +118,14 @@ lit_is is_on is = grind arith
 
 pub display_sends : {settings : WireSettings} {is_new : Bool} (end : JobEnd) {state : PeripheralState} {asked : Order}
     {old : Display} (new : Display) {bytes : List ℕ} → IsOn state.plant → state.plant.mechanism ≡ mechanism.Display old
-    → Performs asked (lit old) reply.Done (lit new) → AllShow settings is_new old new bytes
-    → SendsOrder settings is_new end state asked bytes
-display_sends {settings} {is_new} end {asked} new {bytes} is_on is done shows = record {
+    → Performs asked (lit old) reply.Done (lit new) → bytes ≡ shown_bytes settings is_new old new
+    → AllShow settings is_new old new bytes → SendsOrder settings is_new end state asked bytes
+display_sends {settings} {is_new} end {asked} new {bytes} is_on is done exact shows = record {
   new = lit new;
   done = subst (λ (plant : Plant). Performs asked plant reply.Done (lit new)) (sym (lit_is is_on is)) done;
   sends = subst (λ (was : Mechanism). Sends settings is_new end asked was (mechanism.Display new) bytes) (sym is) shows;
+  exact = subst (λ (was : Mechanism). bytes ≡ bytes_of settings is_new end asked was (mechanism.Display new)) (sym is)
+      exact;
 }
 
 -- Orders that have no bytes.

@@ -1,6 +1,7 @@
--- What printers do with the bytes around an order, and with bytes of one.
+-- The bytes around an order for a printer, and what printers do with them and with those of the order.
 use Rattle.std.specs.Prelude.{◌≡◌, ℕ, Bool, true, false, List, [], ◌∷◌, ◌++◌}
-use Rattle.pos_escpos.specs.PrinterCommands.{automatic_command, job_command, order_command}
+use Rattle.std.specs.List.{concat}
+use Rattle.pos_escpos.specs.PrinterCommands.{automatic_command, job_command, order_command, start_command}
 use Rattle.pos_escpos.specs.Printers.{IsReady, OnPaper, Press, Pulse, press_after}
 use Rattle.pos_wire.specs.declared.frames.JobEnd.{JobEnd}
 use Rattle.pos_wire.specs.declared.frames.JobEnd.TheVariants as job_end
@@ -14,6 +15,15 @@ abbrev pub asked_last : JobEnd → List (List ℕ)
 asked_last job_end.Nothing = []
 asked_last (job_end.Job number) = job_command number ∷ []
 asked_last (job_end.Status status) = order_command status ∷ []
+
+-- the bytes that come before those of an order: the start, if the connection is new
+abbrev pub bytes_before : Bool → List ℕ
+bytes_before true = start_command true
+bytes_before false = []
+
+-- the bytes of an order with what is around them: what asks for a status or a job's end is behind them
+abbrev pub framed_bytes : Bool → JobEnd → List ℕ → List ℕ
+framed_bytes is_new end bytes = bytes_before is_new ++ bytes ++ concat (asked_last end)
 
 -- a printer whose connection is new may have begun a line, but no command; else it is ready
 abbrev pub IsOpen : Bool → Press → Type 0

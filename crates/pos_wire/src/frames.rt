@@ -1,7 +1,8 @@
 //! What stands around an order's bytes for a printer: the start of a connection, and what is asked behind them.
 ghost use Rattle.std.specs.Prelude.{◌≡◌, ◌++◌, ℕ, List, [], false, IfOk, OnOk};
+ghost use Rattle.std.specs.List.{concat};
 ghost use Rattle.pos_escpos.specs.Printers.{OnPaper, Pulse};
-ghost use Rattle.pos_wire.specs.Frames.{AllDo, asked_first, asked_last};
+ghost use Rattle.pos_wire.specs.Frames.{AllDo, asked_first, asked_last, bytes_before, framed_bytes};
 
 use pos_escpos::{OrderStatus, job_bytes, start_bytes};
 use std::alloc::{AllocError, Global};
@@ -19,7 +20,8 @@ pub enum JobEnd {
 
 /// Returns the bytes that come before those of an order.
 fn first_bytes(alloc: Global, is_new: bool) -> Result<Vec<u8>, AllocError>
-    ensures { IfOk result (λ bytes. (width : ℕ) → AllDo is_new width [] [] (asked_first is_new) bytes.items) }
+    ensures bytes { IfOk result (λ bytes. bytes.items ≡ bytes_before is_new) }
+    ensures does { IfOk result (λ bytes. (width : ℕ) → AllDo is_new width [] [] (asked_first is_new) bytes.items) }
 {
     if !is_new {
         return Ok(Vec::new(alloc));
@@ -29,7 +31,8 @@ fn first_bytes(alloc: Global, is_new: bool) -> Result<Vec<u8>, AllocError>
 
 /// Returns the bytes that ask for what is asked behind an order.
 fn last_bytes(alloc: Global, end: JobEnd) -> Result<Vec<u8>, AllocError>
-    ensures { IfOk result (λ bytes. (width : ℕ) → AllDo false width [] [] (asked_last end) bytes.items) }
+    ensures bytes { IfOk result (λ bytes. bytes.items ≡ concat (asked_last end)) }
+    ensures does { IfOk result (λ bytes. (width : ℕ) → AllDo false width [] [] (asked_last end) bytes.items) }
 {
     match end {
         JobEnd::Nothing => Ok(Vec::new(alloc)),
@@ -45,7 +48,8 @@ pub(crate) fn framed(
     sent: &[u8],
     end: JobEnd,
 ) -> Result<Vec<u8>, AllocError>
-    ensures { IfOk result (λ bytes. (width : ℕ) (items : List OnPaper) (pulses : List Pulse) →
+    ensures bytes { IfOk result (λ bytes. bytes.items ≡ framed_bytes is_new end sent.now) }
+    ensures does { IfOk result (λ bytes. (width : ℕ) (items : List OnPaper) (pulses : List Pulse) →
         AllDo false width items pulses [] sent.now →
         AllDo is_new width items pulses (asked_first is_new ++ asked_last end) bytes.items) }
 {

@@ -3,7 +3,7 @@ ghost use Rattle.std.specs.Prelude.{◌≡◌, ◌≤◌, ℕ, [], true, false, 
 ghost use Rattle.pos_service.specs.declared.kind.Kind.TheVariants as kind;
 ghost use Rattle.pos_service.specs.Kinds.{is_display};
 ghost use Rattle.pos_service.specs.Peripherals.{IsPlantOf, order_fits};
-ghost use Rattle.pos_escpos.specs.PrinterBytes.{all_fit, all_on_paper};
+ghost use Rattle.pos_escpos.specs.PrinterBytes.{all_fit, all_on_paper, items_bytes};
 ghost use Rattle.pos_wire.specs.declared.frames.JobEnd.{JobEnd};
 ghost use Rattle.pos_wire.specs.declared.wire_fault.WireFault.TheVariants as fault;
 ghost use Rattle.pos_wire.specs.Frames.{AllDo};
@@ -53,6 +53,7 @@ fn roll_bytes(
 ) -> Result<Vec<u8>, WireFault>
     requires width { chars ≤ settings.now.width }
     requires feed { settings.now.feed ≤ 255 }
+    ensures bytes { IfOk result (λ bytes. bytes.items ≡ items_bytes (cut_of settings.now) roll.now.items) }
     ensures prints { let settings = settings.now in IfOk result (λ bytes.
         AllDo false settings.width (all_on_paper (cut_of settings) roll.now.items) [] [] bytes.items) }
     ensures no_bytes { IsErrOf result fault.NoBytes → all_fit chars roll.now.items ≡ false }
@@ -139,7 +140,7 @@ pub fn order_bytes<P: PrintPreview>(
     twin: &P,
     order: &Order,
 ) -> Result<Vec<u8>, WireFault>
-    // The machine carries the order out, and the device does the same with the bytes.
+    // The machine carries the order out, and the device does the same with the bytes, which are exactly the order's.
     ensures sends { let state = P.Peripheral.state twin.now in
         IfOk result (λ bytes. SendsOrder settings.now is_new end state order.now bytes.items) }
     ensures no_bytes { let state = P.Peripheral.state twin.now in

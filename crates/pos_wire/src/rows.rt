@@ -3,10 +3,10 @@ ghost use Rattle.std.specs.Prelude.{◌≡◌, ◌≤◌, ◌*◌, false, true, 
 ghost use Rattle.pos_service.specs.declared.kind.Kind.TheVariants as kind;
 ghost use Rattle.pos_service.specs.declared.order.Reply.TheVariants as reply;
 ghost use Rattle.pos_service.specs.Peripherals.{Performs, order_fits};
-ghost use Rattle.pos_escpos.specs.DisplayBytes.{can_become, characters_of, make_of};
+ghost use Rattle.pos_escpos.specs.DisplayBytes.{can_become, characters_of, make_of, rows_bytes};
 ghost use Rattle.pos_escpos.specs.Screens.{IsShowing, Screen, ShowsOnly, screen_after};
 ghost use Rattle.pos_wire.specs.declared.wire_fault.WireFault.TheVariants as fault;
-ghost use Rattle.pos_wire.specs.Orders.{AllShow, known_before, lit};
+ghost use Rattle.pos_wire.specs.Orders.{AllShow, known_before, lit, shown_bytes};
 
 use crate::settings::WireSettings;
 use crate::wire_fault::WireFault;
@@ -48,6 +48,8 @@ fn changed_rows(
     before: &DisplayCells,
     after: &DisplayCells,
 ) -> Result<Vec<u8>, WireFault>
+    ensures bytes { IfOk result (λ bytes. bytes.items
+        ≡ rows_bytes protocol after.now.columns 1 after.now.rows before.now.cells after.now.cells) }
     ensures shows { IfOk result (λ bytes. (screen : Screen) → IsShowing (characters_of before.now.cells) screen →
         ShowsOnly screen (characters_of after.now.cells)
         (screen_after (make_of protocol after.now) screen bytes.items)) }
@@ -70,6 +72,7 @@ pub(crate) fn row_bytes(
     before: &DisplayCells,
     after: &DisplayCells,
 ) -> Result<Vec<u8>, WireFault>
+    ensures bytes { IfOk result (λ bytes. bytes.items ≡ shown_bytes settings.now is_new before.now after.now) }
     ensures shows { IfOk result (λ bytes. AllShow settings.now is_new before.now after.now bytes.items) }
     ensures no_bytes { IsErrOf result fault.NoBytes →
         can_become (known_before is_new before.now after.now) after.now ≡ false }

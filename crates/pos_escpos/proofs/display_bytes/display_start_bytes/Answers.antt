@@ -1,5 +1,5 @@
 use Rattle.pos_escpos.proofs.DisplayLemmas.{starts_blank}
 use Rattle.pos_escpos.proofs.display_bytes.display_start_bytes.Goals as goal
 
-pub returns : goal.returns
-returns c = starts_blank
+pub returns-clause-starts : goal.returns-clause-starts
+returns-clause-starts c = starts_blank

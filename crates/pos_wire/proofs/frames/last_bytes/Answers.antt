@@ -4,8 +4,8 @@ use Rattle.pos_wire.specs.Frames.{AllDo, asked_last}
 use Rattle.pos_wire.proofs.FrameLemmas.{asks}
 use Rattle.pos_wire.proofs.frames.last_bytes.Goals as goal
 
-pub returns-in-Job : goal.returns-in-Job
-returns-in-Job c =
+pub returns-in-Job-clause-does : goal.returns-in-Job-clause-does
+returns-in-Job-clause-does c =
     let sent = c.job_bytes.result in
     let asked : sent ∷ [] ≡ asked_last c.args.end =
     ap (λ (s : List ℕ). s ∷ []) c.job_bytes.ensures.bytes ∙ ap asked_last (sym c.in-Job.is) in

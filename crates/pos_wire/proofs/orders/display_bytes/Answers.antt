@@ -1,10 +1,9 @@
 use Rattle.std.proofs.Common.{◌≡◌, rules}
-use Rattle.std.proofs.lemmas.Result.{IfOk-weaker}
 use Rattle.pos_service.specs.declared.order.Reply.TheVariants as reply
 use Rattle.pos_service.specs.declared.plant.Mechanism.TheVariants as mechanism
 use Rattle.pos_service.specs.Peripherals.{IsOn, Performs}
 use Rattle.pos_wire.specs.Orders.{lit}
-use Rattle.pos_wire.proofs.OrderLemmas.{display_misfit, display_sends}
+use Rattle.pos_wire.proofs.OrderLemmas.{both_of_ok, display_misfit, display_sends}
 use Rattle.pos_wire.proofs.orders.display_bytes.Goals as goal
 
 pub returns-clause-sends : goal.returns-clause-sends
@@ -15,8 +14,8 @@ returns-clause-sends g c =
     let shown : state.plant.mechanism ≡ mechanism.Display c.in-Display.before = search rules in
     let done : Performs c.args.order.now (lit c.in-Display.before) reply.Done (lit c.in_ok-after.after) =
     rw (← is) c.in_ok-after.ensures.done in
-    IfOk-weaker c.row_bytes.result _ _ (λ bytes shows end. display_sends end c.in_ok-after.after is_on shown done
-    (rw (← is) shows)) c.row_bytes.ensures.shows
+    both_of_ok c.row_bytes.result _ _ _ (λ bytes exact shows end. display_sends end c.in_ok-after.after is_on shown done
+    (rw (← is) exact) (rw (← is) shows)) c.row_bytes.ensures.bytes c.row_bytes.ensures.shows
 
 pub returns-clause-no_bytes : goal.returns-clause-no_bytes
 returns-clause-no_bytes g c = λ none.

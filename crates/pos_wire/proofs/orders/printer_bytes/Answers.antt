@@ -1,7 +1,7 @@
-use Rattle.std.proofs.Common.{◌≡◌, ℕ, List, [], false, rules, subst, sym, None, Ok}
-use Rattle.pos_escpos.specs.PrinterBytes.{all_on_paper}
+use Rattle.std.proofs.Common.{◌≡◌, ◌∙◌, ℕ, List, [], ap, false, rules, subst, sym, None, Ok}
+use Rattle.pos_escpos.specs.PrinterBytes.{all_on_paper, items_bytes}
 use Rattle.pos_sims.specs.Additions.{Adds}
-use Rattle.pos_wire.specs.Frames.{AllDo}
+use Rattle.pos_wire.specs.Frames.{AllDo, framed_bytes}
 use Rattle.pos_wire.specs.Settings.{cut_of}
 use Rattle.pos_wire.proofs.OrderLemmas.{adds_misfit, adds_nothing, printer_sends}
 use Rattle.pos_wire.proofs.orders.printer_bytes.Goals as goal
@@ -23,7 +23,10 @@ returns-in-Ok-clause-sends g c =
     let given : AllDo false settings.width (all_on_paper cut roll.items) [] [] c.as_slice.result.now =
     subst (λ (bytes : List ℕ). AllDo false settings.width (all_on_paper cut roll.items) [] [] bytes)
     (sym c.as_slice.ensures.value) c.in-Ok.ensures.prints in
-    printer_sends adds (c.in_ok-framed-in-Ok.ensures settings.width (all_on_paper cut roll.items) [] given)
+    let sent : c.as_slice.result.now ≡ items_bytes cut roll.items =
+    c.as_slice.ensures.value ∙ c.in-Ok.ensures.bytes in
+    printer_sends adds (c.in_ok-framed-in-Ok.ensures.bytes ∙ ap (framed_bytes c.args.is_new c.args.end) sent)
+    (c.in_ok-framed-in-Ok.ensures.does settings.width (all_on_paper cut roll.items) [] given)
 
 pub returns-clause-no_bytes : goal.returns-clause-no_bytes
 returns-clause-no_bytes g c = λ is.
