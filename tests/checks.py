@@ -8,11 +8,11 @@ import collections
 import contextlib
 import os
 import pathlib
+import select
 import shutil
 import subprocess
 import sys
 import tempfile
-import threading
 import time
 import traceback
 
@@ -23,13 +23,13 @@ OFTEN, LOOKS, LONG = 0.05, 10, 0.1
 TURNS, PATIENCE = 5, 15
 
 
-def read_waits():
-    """How long each thread of this process, and of those that it began, has waited for a processor so far, and how long each
+def read_waits(top):
+    """How long each thread of a process, and of those that it began, has waited for a processor so far, and how long each
     processor has waited for the machine that this one runs on, by a name of each, in seconds."""
-    found, processes = {}, [str(os.getpid())]
+    found, processes = {}, [str(top)]
     for process in processes:
         try:
-            threads = os.listdir(f"/proc/{process}/task")
+            threads = os.listdir(f"/proc/{process}/task") if process != str(os.getpid()) else []
         except OSError:
             continue
         for thread in threads:
@@ -47,6 +47,23 @@ def read_waits():
     return found
 
 
+def watch(top):
+    """Looks whether the machine goes on for a process. For each line of standard input it prints for how much of half a
+    second it stood still, at most, since the last one."""
+    late, longest, looks = 0.0, 0.0, collections.deque(maxlen=LOOKS)
+    while True:
+        before = time.monotonic()
+        is_asked = bool(select.select([sys.stdin], [], [], OFTEN)[0])
+        late += max(time.monotonic() - before - OFTEN, 0.0)
+        looks.append(read_waits(top) | {"late": late})
+        longest = max(longest, *(waited - looks[0].get(name, 0.0) for name, waited in looks[-1].items()))
+        if is_asked:
+            if not sys.stdin.readline():
+                return
+            print(longest, flush=True)
+            longest = 0.0
+
+
 def is_calm():
     """Whether this thread gets a processor nearly all the time."""
     began, worked = time.monotonic(), time.thread_time()
@@ -56,39 +73,34 @@ def is_calm():
 
 
 class Watch:
-    """Looks whether the machine goes on.
+    """Looks whether the machine goes on, in a process of its own.
 
     It stands still for a thread that can run and doesn't: as others have the processors, as the machine that this one runs
     on has them, or as all stands still.
-
-    Attributes:
-        longest: For how much of half a second it stood still, at most, since this was set to 0.
     """
 
     def __init__(self):
-        self.longest = 0.0
-        threading.Thread(target=self._look, daemon=True).start()
+        pipes = {"stdin": subprocess.PIPE, "stdout": subprocess.PIPE, "text": True}
+        self._process = subprocess.Popen([sys.executable, __file__, "--watch", str(os.getpid())], **pipes)
 
-    def _look(self):
-        late, looks = 0.0, collections.deque(maxlen=LOOKS)
-        while True:
-            before = time.monotonic()
-            time.sleep(OFTEN)
-            late += time.monotonic() - before - OFTEN
-            looks.append(read_waits() | {"late": late})
-            self.longest = max(self.longest, *(waited - looks[0].get(name, 0.0) for name, waited in looks[-1].items()))
+    def longest(self):
+        """For how much of half a second it stood still, at most, since this was asked last."""
+        self._process.stdin.write("\n")
+        self._process.stdin.flush()
+        return float(self._process.stdout.readline())
 
-    @property
-    def stood_still(self):
-        """Whether the machine stood still."""
-        return self.longest >= LONG
+    def end(self):
+        """Ends it. A process that was forked may have its pipes still."""
+        self._process.kill()
+        self._process.communicate()
 
-    def tell(self, name):
-        """Says that a test runs again, and waits a while for a machine that is busy."""
-        print(f"{name}: the machine stood still for {self.longest:.1f} s, so it runs again", flush=True)
-        end = time.monotonic() + PATIENCE
-        while not is_calm() and time.monotonic() < end:
-            time.sleep(1.0)
+
+def tell(name, longest):
+    """Says that a test runs again, and waits a while for a machine that is busy."""
+    print(f"{name}: the machine stood still for {longest:.1f} s, so it runs again", flush=True)
+    end = time.monotonic() + PATIENCE
+    while not is_calm() and time.monotonic() < end:
+        time.sleep(1.0)
 
 
 class Checks:
@@ -118,22 +130,25 @@ class Checks:
     def run(self, test, give_time=None):
         """Runs a test, again if it fails while the machine stands still. Before that `give_time` is called, if it is given."""
         for turn in range(1, TURNS + 1):
-            before, self._watch.longest = (self.passed, self.failed), 0.0
+            before = self.passed, self.failed
+            self._watch.longest()
             self.work = pathlib.Path(tempfile.mkdtemp(dir=self._room))
             try:
                 test()
             except Exception as fault:
                 traceback.print_exc(file=sys.stdout)
                 self.told(f"{test.__name__} ends well", None, fault)
-            if self.failed == before[1] or not self._watch.stood_still or turn == TURNS:
+            longest = self._watch.longest()
+            if self.failed == before[1] or longest < LONG or turn == TURNS:
                 return
             self.passed, self.failed = before
-            self._watch.tell(test.__name__)
+            tell(test.__name__, longest)
             if give_time is not None:
                 give_time()
 
     def end(self):
         """Tells how many there were, and ends the program. Without any it fails."""
+        self._watch.end()
         shutil.rmtree(self._room)
         if not self.passed and not self.failed:
             self.told("a test has the word of --only", True, False)
@@ -142,18 +157,23 @@ class Checks:
 
 
 def main(words):
-    watch = Watch()
+    watching = Watch()
     for turn in range(1, TURNS + 1):
-        watch.longest = 0.0
+        watching.longest()
         ended = subprocess.run(words, stdout=subprocess.PIPE, stderr=subprocess.STDOUT)
-        if ended.returncode == 0 or not watch.stood_still or turn == TURNS:
+        longest = watching.longest()
+        if ended.returncode == 0 or longest < LONG or turn == TURNS:
             break
         sys.stderr.buffer.write(ended.stdout)
         with contextlib.redirect_stdout(sys.stderr):
-            watch.tell(os.path.basename(words[0]))
+            tell(os.path.basename(words[0]), longest)
+    watching.end()
     sys.stdout.buffer.write(ended.stdout)
     sys.exit(ended.returncode)
 
 
 if __name__ == "__main__":
-    main(sys.argv[1:])
+    if sys.argv[1:2] == ["--watch"]:
+        watch(int(sys.argv[2]))
+    else:
+        main(sys.argv[1:])
