@@ -166,7 +166,7 @@ def main(words):
             break
         sys.stderr.buffer.write(ended.stdout)
         with contextlib.redirect_stdout(sys.stderr):
-            tell(os.path.basename(words[0]), longest)
+            tell(" ".join(words)[:80], longest)
     watching.end()
     sys.stdout.buffer.write(ended.stdout)
     sys.exit(ended.returncode)
