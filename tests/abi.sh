@@ -24,11 +24,12 @@ told() {
 
 # runs NAME COMMAND ..: whether a command ends well
 runs() {
-  local name=$1
+  local name=$1 status
   shift
   "$@" > "$work/said" 2>&1
-  told "$name" 0 "$?"
-  [ -s "$work/said" ] && [ "$failed" -gt 0 ] && tail -n 5 "$work/said"
+  status=$?
+  told "$name" 0 "$status"
+  [ "$status" -eq 0 ] || tail -n 12 "$work/said"
 }
 
 # needs TOOL PACKAGE: whether a tool is there
@@ -140,8 +141,7 @@ told "the numbers for Python" "$(python3 "$abi/declare.py" python)" "$(cat "$abi
 runs "what is typed for C" python3 "$abi/typed_c.py" --check
 runs "what is typed for Rust" python3 "$abi/typed_rust.py" --check
 
-"$top/tools/libraries" archive > "$work/lib" 2>&1
-told "the archive by LLVM" 0 "$?"
+runs "the archive by LLVM" "$top/tools/libraries" archive
 tries "LLVM"
 watches "LLVM"
 tries "LLVM under the address sanitizer" -fsanitize=address,undefined -fno-sanitize-recover
@@ -173,8 +173,7 @@ told "files, and tills that are killed" "166 passed, 0 failed" "$(cat "$work/fil
 
 # rt lib builds it in the place of LLVM's, which is put back
 cp -p "$archive" "$work/llvm.a"
-(cd "$top/crates/kijolvar" && rt lib --backend rattle > "$work/lib" 2>&1)
-told "the archive by Rattle's own compiler" 0 "$?"
+runs "the archive by Rattle's own compiler" sh -c 'cd "$1" && rt lib --backend rattle' sh "$top/crates/kijolvar"
 mv "$archive" "$work/rattle.a"
 mv "$work/llvm.a" "$archive"
 archive=$work/rattle.a

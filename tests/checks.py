@@ -1,25 +1,114 @@
-"""What the tests over emulated devices have in common: their checks are counted, each has a folder of its own, and a
-test is repeated if the machine stood still during it."""
+"""What the tests that take time have in common: their checks are counted, each has a folder of its own, and a test is
+repeated if the machine stood still during it.
+
+Usage: checks.py COMMAND [WORD ..] runs a command, again if it fails while the machine stands still, and ends with its status.
+It prints what the last turn printed, and on standard error what the others did.
+"""
+import collections
+import contextlib
+import os
 import pathlib
+import select
 import shutil
+import subprocess
 import sys
 import tempfile
-import threading
 import time
 import traceback
 
-# How often it is looked whether the machine goes on, and from when on it stood still, in seconds.
-OFTEN, LONG = 0.02, 0.2
-# How often a test is run at most.
-TURNS = 3
+# How often it is looked whether the machine goes on, how many looks count together, which is half a second, and for how long
+# of that something didn't go on if the machine stood still, in seconds.
+OFTEN, LOOKS, LONG = 0.05, 10, 0.1
+# How often a test is run at most, and for how long a machine is waited for that is busy, before each turn, in seconds.
+TURNS, PATIENCE = 5, 15
+
+
+def read_waits(top):
+    """How long each thread of a process, and of those that it began, has waited for a processor so far, and how long each
+    processor has waited for the machine that this one runs on, by a name of each, in seconds."""
+    found, processes = {}, [str(top)]
+    for process in processes:
+        try:
+            threads = os.listdir(f"/proc/{process}/task") if process != str(os.getpid()) else []
+        except OSError:
+            continue
+        for thread in threads:
+            place = f"/proc/{process}/task/{thread}"
+            try:
+                found[place] = int(pathlib.Path(place, "schedstat").read_text().split()[1]) / 1e9
+                processes += pathlib.Path(place, "children").read_text().split()
+            except (OSError, IndexError):
+                # It has ended meanwhile.
+                continue
+    for line in pathlib.Path("/proc/stat").read_text().splitlines():
+        name, *times = line.split()
+        if name[:3] == "cpu" and name != "cpu" and len(times) > 7:
+            found[name] = int(times[7]) / os.sysconf("SC_CLK_TCK")
+    return found
+
+
+def watch(top):
+    """Looks whether the machine goes on for a process. For each line of standard input it prints for how much of half a
+    second it stood still, at most, since the last one."""
+    late, longest, looks = 0.0, 0.0, collections.deque(maxlen=LOOKS)
+    while True:
+        before = time.monotonic()
+        is_asked = bool(select.select([sys.stdin], [], [], OFTEN)[0])
+        late += max(time.monotonic() - before - OFTEN, 0.0)
+        looks.append(read_waits(top) | {"late": late})
+        longest = max(longest, *(waited - looks[0].get(name, 0.0) for name, waited in looks[-1].items()))
+        if is_asked:
+            if not sys.stdin.readline():
+                return
+            print(longest, flush=True)
+            longest = 0.0
+
+
+def is_calm():
+    """Whether this thread gets a processor nearly all the time."""
+    began, worked = time.monotonic(), time.thread_time()
+    while time.monotonic() < began + 0.2:
+        pass
+    return time.thread_time() - worked > 0.8 * (time.monotonic() - began)
+
+
+class Watch:
+    """Looks whether the machine goes on, in a process of its own.
+
+    It stands still for a thread that can run and doesn't: as others have the processors, as the machine that this one runs
+    on has them, or as all stands still.
+    """
+
+    def __init__(self):
+        pipes = {"stdin": subprocess.PIPE, "stdout": subprocess.PIPE, "text": True}
+        self._process = subprocess.Popen([sys.executable, __file__, "--watch", str(os.getpid())], **pipes)
+
+    def longest(self):
+        """For how much of half a second it stood still, at most, since this was asked last."""
+        self._process.stdin.write("\n")
+        self._process.stdin.flush()
+        return float(self._process.stdout.readline())
+
+    def end(self):
+        """Ends it. A process that was forked may have its pipes still."""
+        self._process.kill()
+        self._process.communicate()
+
+
+def tell(name, longest):
+    """Says that a test runs again, and waits a while for a machine that is busy."""
+    print(f"{name}: the machine stood still for {longest:.1f} s, so it runs again", flush=True)
+    end = time.monotonic() + PATIENCE
+    while not is_calm() and time.monotonic() < end:
+        time.sleep(1.0)
 
 
 class Checks:
     """How many checks passed and failed.
 
     An order fails if its printer doesn't answer in time. The emulated one doesn't if the machine stands still, and no
-    test can tell that from a fault. So a test that fails is run again if a thread that should go on all the time
-    didn't. What it found is printed each time, and the last time counts.
+    test can tell that from a fault. So a test that fails is run again if the machine stood still meanwhile. What it found
+    is printed each time, and the last time counts.
 
     Attributes:
         work: A folder for the files of the test that runs.
@@ -28,14 +117,7 @@ class Checks:
     def __init__(self):
         self.passed = self.failed = 0
         self._room = self.work = pathlib.Path(tempfile.mkdtemp())
-        self._longest = 0.0
-        threading.Thread(target=self._watch, daemon=True).start()
-
-    def _watch(self):
-        while True:
-            before = time.monotonic()
-            time.sleep(OFTEN)
-            self._longest = max(self._longest, time.monotonic() - before - OFTEN)
+        self._watch = Watch()
 
     def told(self, name, wanted, found):
         """Whether two values are the same."""
@@ -45,25 +127,53 @@ class Checks:
             self.failed += 1
             print(f"failed: {name}\n  wanted: {wanted!r}\n  found:  {found!r}", flush=True)
 
-    def run(self, test):
-        """Runs a test, again if it fails while the machine stands still."""
+    def run(self, test, give_time=None):
+        """Runs a test, again if it fails while the machine stands still. Before that `give_time` is called, if it is given."""
         for turn in range(1, TURNS + 1):
-            before, self._longest = (self.passed, self.failed), 0.0
+            before = self.passed, self.failed
+            self._watch.longest()
             self.work = pathlib.Path(tempfile.mkdtemp(dir=self._room))
             try:
                 test()
             except Exception as fault:
                 traceback.print_exc(file=sys.stdout)
                 self.told(f"{test.__name__} ends well", None, fault)
-            if self.failed == before[1] or self._longest < LONG or turn == TURNS:
+            longest = self._watch.longest()
+            if self.failed == before[1] or longest < LONG or turn == TURNS:
                 return
             self.passed, self.failed = before
-            print(f"{test.__name__}: the machine stood still for {self._longest:.1f} s, so it runs again", flush=True)
+            tell(test.__name__, longest)
+            if give_time is not None:
+                give_time()
 
     def end(self):
         """Tells how many there were, and ends the program. Without any it fails."""
+        self._watch.end()
         shutil.rmtree(self._room)
         if not self.passed and not self.failed:
             self.told("a test has the word of --only", True, False)
         print(f"{self.passed} passed, {self.failed} failed")
         sys.exit(self.failed != 0)
+
+
+def main(words):
+    watching = Watch()
+    for turn in range(1, TURNS + 1):
+        watching.longest()
+        ended = subprocess.run(words, stdout=subprocess.PIPE, stderr=subprocess.STDOUT)
+        longest = watching.longest()
+        if ended.returncode == 0 or longest < LONG or turn == TURNS:
+            break
+        sys.stderr.buffer.write(ended.stdout)
+        with contextlib.redirect_stdout(sys.stderr):
+            tell(" ".join(words)[:80], longest)
+    watching.end()
+    sys.stdout.buffer.write(ended.stdout)
+    sys.exit(ended.returncode)
+
+
+if __name__ == "__main__":
+    if sys.argv[1:2] == ["--watch"]:
+        watch(int(sys.argv[2]))
+    else:
+        main(sys.argv[1:])

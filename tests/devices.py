@@ -67,16 +67,19 @@ category = "Scanner"
 name = "t1"
 category = "HardTotals"
 """
-# How long an order may take here, how much later than its timeout a call may return, and how soon a lost port is tried
-# again, in seconds. A machine that does much else needs more time.
-IS_BUSY = os.getloadavg()[0] > 1.5 * (os.cpu_count() or 1)
-TIMEOUT, SLACK, PAUSE = (2.0, 2.0, 0.01) if IS_BUSY else (0.4, 0.6, 0.01)
-# How long something may take that has to happen.
-PATIENCE = 60 if IS_BUSY else 10
+# How long an order may take here, how much later than its timeout a call may return, how soon a lost port is tried again,
+# and how long something may take that has to happen, in seconds.
+TIMEOUT, SLACK, PAUSE, PATIENCE = 0.4, 0.6, 0.01, 10
 MOST_LINES = 100_000
 CHECKS = Checks()
 told = CHECKS.told
 made = 0
+
+
+def give_time():
+    """Gives orders more time, as a machine needs that does much else."""
+    global TIMEOUT, SLACK, PATIENCE
+    TIMEOUT, SLACK, PATIENCE = 2.0, 2.0, 60
 
 
 def raised(call, *words, **named):
@@ -125,9 +128,9 @@ def signs_of(device):
             "paper": "empty" if third & 12 else "near" if third & 3 else "good", "fault": "yes" if second else "no"}
 
 
-def until(condition, seconds=PATIENCE):
+def until(condition, seconds=None):
     """Whether something becomes so."""
-    end = time.monotonic() + seconds
+    end = time.monotonic() + (PATIENCE if seconds is None else seconds)
     while not condition():
         if time.monotonic() > end:
             return False
@@ -3392,10 +3395,10 @@ def late(*_):
     raise InterruptedError("it takes too long")
 
 
-def in_time(call, *words, patience=PATIENCE):
+def in_time(call, *words, patience=None):
     """The name of what a call raises, or None. One that takes too long is interrupted."""
     signal.signal(signal.SIGALRM, late)
-    signal.setitimer(signal.ITIMER_REAL, patience)
+    signal.setitimer(signal.ITIMER_REAL, PATIENCE if patience is None else patience)
     try:
         return name_of(call, *words)
     finally:
@@ -3948,7 +3951,7 @@ def main():
     for one in tries:
         if WORDS.only in one.__name__:
             began = time.monotonic()
-            CHECKS.run(one)
+            CHECKS.run(one, give_time)
             print(f"{one.__name__}: {time.monotonic() - began:.1f} s", flush=True)
     CHECKS.end()
 
@@ -3964,4 +3967,6 @@ if __name__ == "__main__":
     WORDS = reader.parse_args()
     LIBRARY = pathlib.Path(WORDS.library).resolve()
     os.environ["KIJOLVAR_LIBRARY"] = os.fspath(LIBRARY)
+    if os.getloadavg()[0] > 1.5 * (os.cpu_count() or 1):
+        give_time()
     main()

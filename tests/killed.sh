@@ -25,8 +25,9 @@ python3 - "$times" "$program" <<'PROGRAM' || status=$?
 import os, random, subprocess, sys, time
 
 times, program = int(sys.argv[1]), sys.argv[2]
-# How long a try for a place may go on, in seconds, and how many transactions a stream has.
-PATIENCE, STREAM = 60, 1500
+# How long a try for a place goes on at least, in seconds, and how many kills it has at least; and how many transactions a
+# stream has.
+PATIENCE, KILLS, STREAM = 60, 300, 1500
 # A transaction writes its number into each of these places of a file of 64 bytes.
 PLACES = [0, 20, 41, 60]
 BEGIN = ["new a HardTotals", "open a t1", "set a DeviceEnabled true", "call a create 41 64 false"]
@@ -296,14 +297,14 @@ tries = 0
 kinds = {"in a stream": in_stream, "between calls": between_calls, "in a commit": in_commit, "in a move": in_move}
 for number in range(1, times + 1):
     for name, kill in list(kinds.items()):
-        ends_at = time.monotonic() + PATIENCE
+        ends_at, ends_behind = time.monotonic() + PATIENCE, tries + KILLS
         try:
             tries += 1
             while not kill():
-                tries += 1
-                if time.monotonic() > ends_at:
+                if time.monotonic() > ends_at and tries >= ends_behind:
                     del kinds[name]
-                    raise Wrong(f"no kill landed there in {PATIENCE} s: is TMPDIR in memory?")
+                    raise Wrong(f"none of {KILLS} kills or more landed there in {PATIENCE} s: is TMPDIR in memory?")
+                tries += 1
             passed += 1
         except (Wrong, OSError, StopIteration) as fault:
             failed += 1

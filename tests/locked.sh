@@ -41,7 +41,7 @@ cp till.disk kept
 ends() {
   local name=$1 status=$2 message=$3 output=$4
   shift 4
-  timeout 60 "$program" "$@" < script > out 2> err
+  timeout 300 "$program" "$@" < script > out 2> err
   told "$name: status" "$status" $?
   told "$name: message" "$message" "$(cat err)"
   told "$name: output" "$output" "$(cat out)"
@@ -75,7 +75,7 @@ mkfifo lines answers
 run=$!
 exec 3> lines 4< answers
 printf 'new a HardTotals\n' >&3
-read -r -t 60 answer <&4
+read -r -t 300 answer <&4
 told 'a run answers' ok "${answer:-}"
 refused 'a run'
 untold 'a run'
@@ -91,7 +91,7 @@ served 'the run'
 run=$!
 exec 3> lines 4< answers
 printf 'new a HardTotals\n' >&3
-read -r -t 60 answer <&4
+read -r -t 300 answer <&4
 told 'a second run answers' ok "${answer:-}"
 untold 'a second run'
 kill -KILL "$run"
@@ -126,7 +126,7 @@ PYTHON
 python3 hold.py till.disk < lines > answers 2> /dev/null &
 holder=$!
 exec 3> lines 4< answers
-read -r -t 60 answer <&4
+read -r -t 300 answer <&4
 told 'a package locks the file' locked "${answer:-}"
 refused 'a package'
 untold 'a package'
@@ -137,7 +137,7 @@ served 'a package'
 run=$!
 exec 3> lines 4< answers
 printf 'new a HardTotals\n' >&3
-read -r -t 60 answer <&4
+read -r -t 300 answer <&4
 told 'flock is refused beside a run' 1 "$(flock -n -x till.disk true; echo $?)"
 told 'a package is refused beside a run' 1 "$(python3 hold.py till.disk < /dev/null > /dev/null 2>&1; echo $?)"
 exec 3>&-
@@ -148,12 +148,12 @@ exec 4<&-
 printf abc > short.disk
 exec 5< short.disk
 flock -n -x 5
-timeout 60 "$program" format --disk short.disk < /dev/null > out 2> err
+timeout 300 "$program" format --disk short.disk < /dev/null > out 2> err
 told 'format of a short file in use: status' 4 $?
 told 'format of a short file in use: message' "${in_use/till/short}" "$(cat err)"
 told 'format of a short file in use keeps it' abc "$(cat short.disk)"
 exec 5<&-
-timeout 60 "$program" format --disk short.disk < /dev/null > out 2> err
+timeout 300 "$program" format --disk short.disk < /dev/null > out 2> err
 told 'format of it then: status' 0 $?
 told 'format of it then: length' 327680 "$(wc -c < short.disk)"
 

@@ -38,6 +38,13 @@ runs() {
   [ "$status" -eq 0 ] || tail -n 12 "$work/said"
 }
 
+# times NAME COMMAND ..: whether a command ends well that takes time: it runs again if it fails while the machine stands still
+times() {
+  local name=$1
+  shift
+  runs "$name" python3 "$top/tests/checks.py" "$@"
+}
+
 # needs TOOL PACKAGE: whether a tool is there
 needs() {
   if ! command -v "$1" > /dev/null; then
@@ -100,10 +107,11 @@ runs "what measures the cost is built" gcc -std=c99 "${strict[@]}" -O2 -o "$work
 runs "what tries the system is built" gcc -std=c99 "${strict[@]}" -O1 -g -fsanitize=address,undefined \
   -fno-sanitize-recover -o "$work/system" "$here/system.c" "$abi"/c/kij_*.c "${bare[@]}" \
   -Wl,--wrap=getaddrinfo,--wrap=fsync,--wrap=pread,--wrap=pwrite,--wrap=ioctl,--wrap=tcflush
-runs "ports and files where the system does less" "$work/system" "$work"
+times "ports and files where the system does less" sh -c 'rm -rf "$2" && mkdir "$2" && "$1" "$2"' sh "$work/system" \
+  "$work/files"
 runs "what tries want of memory is built" gcc -std=c99 "${strict[@]}" -O1 -g -fsanitize=address,undefined \
   -fno-sanitize-recover -o "$work/memory" "$here/memory.c" "$abi"/c/kij_*.c -Wl,--wrap=malloc,--wrap=realloc
-runs "lines that are held where memory runs out" "$work/memory"
+times "lines that are held where memory runs out" "$work/memory"
 runs "the host in C++17 is built" g++ -std=c++17 "${strict[@]}" -O1 -x c++ "$here/host.c" "$abi"/c/kij_*.c -x none \
   -o "$work/plus" "${bare[@]}"
 runs "what is preloaded is built" gcc -std=c99 "${strict[@]}" -O1 -shared -fPIC -o "$work/preloaded.so" \
@@ -138,7 +146,7 @@ collects
 coproc emulator { python3 "$top/tests/emulator" printer --path "$work/port" --lines 100000; }
 to_emulator=${emulator[1]}
 read -r port <&"${emulator[0]}"
-"$work/cost" "$port"
+python3 "$top/tests/checks.py" "$work/cost" "$port"
 told "an order in C costs at most 1.3 times a bare round trip" 0 "$?"
 exec {to_emulator}>&-
 wait

@@ -162,7 +162,7 @@ def devices(page):
 
 def response(port, method, path, body=None, **headers):
     """The status and the body of the server's answer; None if it doesn't come."""
-    connection = http.client.HTTPConnection("127.0.0.1", port, timeout=20)
+    connection = http.client.HTTPConnection("127.0.0.1", port, timeout=120)
     try:
         connection.request(method, path, body, {key.replace("_", "-"): value for key, value in headers.items()})
         answer = connection.getresponse()
@@ -218,7 +218,7 @@ def try_browser(program, address, picture):
         page = Browser(program, folder)
         try:
             page.open(address)
-            deadline = time.time() + 30
+            deadline = time.time() + 120
             while not page.value("document.querySelector('#says')?.innerText"):
                 if time.time() > deadline:
                     raise TimeoutError("the page doesn't come")

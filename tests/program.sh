@@ -508,7 +508,7 @@ overtaken() {
   strace -o trace -e quiet=path-resolution -P early.disk -e trace=openat -e inject=openat:signal=STOP "$program" "$@" \
     < script > out 2> err &
   local tracer=$! stopped=
-  for _ in {1..600}; do
+  for _ in {1..3000}; do
     stopped=$(ps -o pid=,stat= --ppid "$tracer" | sed -n 's/^ *\([0-9]*\) *[tT].*/\1/p')
     grep -q 'SIGSTOP' trace 2> /dev/null && [ -n "$stopped" ] && break
     sleep 0.1

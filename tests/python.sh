@@ -27,10 +27,12 @@ told() {
 
 # runs NAME COMMAND ..: whether a command ends well
 runs() {
-  local name=$1
+  local name=$1 status
   shift
   "$@" > "$work/said" 2>&1
-  told "$name" 0 "$?"
+  status=$?
+  told "$name" 0 "$status"
+  [ "$status" -eq 0 ] || tail -n 12 "$work/said"
 }
 
 # needs TOOL PACKAGE: whether a tool is there
@@ -136,7 +138,9 @@ failed=$((failed + $(cut -d' ' -f3 <<< "${counts:-0 - 0}")))
 
 for round in "a new file" "the same file"; do
   KIJOLVAR_LIBRARY=$library python3 -W error "$top/examples/sale.py" "$work/totals" > "$work/sale" 2>&1
-  told "the sale ends well, over $round" 0 "$?"
+  status=$?
+  told "the sale ends well, over $round" 0 "$status"
+  [ "$status" -eq 0 ] || cat "$work/sale"
   [ "$round" = "a new file" ] && told "the sale's text" "$(cat "$top/examples/sale.stdout")" "$(cat "$work/sale")"
 done
 told "the second sale adds to the totals" "totals: COUNT 2" "$(tail -n 1 "$work/sale")"

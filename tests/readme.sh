@@ -41,7 +41,7 @@ cp -r "$top/abi" "$work/top" && rm -rf "$work/top/abi/out"
 cp "$archive" "$work/top/crates/kijolvar/out/libkijolvar.a"
 cd "$work/top" || exit 1
 PATH=$work/bin:$PATH TOP=$top python3 - <<'PROGRAM'
-import glob, json, os, re, shutil, subprocess, sys, tempfile, urllib.request
+import glob, json, os, re, shutil, signal, subprocess, sys, tempfile, urllib.request
 
 TOP = os.environ["TOP"]
 # In this order: abi/README.md makes what others use, and docs/reference/trouble.md shows the file that
@@ -70,6 +70,8 @@ NOT_RUN = [
     (r"tools/install \S+$", "tests/release.sh runs it"),
     (r"csharp", "no test has a compiler for it"),
 ]
+# How long a command, or a server's answer, may take, in seconds.
+LIMIT = 600
 # The command that builds the archive: it has run before, or this has run it.
 BUILDS = r"\(cd crates/kijolvar && rt lib\)$"
 # A server is asked for its page, at a free port.
@@ -93,13 +95,27 @@ with open("abi/sale.stdout", encoding="utf-8") as file:
 fitted = set()
 
 
+def ends(words, said=None, folder=None):
+    """How a program ends, and what it prints on standard output and on standard error. One that takes too long is ended,
+    with all that it began: -9."""
+    pipe = subprocess.PIPE
+    running = subprocess.Popen(words, stdin=None if said is None else pipe, stdout=pipe, stderr=pipe, cwd=folder, text=True,
+                               start_new_session=True)
+    try:
+        printed = running.communicate(said, LIMIT)
+    except subprocess.TimeoutExpired:
+        os.killpg(running.pid, signal.SIGKILL)
+        printed = running.communicate()
+    return running.returncode, *printed
+
+
 def runs(commands, wanted):
     """None where the commands end well and print what is wanted, else what is wrong."""
-    done = subprocess.run(["bash", "-c", commands], capture_output=True, text=True, timeout=120)
-    found = done.stdout + done.stderr
-    if done.returncode == 0 and found in wanted:
+    status, printed, errors = ends(["bash", "-c", commands])
+    found = printed + errors
+    if status == 0 and found in wanted:
         return None
-    return f"the commands\n{commands}\nend with {done.returncode} and print\n{found}in the place of\n{wanted[-1]}"
+    return f"the commands\n{commands}\nend with {status} and print\n{found}in the place of\n{wanted[-1]}"
 
 
 def serves(command):
@@ -110,7 +126,7 @@ def serves(command):
         if not re.fullmatch(r"http://127\.0\.0\.1:\d+/", address):
             return f"{command} prints {address!r}, which is no address"
         for path in ("", "state"):
-            with urllib.request.urlopen(address + path, timeout=20) as answer:
+            with urllib.request.urlopen(address + path, timeout=LIMIT) as answer:
                 if not answer.read():
                     return f"{command}: {address}{path} is empty"
         return None
@@ -159,8 +175,8 @@ def console(script, profile, folder):
             file.write(profile)
         subprocess.run(["pos_console", "format", "--disk", "totals"], cwd=folder, check=True)
         words = ["run", "--profile", "profile.toml", "--disk", "totals"]
-    done = subprocess.run(["pos_console", *words], cwd=folder, input=script, capture_output=True, text=True, timeout=60)
-    return done.stdout if done.returncode == 0 else f"status {done.returncode}: {done.stderr}"
+    status, printed, errors = ends(["pos_console", *words], script, folder)
+    return printed if status == 0 else f"status {status}: {errors}"
 
 
 def answers(session, profile):

@@ -467,14 +467,14 @@ address=$PWD/address
 rm -f "$address"
 cd "$1"
 $2 0 > "$address" &
-for turn in 1 2 3 4 5 6 7 8 9 10; do
-  [ -s "$address" ] || sleep 1
+for turn in $(seq 600); do
+  [ -s "$address" ] || sleep 0.2
 done
 python3 -c '
 import socket, sys, urllib.parse, urllib.request
 place = urllib.parse.urlsplit(sys.argv[1])
 waits = socket.create_connection((place.hostname, place.port))
-print(urllib.request.urlopen(sys.argv[1], timeout=20).readline().decode().lower(), end="")
+print(urllib.request.urlopen(sys.argv[1], timeout=120).readline().decode().lower(), end="")
 ' "$(cat "$address")"
 kill $!
 SCRIPT

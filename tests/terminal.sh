@@ -13,17 +13,19 @@ if ! command -v tmux > /dev/null; then
 fi
 work=$(mktemp -d)
 socket=$work/socket
-trap 'tmux -S "$socket" kill-server 2> /dev/null; rm -rf "$work"' EXIT
+trap 'kill $(jobs -p) 2> /dev/null; tmux -S "$socket" kill-server 2> /dev/null; rm -rf "$work"' EXIT
 mkdir "$work/bin"
 ln -s "$tool" "$work/bin/kijolvar"
 "$tool" completions bash > "$work/completions"
 passed=0
 failed=0
 
-# shows NAME TEXT: whether the screen has a line with this text within 30 seconds
+# A text that is waited for is in no command that is typed, and not yet on the screen: else what is typed next may come too
+# early, or what is found is old.
+# shows NAME TEXT: whether the screen has a line with this text within two minutes
 shows() {
   local turn
-  for turn in $(seq 300); do
+  for turn in $(seq 1200); do
     if tmux -S "$socket" capture-pane -p -t tool | grep -qF -- "$2"; then
       passed=$((passed + 1))
       return
@@ -35,12 +37,12 @@ shows() {
   tmux -S "$socket" capture-pane -p -t tool | grep . | sed 's/^/  screen: /'
 }
 
-# screen NAME LINE ..: whether the screen has these lines and no others within 30 seconds, from the first on
+# screen NAME LINE ..: whether the screen has these lines and no others within two minutes, from the first on
 screen() {
   local name=$1 turn found wanted
   shift
   wanted=$(printf '%s\n' "$@")
-  for turn in $(seq 300); do
+  for turn in $(seq 1200); do
     found=$(tmux -S "$socket" capture-pane -p -t tool | sed 's/ *$//' | grep .)
     if [ "$found" = "$wanted" ]; then
       passed=$((passed + 1))
@@ -62,8 +64,8 @@ typed() {
 cd "$work" || exit 1
 PATH="$work/bin:$PATH" PS1='ready> ' tmux -S "$socket" -f /dev/null new-session -d -s tool -x 120 -y 50 \
   'bash --norc --noprofile -i'
-typed "PS1='ready> '; . ./completions; clear" Enter
-shows 'a shell is ready' 'ready>'
+typed "PS1='ready> '; . ./completions; clear; echo st''arted" Enter
+screen 'a shell is ready' 'started' 'ready>'
 typed 'kijolvar help | head -n 1' Enter
 shows 'help' 'kijolvar: checks, prints, makes and copies totals files, and runs scripts'
 typed 'kijolvar exp' Tab '106' Enter
@@ -105,21 +107,21 @@ typed 'open a d1' C-d C-d
 screen 'a line without an end is answered too' '> open a d1=> bad control' 'status 0' 'ready>'
 typed 'clear; echo "new a CashDrawer" | kijolvar run' Enter
 screen 'a pipe has no prompt' '-:1: ok' 'ready>'
-typed 'clear; echo begun; kijolvar run > answers; cat answers' Enter
+typed 'clear; echo be""gun; kijolvar run > answers; cat answers' Enter
 shows 'a run into a file' 'begun'
 typed 'new a CashDrawer' Enter C-d
 screen 'a file has no prompt' 'begun' 'new a CashDrawer' '-:1: ok' 'ready>'
-typed 'clear; echo begun; kijolvar run --json' Enter
-shows 'a run without a prompt' 'begun'
+typed 'clear; echo be""gun once more; kijolvar run --json' Enter
+shows 'a run without a prompt' 'begun once more'
 typed 'new a CashDrawer' Enter C-d
 shows 'and JSON has none' '{"answer":"ok","line":1,"reason":null,"script":"-","text":"new a CashDrawer"}'
 typed 'clear; kijolvar run --totals none.totals' Enter
 shows 'a fault ends it before it asks' "kijolvar: none.totals: can't be opened for reading and writing"
 # --- colours at a terminal, and none in a pipe
-# coloured NAME TEXT: whether the screen, with its colours, has this text within 30 seconds
+# coloured NAME TEXT: whether the screen, with its colours, has this text within two minutes
 coloured() {
   local turn
-  for turn in $(seq 300); do
+  for turn in $(seq 1200); do
     if tmux -S "$socket" capture-pane -e -p -t tool | grep -qF -- "$2"; then
       passed=$((passed + 1))
       return
@@ -137,27 +139,34 @@ typed 'clear; kijolvar test one two' Enter
 shows 'scripts are tried' '1 passed, 1 failed'
 coloured 'a script that passes is green' $'\e[32mok one'
 coloured 'what is found is red' $'\e[31m  found:  ok'
-typed 'clear; kijolvar test one two --color never' Enter
-shows 'scripts are tried without colours' '1 passed, 1 failed'
+typed 'clear; kijolvar test one two --color never; echo "never $?"' Enter
+screen 'scripts are tried without colours' 'ok one' 'two:1: new d CashDrawer' '  wanted: no' '  found:  ok' 'failed two' \
+  '1 passed, 1 failed' 'never 1' 'ready>'
 told=$(tmux -S "$socket" capture-pane -e -p -t tool | grep -c $'\e\[3[12]m')
 if [ "$told" = 0 ]; then passed=$((passed + 1)); else failed=$((failed + 1)); echo 'failed: never has colours'; fi
 # --- how far it is, after a second, and not before
+# writes FILE SECONDS: gives a pipe a script, so long after `kijolvar` has begun to read it
+writes() {
+  {
+    exec > "$1"
+    sleep "$2"
+    echo 'new d CashDrawer'
+  } &
+}
 mkfifo slow slower
 echo ok > slow.stdout
 echo ok > slower.stdout
 typed 'clear; kijolvar test slow one slower > tried; echo "ended $?"' Enter
-sleep 1.5
-echo 'new d CashDrawer' > slow
+writes slow 1.5
 shows 'how far it is' 'tried 2 of 3'
-echo 'new d CashDrawer' > slower
+writes slower 0
 shows 'its end' 'ended 0'
 screen 'what was shown is gone' 'ended 0' 'ready>'
-typed 'clear; kijolvar test one > tried; echo "ended $?"' Enter
-screen 'within a second nothing is shown' 'ended 0' 'ready>'
+typed 'clear; kijolvar test one > tried; echo "soon $?"' Enter
+screen 'within a second nothing is shown' 'soon 0' 'ready>'
 typed 'clear; kijolvar test slow one slower > tried 2> errors; echo "ended $?"; wc -c < errors' Enter
-sleep 1.5
-echo 'new d CashDrawer' > slow
-echo 'new d CashDrawer' > slower
+writes slow 1.5
+writes slower 0
 screen 'nothing is shown if errors go elsewhere' 'ended 0' '0' 'ready>'
 typed 'clear; kijolvar chek' Enter
 shows 'an error has a hint' 'hint: `kijolvar help` lists the commands'

@@ -53,7 +53,7 @@ under=()
 ends() {
   local name=$1 status=$2 message=$3 output=$4
   shift 4
-  timeout 60 "${under[@]}" "$tool" "$@" > out 2> err
+  timeout 300 "${under[@]}" "$tool" "$@" > out 2> err
   told "$name: status" "$status" $?
   told "$name: message" "$message" "$(cat err)"
   told "$name: output" "$output" "$(cat out)"
@@ -323,7 +323,7 @@ lets_go() {
   "$@" > page &
   printer=$!
   exec 6< page
-  read -r -t 60 first <&6
+  read -r -t 300 first <&6
   told "$name whose reader waits" "$wanted goes on" "$first $(kill -0 "$printer" && echo goes on)"
   told "$name whose reader waits leaves the file free" free "$(flock --nonblock long.totals echo free)"
   told "$name whose reader waited" same "$(cmp -s <("$@" | tail -n +2) - <&6 && echo same)"
@@ -557,7 +557,7 @@ mkfifo lines answers
 run=$!
 exec 3> lines 4< answers
 printf 'new a HardTotals\nopen a t1\nset a DeviceEnabled true\n' >&3
-for _ in 1 2 3; do read -r -t 60 answer <&4; done
+for _ in 1 2 3; do read -r -t 300 answer <&4; done
 told 'a till runs' ok "${answer:-}"
 cp till.totals kept
 in_use='kijolvar: till.totals: is in use: close the other program that has it open'$'\n'"$hint_stop"
@@ -612,13 +612,13 @@ sound=$("$tool" check till.totals)
 told 'check after the till' 'sound: layout 1' "${sound%%,*}"
 
 # --- a second program that locks, and one that reads
-flock --exclusive --no-fork till.totals sleep 60 &
+flock --exclusive --no-fork till.totals sleep 600 &
 other=$!
 until ! flock --nonblock till.totals true; do sleep 0.1; done
 ends 'check beside a lock' 4 "$in_use" '' check till.totals
 kill "$other"
 wait "$other" 2> /dev/null
-flock --shared --no-fork till.totals sleep 60 &
+flock --shared --no-fork till.totals sleep 600 &
 other=$!
 until ! flock --nonblock till.totals true; do sleep 0.1; done
 ends 'check beside a reader' 0 '' "$sound" check till.totals

@@ -181,7 +181,14 @@ runs "the crate is built" cargo build -q --offline --release --examples --manife
 runs "clippy, the crate" cargo clippy -q --offline --all-targets --manifest-path "$crate/Cargo.toml" -- -D warnings
 runs "clippy, what runs scripts" cargo clippy -q --offline --manifest-path "$here/rust/Cargo.toml" -- -D warnings
 runs "the documentation" env RUSTDOCFLAGS="-D warnings" cargo doc -q --offline --manifest-path "$crate/Cargo.toml"
-cargo test --offline --manifest-path "$crate/Cargo.toml" > "$work/said" 2>&1
+# (those of its code take time: they run again if they fail while the machine stands still)
+cargo test --offline --no-run --manifest-path "$crate/Cargo.toml" > "$work/built" 2>&1
+{
+  python3 "$top/tests/checks.py" cargo test --offline --lib --tests --manifest-path "$crate/Cargo.toml" 2> "$work/before"
+  cargo test --offline --doc --manifest-path "$crate/Cargo.toml" 2>&1
+} > "$work/said"
+cat "$work/before"
+grep -a -A 6 "panicked at\|^error" "$work/said"
 told "the crate's tests" "0 failed; 0 failed; 0 failed" \
   "$(grep -o '[0-9]* failed' "$work/said" | paste -s -d';' | sed 's/;/; /g')"
 told "the crate's tests ran" "22 passed 49 passed 23 passed" "$(grep -o '[0-9]* passed' "$work/said" | paste -s -d' ')"

@@ -40,7 +40,7 @@ static void round_trip(int port, const uint8_t *bytes, size_t size) {
     wants("a round trip", write(port, bytes, size) == (ssize_t)size);
     for (size_t count = 0; count < 7;) {
         struct pollfd waiting = {port, POLLIN, 0};
-        wants("an acknowledgement", poll(&waiting, 1, 1000) == 1);
+        wants("an acknowledgement", poll(&waiting, 1, 60000) == 1);
         ssize_t found = read(port, room, sizeof room);
         if (found > 0) count += (size_t)found;
     }

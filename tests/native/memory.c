@@ -9,6 +9,7 @@
 #include <stdio.h>
 #include <stdlib.h>
 #include <string.h>
+#include <sys/ioctl.h>
 #include <unistd.h>
 
 static int failed;
@@ -307,10 +308,10 @@ uint32_t kijolvar_replies(kijolvar_till till, void **out, const uint8_t *name, s
 
 /* ---- The tests ---- */
 
-/* A till with a display or a scanner, whose other end is a file. */
+/* A till with a display or a scanner, whose other end is a file. Its own end is open as a file too. */
 typedef struct shop {
     kij_till *till;
-    int other;
+    int other, line;
     const char *answer;
 } shop;
 
@@ -336,6 +337,8 @@ static void opens(shop *self, bool has_scanner) {
     noted = scans = drives = 0;
     self->answer = "";
     self->other = open_other(name, sizeof name);
+    self->line = open(name, O_RDONLY | O_NOCTTY | O_NONBLOCK);
+    if (self->line < 0) abort();
     told("a till", KIJ_OK, kij_open(NULL, NULL, KIJ_EXISTING, &self->till).code);
     if (has_scanner) told("a scanner", KIJ_OK, kij_wedge_scanner_open(self->till, "s1", name, NULL).code);
     else told("a display", KIJ_OK, kij_serial_display_open(self->till, "p1", name, NULL).code);
@@ -343,6 +346,7 @@ static void opens(shop *self, bool has_scanner) {
 
 static void closes(shop *self) {
     kij_close(self->till);
+    close(self->line);
     if (self->other >= 0) close(self->other);
 }
 
@@ -360,12 +364,12 @@ static void answered(shop *self, const char *name, const char *text, const char 
     printf("failed: %s\n  wanted: %s  found:  %s", name, wanted, self->answer);
 }
 
-/* How many bytes the device got since it was asked last. The system may be busy, and some come a moment later. */
-static long got(const shop *self) {
+/* How many bytes the device got since it was asked last. Those that are wanted may come late, as the system may be busy. */
+static long got(const shop *self, long wanted) {
     char bytes[100];
     struct pollfd waiting = {self->other, POLLIN, 0};
     long all = 0;
-    for (ssize_t count = 1; count > 0 && poll(&waiting, 1, 50) > 0;) {
+    for (ssize_t count = 1; count > 0 && poll(&waiting, 1, all < wanted ? 10000 : 50) > 0;) {
         count = read(self->other, bytes, sizeof bytes);
         if (count > 0) all += count;
     }
@@ -384,13 +388,13 @@ static void try_lost_answer(void) {
     opens(&self, false);
     most = 2000;
     told("a long answer before an order", KIJ_NO_ANSWER, lines(&self, "long\norder\nnote\n"));
-    told("the order is done", 5, got(&self));
+    told("the order is done", 5, got(&self, 5));
     told("the line behind it too", 1, noted);
     told("a long answer alone", KIJ_NO_ANSWER, lines(&self, "long\n"));
     answered(&self, "the next call", "note\n", "ok\n");
     told("it is carried out", 2, noted);
     most = SIZE_MAX;
-    told("nothing more is done", 0, got(&self));
+    told("nothing more is done", 0, got(&self, 0));
     closes(&self);
 }
 
@@ -409,9 +413,9 @@ static void try_cut_answer(void) {
     told("another one", KIJ_NO_ANSWER, lines(&self, "long\n"));
     no_lines = 1;
     told("an order without memory for its line", KIJ_NO_MEMORY, lines(&self, "order\n"));
-    told("it isn't done", 0, got(&self));
+    told("it isn't done", 0, got(&self, 0));
     answered(&self, "the order again", "order\n", "ok\n");
-    told("it is done", 5, got(&self));
+    told("it is done", 5, got(&self, 5));
     closes(&self);
 }
 
@@ -436,7 +440,7 @@ static void try_held_lines(void) {
     most = SIZE_MAX;
     told("the line is carried out", 1, noted);
     answered(&self, "the next call", "order\n", "ok\n");
-    told("the order behind it fails, and its own is done", 5, got(&self));
+    told("the order behind it fails, and its own is done", 5, got(&self, 5));
     told("the last line is carried out", 2, noted);
     closes(&self);
     opens(&self, false);
@@ -446,7 +450,7 @@ static void try_held_lines(void) {
     told("no order is the host's", KIJ_OK, kij_next_order(self.till, &order).code);
     told("none", KIJ_NO_ORDER, order.kind);
     answered(&self, "the call after it", "note\n", "ok\n");
-    told("the order isn't done", 0, got(&self));
+    told("the order isn't done", 0, got(&self, 0));
     closes(&self);
 }
 
@@ -592,9 +596,15 @@ static void try_said(void) {
     closes(&self);
 }
 
+/* Sends codes, and waits until they have come to the scanner's end of the line. */
 static void sends(const shop *self, const char *codes) {
-    told("codes are sent", (long)strlen(codes), (long)write(self->other, codes, strlen(codes)));
-    kij_internal_sleep(20);
+    int size = (int)strlen(codes), there = 0;
+    told("codes are sent", size, (long)write(self->other, codes, (size_t)size));
+    for (int turn = 0; turn < 10000 && there < size; turn++) {
+        kij_internal_sleep(1);
+        if (ioctl(self->line, FIONREAD, &there) != 0) abort();
+    }
+    told("they have come", size, there);
 }
 
 /* A scan that finds no memory is told the next time, and so is each one behind it. */
@@ -653,13 +663,13 @@ static void try_attached(void) {
     told("it is driven once more", 3, drives);
     told("all lines are carried out", 2, noted);
     answered(&self, "an order behind that", "note\nattach p1 1\norder\nattach p1 2\norder", "ok\nok\nok\nok\nok\n");
-    told("both are done", 10, got(&self));
+    told("both are done", 10, got(&self, 10));
     most = 60;
     told("no memory for a front", KIJ_NO_ANSWER, lines(&self, "attach p1 1\norder\n"));
     most = SIZE_MAX;
-    told("the order isn't done", 0, got(&self));
+    told("the order isn't done", 0, got(&self, 0));
     answered(&self, "the next one", "order\n", "ok\n");
-    told("it is", 5, got(&self));
+    told("it is", 5, got(&self, 5));
     closes(&self);
 }
 

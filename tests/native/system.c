@@ -475,7 +475,7 @@ static void try_forked_connection(void) {
         _exit(read(ways[0], &byte, 1) != 0);
     }
     kij_close(till);
-    told("another one has it still, and the other end is told", 1, poll(&peer, 1, 1000));
+    told("another one has it still, and the other end is told", 1, poll(&peer, 1, 10000));
     told("it ends", 0, (long)recv(peer.fd, &byte, 1, MSG_DONTWAIT));
     close(ways[1]);
     told("the forked process ends", waits, waitpid(waits, &status, 0));
@@ -686,7 +686,7 @@ static void try_endless(void) {
     told("a scanner", KIJ_OK, kij_wedge_scanner_open(till, devices[2], "/dev/zero", NULL).code);
     /* It ends this program if it takes too long. */
     fflush(stdout);
-    alarm(20);
+    alarm(120);
     int64_t began = kij_internal_now();
     told("the devices run", KIJ_OK, kij_run_devices(till, 300, NULL).code);
     told("in time", true, kij_internal_now() - began < 2000);
@@ -986,7 +986,7 @@ static void try_pipe(const char *path) {
     signal(SIGALRM, SIG_DFL);
     /* It ends this program if it takes too long. */
     fflush(stdout);
-    alarm(10);
+    alarm(120);
     told("a pipe", ESPIPE, kij_files(path, NULL, 0, &needed, &place).extended);
     alarm(0);
 }
