@@ -516,13 +516,61 @@ def try_events():
 
 # ---- claims, names, misuse
 
+def constants_of_c():
+    """The standard's constants in the headers for C, by their names there without the prefix."""
+    headers = "".join((TOP / "abi/c" / name).read_text() for name in ("kij_controls.h", "kij.h"))
+    found = {name: int(number) for name, number in re.findall(r"^ +KIJ_(\w+) = (-?\d+)", headers, re.M)}
+    # Those of the layer have no prefix of a group of the standard.
+    return {name: number for name, number in found.items() if name.startswith(tuple(PREFIXES))}
+
+
+def constants_of_rust():
+    """The standard's constants in the crate for Rust, by their names there: those of enums, and others. A reply has no
+    number there."""
+    text = (TOP / "abi/rust/kijolvar/src/standard.rs").read_text()
+    found = {name: int(number) for name, number in re.findall(r"^pub const (\w+): u64 = (\d+);", text, re.M)}
+    variants = dict(re.findall(r"(\w+::\w+) => \"([A-Z]\w+)\"", text)) | {
+        f"ErrorReply::{variant}": name for name, variant in re.findall(r"/// (ER_\w+): .*\n +(\w+),", text)}
+    numbers = {variant: int(number) for number, variant in re.findall(r"(\d+) => Some\((\w+::\w+)\)", text)}
+    numbers |= {variant: int(number) for variant, number in re.findall(r"(ExtendedCode::\w+) => (\d+),", text)}
+    return found | {name: numbers.get(variant) for variant, name in variants.items()
+                    if name.startswith(tuple(PREFIXES))}
+
+
+# What the names of the standard's constants begin with, and what some have in C or Rust alone: there a timeout without
+# an end is no number, no error succeeds, and a listener in C may leave the reply to an ErrorEvent to the till.
+PREFIXES = ["E_", "ETOT_", "EPTR_", "S_", "CASH_SUE_", "PTR_", "SUE_", "PR_", "PN_", "PS_", "EL_", "ER_", "DISP_",
+            "SCAN_SDT_", "UPOS_", "FOREVER"]
+APART_IN_C, APART_IN_RUST = {"FOREVER", "ER_DEFAULT"}, {"E_SUCCESS", "UPOS_FOREVER"}
+
+
+def try_constants_of_others():
+    """The layers for C and Rust have the constants of the standard that this one has, with the same numbers."""
+    own = {name: getattr(kijolvar, name) for name in kijolvar.__all__ if name.startswith(tuple(PREFIXES))}
+    replies = {name for name in own if name.startswith("ER_")}
+    numbers = {name: int(value) for name, value in own.items() if name not in replies}
+    told("how many there are", (74, 3), (len(numbers), len(replies)))
+    of_c, of_rust = constants_of_c(), constants_of_rust()
+    told("those of C alone", APART_IN_C, set(of_c) - set(own))
+    told("those of C", (set(own) - {"UPOS_FOREVER"}, numbers), (set(of_c) - APART_IN_C, {
+        name: of_c.get("FOREVER" if name == "UPOS_FOREVER" else name) for name in numbers}))
+    told("those of Rust", (set(own) - APART_IN_RUST, {
+        name: number for name, number in numbers.items() if name not in APART_IN_RUST}), (set(of_rust), {
+            name: number for name, number in of_rust.items() if name not in replies}))
+
+
 def try_types_of_codes():
-    """The types of codes, by the AIM identifiers that the drivers of Rust know too."""
-    text = (TOP / "abi/rust/kijolvar/src/drivers.rs").read_text()
-    found = re.findall(r"\(b'(\w)', (?:b'(\d)'|_)\) => (\d+)", text)
-    told("AIM identifiers", [int(kind) for _, _, kind in found],
-         [kijolvar._codes.kind_of(f"{letter}{digit or 9}".encode()) for letter, digit, _ in found])
-    told("how many, and another one", (18, kijolvar.SCAN_SDT_OTHER), (len(found), kijolvar._codes.kind_of(b"X0")))
+    """The types of codes, by the AIM identifiers that the drivers of C and Rust know too."""
+    types = {name.removeprefix("SCAN_SDT_").replace("_", "").lower(): kind
+             for name, kind in kijolvar.ScanDataType.__members__.items()}
+    in_c = re.findall(r"\{'(\w)', (?:'(\d)'|0), KIJ_SCAN_SDT_(\w+)\}", (TOP / "abi/c/kij_drivers.c").read_text())
+    in_rust = re.findall(r"\(b'(\w)', (?:b'(\d)'|_)\) => ScanDataType::(\w+)",
+                         (TOP / "abi/rust/kijolvar/src/drivers.rs").read_text())
+    for language, found in (("C", in_c), ("Rust", in_rust)):
+        told(f"AIM identifiers in {language}", [types[name.replace("_", "").lower()] for _, _, name in found],
+             [kijolvar._codes.kind_of(f"{letter}{digit or 9}".encode()) for letter, digit, _ in found])
+    told("how many, and another one", (18, 18, kijolvar.SCAN_SDT_OTHER),
+         (len(in_c), len(in_rust), kijolvar._codes.kind_of(b"X0")))
     told("each constant is one of the group", {kind.name: kind for kind in kijolvar.ScanDataType},
          {name: getattr(kijolvar, name) for name in kijolvar.__all__ if name.startswith("SCAN_SDT_")})
 
@@ -2316,8 +2364,7 @@ def try_reply_lines():
 def main():
     try:
         for try_it in (try_scripts, try_threads, try_fork, try_closed, try_replies, try_events, try_copies,
-                       try_types_of_codes, try_listeners,
-                       try_kept_listeners, try_claims,
+                       try_types_of_codes, try_constants_of_others, try_listeners, try_kept_listeners, try_claims,
                        try_misuse, try_many_controls, try_totals, try_disabled_transactions, try_files,
                        try_replaced_totals, try_handlers, try_closing_handlers, try_forking_handlers, try_any_event,
                        try_lines_without_memory, try_orders_without_memory, try_order_without_memory,

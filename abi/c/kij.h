@@ -420,8 +420,8 @@ kij_result kij_pump_all(kij_till *till, kij_listener listen, void *with);
 /** A cash drawer is opened or closed by hand. */
 kij_result kij_input_drawer(kij_till *till, const char *device, bool is_open);
 
-/** A scanner reads a code: its type, 0 to 999 (ScanDataType), all that was read, and its label. A size may be
- * KIJ_ZERO_ENDED. */
+/** A scanner reads a code: its type, 0 to 999 (KIJ_SCAN_SDT_EAN13 and the like), all that was read, and its label. A
+ * size may be KIJ_ZERO_ENDED. */
 kij_result kij_input_scan(kij_till *till, const char *device, int64_t type, const void *data, size_t data_size,
                           const void *label, size_t label_size);
 
@@ -645,7 +645,7 @@ typedef struct kij_display_settings {
 
 /** A scanner. Begin with KIJ_SCANNER_SETTINGS. */
 typedef struct kij_scanner_settings {
-    /** The type of a code without an AIM identifier (ScanDataType); 0 is SCAN_SDT_UNKNOWN. */
+    /** The type of a code without an AIM identifier, 0 to 999: KIJ_SCAN_SDT_UNKNOWN (0) and the like. */
     int type;
     /** Whether the device sends key events, whatever its name. A path of /dev/input/.. always does. */
     bool has_keys;
@@ -740,7 +740,7 @@ kij_result kij_wedge_scanner_open(kij_till *till, const char *device, const char
 typedef struct kij_scan {
     /** Whether the scanner failed to read; nothing else counts then. */
     bool has_failed;
-    /** Its type, 0 to 999 (ScanDataType); all that came; and the code alone. */
+    /** Its type, 0 to 999 (KIJ_SCAN_SDT_EAN13 and the like); all that came; and the code alone. */
     int type;
     const void *data;
     size_t data_size;

@@ -18,8 +18,7 @@ it does, its ranges, its errors, and the standard's chapter.
 
 A till can be used only in the thread that opened it.
 """
-from . import _codes, _constants, errors
-from ._codes import *
+from . import _constants, errors
 from ._constants import *
 from ._control import Claim, Control
 from ._controls import CashDrawer, HardTotals, LineDisplay, POSPrinter, Scanner, StandardControl
@@ -47,6 +46,5 @@ __all__ = [
     "TotalsContents", "TotalsFile", "WedgeScanner", "WireSettings", "WorkDone",
     "WorkFailed", "check", "create_totals", "devices", "files", "load", "migrate", "open", "open_totals", "port_of",
 ]
-__all__ += _codes.__all__
 __all__ += _constants.__all__
 __all__ += errors.__all__

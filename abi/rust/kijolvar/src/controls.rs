@@ -534,7 +534,7 @@ impl<'till> Scanner<'till> {
 
     /// ScanDataType (Scanner (Bar Code Reader)): the type of the bar code, of the DataEvent that was delivered last.
     ///
-    /// It is 0 if DecodeData was false then.
+    /// It is 0 if DecodeData was false then. Many types have names: SCAN_SDT_UPCA and the like.
     ///
     /// # Errors
     ///

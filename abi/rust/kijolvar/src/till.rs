@@ -633,7 +633,8 @@ impl Till {
         self.ask_device("input_drawer", Line::new("input").name(device).word(if is_open { "open" } else { "closed" }))
     }
 
-    /// Says that a scanner reads a code: its type (ScanDataType), all that was read, and its label.
+    /// Says that a scanner reads a code: its type, all that was read, and its label. The type is 0 to 999;
+    /// [`ScanDataType`](crate::standard::ScanDataType) has names of many.
     ///
     /// # Errors
     ///
