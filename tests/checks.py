@@ -8,6 +8,8 @@ import threading
 import time
 import traceback
 
+from emulator import take_unknown
+
 # How often it is looked whether the machine goes on, and from when on it stood still, in seconds.
 OFTEN, LONG = 0.02, 0.2
 # How often a test is run at most.
@@ -27,6 +29,8 @@ class Checks:
 
     def __init__(self):
         self.passed = self.failed = 0
+        # What the emulated devices didn't know, with the tests that sent it. Without a test there are no such devices.
+        self._unknown, self._has_run = [], False
         self._room = self.work = pathlib.Path(tempfile.mkdtemp())
         self._longest = 0.0
         threading.Thread(target=self._watch, daemon=True).start()
@@ -47,6 +51,7 @@ class Checks:
 
     def run(self, test):
         """Runs a test, again if it fails while the machine stands still."""
+        self._has_run = True
         for turn in range(1, TURNS + 1):
             before, self._longest = (self.passed, self.failed), 0.0
             self.work = pathlib.Path(tempfile.mkdtemp(dir=self._room))
@@ -55,6 +60,7 @@ class Checks:
             except Exception as fault:
                 traceback.print_exc(file=sys.stdout)
                 self.told(f"{test.__name__} ends well", None, fault)
+            self._unknown += [(test.__name__, *found) for found in take_unknown()]
             if self.failed == before[1] or self._longest < LONG or turn == TURNS:
                 return
             self.passed, self.failed = before
@@ -65,5 +71,7 @@ class Checks:
         shutil.rmtree(self._room)
         if not self.passed and not self.failed:
             self.told("a test has the word of --only", True, False)
+        if self._has_run:
+            self.told("the emulated devices know each command", [], self._unknown[:5])
         print(f"{self.passed} passed, {self.failed} failed")
         sys.exit(self.failed != 0)
