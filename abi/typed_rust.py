@@ -402,7 +402,7 @@ def method(about):
         lines += ["", about["detail"]]
     said = []
     for argument in about["arguments"]:
-        forever = " `None` is without end." if is_timeout(argument) else ""
+        forever = " `None` and [`Duration::MAX`] are without end." if is_timeout(argument) else ""
         ranged = "" if is_timeout(argument) or argument["constants"] in ENUMS else range_text(argument)
         summary = argument["summary"].split("; UPOS_FOREVER")[0].removesuffix(".") + "."
         said.append(f"- `{argument['name']}`: {lowered(summary)}{forever}{ranged}")
@@ -577,6 +577,7 @@ use crate::control::{{Control, Key}};
 #[cfg(doc)]
 use crate::error::Cause;
 use crate::error::Error;
+use crate::line::GREATEST;
 use crate::property::{{Property, Value}};
 use crate::standard::{{
     Category, {', '.join(names)},
@@ -588,9 +589,10 @@ use std::fmt;
 use std::ops::Deref;
 use std::time::Duration;
 
-/// The milliseconds of a timeout, of which -1 is without end.
+/// The milliseconds of a timeout, of which -1 is without end. One that is too long for a line is without end, too.
 fn milliseconds(timeout: Option<Duration>) -> i64 {{
-    timeout.map_or(-1, |time| i64::try_from(time.as_millis()).unwrap_or(i64::MAX))
+    let time = timeout.and_then(|time| i64::try_from(time.as_millis()).ok());
+    time.filter(|time| *time <= GREATEST).unwrap_or(-1)
 }}
 
 impl Till {{

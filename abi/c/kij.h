@@ -614,8 +614,8 @@ typedef struct kij_escpos_settings {
     /** Whether the printer says nothing by itself, and doesn't know GS ( H. Then it is asked for its status (DLE EOT),
      * and whether an order is printed (GS r). */
     bool is_asked;
-    /** How long the printer may go on without acknowledging a line, 1 or more; and how long to wait before a lost port
-     * is tried again, 0 or more; in milliseconds. */
+    /** How long the printer may go on without acknowledging a line, 1 or more: an order has to end, so KIJ_FOREVER is
+     * refused. And how long to wait before a lost port is tried again, 0 or more. Both are in milliseconds. */
     int timeout;
     int pause;
     kij_serial_settings serial;
@@ -631,8 +631,8 @@ typedef enum kij_protocol { KIJ_CD5220 = 0, KIJ_ESCPOS = 1 } kij_protocol;
 /** A customer display. Begin with KIJ_DISPLAY_SETTINGS. */
 typedef struct kij_display_settings {
     kij_protocol protocol;
-    /** How long an order may take, 1 or more; and how long to wait before a lost port is tried again, 0 or more; in
-     * milliseconds. */
+    /** How long an order may take, 1 or more: it has to end, so KIJ_FOREVER is refused. And how long to wait before a
+     * lost port is tried again, 0 or more. Both are in milliseconds. */
     int timeout;
     int pause;
     kij_serial_settings serial;
@@ -794,8 +794,8 @@ kij_result kij_driver_open(kij_till *till, const char *device, const kij_driver 
  * again, and prints output that waits (AsyncMode), at most one request of each printer. Call it regularly, and then
  * deliver events. Output that failed is tried again at the earliest 100 ms later, each time with an ErrorEvent.
  *
- * @param timeout how long to wait until there is something to do, in milliseconds, 0 or more. Printing may take longer.
- * Without driven devices the call waits the whole time. A signal doesn't end it.
+ * @param timeout how long to wait until there is something to do, in milliseconds, 0 or more; without an end by
+ * KIJ_FOREVER. Printing may take longer. Without driven devices the call waits the whole time. A signal doesn't end it.
  * @param is_any  where it is written whether anything was done; may be null
  * @return KIJ_BAD_INPUT if the device can't be as its hardware says, KIJ_NO_MEMORY, KIJ_NO_ANSWER, KIJ_DISK_FAILED or
  * KIJ_BAD_ARGUMENT on failure

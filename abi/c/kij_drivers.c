@@ -908,8 +908,8 @@ static void wait_for_any(const kij_drives *drives, int64_t time) {
 
 kij_result kij_run_devices(kij_till *till, int timeout, bool *is_any) {
     bool found = false;
-    int64_t end = kij_internal_now() + timeout;
-    if (timeout < 0) return plain(KIJ_BAD_ARGUMENT);
+    int64_t end = timeout == KIJ_FOREVER ? INT64_MAX : kij_internal_now() + timeout;
+    if (timeout < 0 && timeout != KIJ_FOREVER) return plain(KIJ_BAD_ARGUMENT);
     int code = kij_internal_enter(till);
     if (code != KIJ_OK) return plain(code);
     while (code == KIJ_OK) {

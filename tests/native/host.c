@@ -12,7 +12,7 @@
    there yes|no      whether the device is there
    reads TYPE HEX    a code that it reads next; or a failed scan, for `fault` in place of the type
    calls             whether the till may be called from the driver's next order
-   run TIMEOUT       kij_run_devices: `true` or `false`
+   run TIMEOUT       kij_run_devices: `true` or `false`; without an end by -1
    state DEVICE      kij_show_driver: whether it is online, and how many orders were printed late
    why DEVICE        kij_show_driver: why its port couldn't be opened or was lost the last time, as errno
    lines LINE;LINE   kij_carry_out: the answers, with `;` in place of line feeds
@@ -389,7 +389,7 @@ static void obey(char *line) {
         return;
     }
     const char *verb = strtok(line, " \n");
-    if (verb == NULL) answer(kij_run_devices(till, -1, NULL), "");
+    if (verb == NULL) answer(kij_run_devices(till, -2, NULL), "");
     else if (strcmp(verb, "printer") == 0) answer(open_printer(), "ok");
     else if (strcmp(verb, "display") == 0) answer(open_display(), "ok");
     else if (strcmp(verb, "scanner") == 0) answer(open_scanner(), "ok");

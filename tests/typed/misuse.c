@@ -188,9 +188,9 @@ static void opened_on(kij_till *till) {
     kij_discard(again);
 }
 
-/* No order succeeds in no time, and no call waits for less. */
+/* No order succeeds in no time, and each has to end. No call waits for less than no time. */
 static void times(kij_till *till) {
-    static const int refused[] = {0, -1, INT_MIN};
+    static const int refused[] = {0, KIJ_FOREVER, -2, INT_MIN};
     for (size_t place = 0; place < sizeof refused / sizeof refused[0]; place++) {
         int time = refused[place];
         kij_escpos_settings printer = KIJ_ESCPOS_SETTINGS;
@@ -205,7 +205,7 @@ static void times(kij_till *till) {
         gives("a printer's pause", KIJ_BAD_SETTINGS, kij_escpos_printer_open(till, "r1", "/dev/none", &printer));
         gives("a display's pause", KIJ_BAD_SETTINGS, kij_serial_display_open(till, "p1", "/dev/none", &display));
         gives("a scanner's pause", KIJ_BAD_SETTINGS, kij_wedge_scanner_open(till, "s1", "/dev/none", &scanner));
-        gives("a time to run", KIJ_BAD_ARGUMENT, kij_run_devices(till, time, NULL));
+        if (time != KIJ_FOREVER) gives("a time to run", KIJ_BAD_ARGUMENT, kij_run_devices(till, time, NULL));
     }
 }
 

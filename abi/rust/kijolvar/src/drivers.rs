@@ -1,8 +1,8 @@
 //! Drivers: they move bytes between a till and the devices on its ports. A driver of your own implements [`Driver`].
 use crate::devices::Order;
 use crate::error::{Cause, Error};
-use crate::links::{is_over, Kind, Link, Told};
-use crate::ports::{end_after, uptime, Cable, Port, Ready, ETIMEDOUT, MOST_READS, QUICKLY};
+use crate::links::{is_over, is_timeout, Kind, Link, Told};
+use crate::ports::{end_after, uptime, Cable, Port, Ready, ETIMEDOUT, LONGEST_WAIT, MOST_READS, QUICKLY};
 use crate::standard::{Category, ScanDataType};
 use crate::till::Inner;
 use crate::wire::{Asked, PrinterReply, WireSettings};
@@ -281,10 +281,10 @@ pub struct EscPosSettings {
     /// Whether the printer says nothing by itself, and doesn't know GS ( H. Then it is asked for its status (DLE
     /// EOT), and whether an order is printed (GS r).
     pub is_asked: bool,
-    /// How long the printer may go on without acknowledging a line of an order; more than zero. [`Duration::MAX`] is as
-    /// long as it takes.
+    /// How long the printer may go on without acknowledging a line of an order; more than zero, and at most 2,147,483
+    /// seconds. An order has to end, so [`Duration::MAX`] is refused.
     pub timeout: Duration,
-    /// How long to wait before a lost port is tried again; with [`Duration::MAX`] it never is.
+    /// How long to wait before a lost port is tried again, at most 2,147,483 seconds.
     pub pause: Duration,
 }
 
@@ -584,9 +584,10 @@ pub enum Protocol {
 pub struct DisplaySettings {
     /// What it understands.
     pub protocol: Protocol,
-    /// How long an order may take; more than zero. [`Duration::MAX`] is as long as it takes.
+    /// How long an order may take; more than zero, and at most 2,147,483 seconds. An order has to end, so
+    /// [`Duration::MAX`] is refused.
     pub timeout: Duration,
-    /// How long to wait before a lost port is tried again; with [`Duration::MAX`] it never is.
+    /// How long to wait before a lost port is tried again, at most 2,147,483 seconds.
     pub pause: Duration,
 }
 
@@ -608,6 +609,11 @@ struct Reopened {
 impl Reopened {
     fn new(cable: Cable, pause: Duration) -> Reopened {
         Reopened { cable, pause, tried_at: None }
+    }
+
+    /// Whether the port may be one, and the pause is in its range.
+    fn is_sound(&self) -> bool {
+        self.cable.port.is_sound() && self.pause <= LONGEST_WAIT
     }
 
     /// Opens the port, unless it is open or that was tried just now. Returns whether it was opened.
@@ -704,7 +710,7 @@ impl Driver for SerialDisplay {
     }
 
     fn start(&mut self, _: &mut DriverTill<'_>, _: &str) -> Result<(), Error> {
-        if !self.port.cable.port.is_sound() || self.timeout.is_zero() {
+        if !self.port.is_sound() || !is_timeout(self.timeout) {
             return Err(Error::new("drive", Cause::BadSettings));
         }
         Ok(())
@@ -810,7 +816,7 @@ impl WedgeScanner {
         WedgeScanner { kind, ..self }
     }
 
-    /// Makes this how long to wait before a lost port is tried again; with [`Duration::MAX`] it never is.
+    /// Makes this how long to wait before a lost port is tried again, at most 2,147,483 seconds; 1 second otherwise.
     pub fn with_pause(mut self, pause: Duration) -> WedgeScanner {
         self.port.pause = pause;
         self
@@ -954,7 +960,7 @@ impl Driver for WedgeScanner {
     }
 
     fn start(&mut self, _: &mut DriverTill<'_>, _: &str) -> Result<(), Error> {
-        if !self.port.cable.port.is_sound() || self.kind > HIGHEST_KIND {
+        if !self.port.is_sound() || self.kind > HIGHEST_KIND {
             return Err(Error::new("drive", Cause::BadSettings));
         }
         Ok(())

@@ -846,7 +846,7 @@ impl Till {
     /// Does what the driven devices need: tells the till what they say of themselves and what was scanned, opens lost
     /// ports again, and prints output that waits (AsyncMode), at most one request of each printer. Call it regularly,
     /// and then deliver events. It waits as long as this until there is something to do, also if no device has a
-    /// driver, and without end with [`Duration::MAX`]; printing may take longer. Returns whether anything was done.
+    /// driver, and without an end with [`Duration::MAX`]; printing may take longer. Returns whether anything was done.
     ///
     /// Nobody else can use the till meanwhile. If several threads do, give it to an [`Actor`](crate::Actor), and call
     /// [`Actor::run_devices`](crate::Actor::run_devices).

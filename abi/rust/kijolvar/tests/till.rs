@@ -949,13 +949,22 @@ fn what_no_device_can_have_is_refused() {
     let refused = |driven: Result<(), Error>| assert!(matches!(driven.unwrap_err().cause(), Cause::BadSettings));
     refused(till.drive("s1", WedgeScanner::open("/dev/input/none").with_kind(1000)));
     refused(till.drive("p1", SerialDisplay::open("tcp:192.168.1.9:91OO", DisplaySettings::default())));
-    // No order succeeds in no time.
-    let timeout = Duration::ZERO;
-    let printer = EscPosPrinter::open("/dev/none", EscPosSettings { timeout, ..EscPosSettings::default() });
-    refused(till.drive("d1", printer.drawer()));
-    refused(till.drive("r1", printer));
-    let settings = DisplaySettings { timeout, ..DisplaySettings::default() };
-    refused(till.drive("p1", SerialDisplay::open("/dev/none", settings)));
+    // No order succeeds in no time, and each has to end.
+    let too_long = Duration::from_secs(2_147_484);
+    for timeout in [Duration::ZERO, too_long, Duration::MAX] {
+        let printer = EscPosPrinter::open("/dev/none", EscPosSettings { timeout, ..EscPosSettings::default() });
+        refused(till.drive("d1", printer.drawer()));
+        refused(till.drive("r1", printer));
+        let settings = DisplaySettings { timeout, ..DisplaySettings::default() };
+        refused(till.drive("p1", SerialDisplay::open("/dev/none", settings)));
+    }
+    for pause in [too_long, Duration::MAX] {
+        let printer = EscPosPrinter::open("/dev/none", EscPosSettings { pause, ..EscPosSettings::default() });
+        refused(till.drive("r1", printer));
+        let settings = DisplaySettings { pause, ..DisplaySettings::default() };
+        refused(till.drive("p1", SerialDisplay::open("/dev/none", settings)));
+        refused(till.drive("s1", WedgeScanner::open("/dev/input/none").with_pause(pause)));
+    }
     till.drive("s1", WedgeScanner::open("/dev/input/none").with_kind(999)).unwrap();
     let state = till.driver_state("s1").unwrap();
     assert_eq!((state.is_online, state.port_error), (false, Some(2)));
@@ -1335,7 +1344,7 @@ fn a_port_that_opens_late_is_found() {
     let (till, port) = (till(), format!("tcp:{}", listener.local_addr().unwrap()));
     // It isn't waited for at first, nor tried a second time.
     let timeout = Duration::from_nanos(1);
-    let settings = DisplaySettings { timeout, pause: Duration::MAX, ..Default::default() };
+    let settings = DisplaySettings { timeout, pause: Duration::from_secs(1000), ..Default::default() };
     till.drive("p1", SerialDisplay::open(port, settings)).unwrap();
     let end = Instant::now() + Duration::from_secs(10);
     while !till.driver_state("p1").unwrap().is_online && Instant::now() < end {
@@ -1425,8 +1434,8 @@ fn a_driven_printer_may_be_detached() {
 }
 
 #[test]
-fn a_timeout_may_be_any() {
-    let (till, timeout) = (till(), Duration::MAX);
+fn a_wait_for_devices_may_have_no_end() {
+    let (till, timeout) = (till(), Duration::from_secs(2_147_483));
     till.drive("s1", Codes::of(&["4006381"])).unwrap();
     // Nothing listens at this port.
     let settings = EscPosSettings { timeout, pause: timeout, ..EscPosSettings::default() };
@@ -1435,7 +1444,18 @@ fn a_timeout_may_be_any() {
     till.drive("p1", SerialDisplay::open("/dev/null", settings)).unwrap();
     let display = till.line_display("p1").unwrap().enabled().unwrap();
     display.display_text("4.50", DisplayAttribute::Normal).unwrap();
-    assert!(till.run_devices(timeout).unwrap());
+    assert!(till.run_devices(Duration::MAX).unwrap());
+}
+
+#[test]
+fn a_claim_may_have_no_end() {
+    let till = till();
+    let scanner = till.scanner("s1").unwrap();
+    for timeout in [None, Some(Duration::MAX), Some(Duration::from_secs(1_000_000_000_000_000))] {
+        scanner.claim(timeout).unwrap();
+    }
+    let error = till.scanner("s1").unwrap().claim(Some(Duration::MAX)).unwrap_err();
+    assert_eq!(error.code(), Some(ResultCode::Timeout));
 }
 
 #[test]

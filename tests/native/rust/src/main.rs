@@ -12,6 +12,14 @@ use std::time::Duration;
 /// The words behind a command's verb, of which some are keys with a value.
 struct Words<'l>(Vec<&'l str>);
 
+/// A time, of which -1 has no end.
+fn milliseconds(word: &str) -> Duration {
+    if word == "-1" {
+        return Duration::MAX;
+    }
+    Duration::from_millis(word.parse().unwrap())
+}
+
 impl Words<'_> {
     fn has(&self, key: &str) -> bool {
         self.0.contains(&key)
@@ -27,7 +35,7 @@ impl Words<'_> {
     }
 
     fn time(&self, key: &str, usual: Duration) -> Duration {
-        self.number(key).map_or(usual, |number| Duration::from_millis(number.into()))
+        self.value(key).map_or(usual, milliseconds)
     }
 
     /// The port of a device, which may be a serial line whatever its name is.
@@ -279,7 +287,7 @@ fn obey<'till>(till: &'till Till, typed: &mut Typed<'till>, line: &str) -> Resul
             Ok("ok".to_string())
         }
         "reads" => Ok(read_code(&words)),
-        "run" => till.run_devices(Duration::from_millis(words.0[0].parse().unwrap())).map(|is_any| is_any.to_string()),
+        "run" => till.run_devices(milliseconds(words.0[0])).map(|is_any| is_any.to_string()),
         "state" => till
             .driver_state(words.0[0])
             .map(|state| format!("{} {}", if state.is_online { "online" } else { "offline" }, state.late_orders)),
