@@ -7,6 +7,7 @@ import builtins
 import collections.abc
 import contextlib
 import copy
+import ctypes
 import dataclasses
 import errno
 import fcntl
@@ -1416,6 +1417,100 @@ def try_files():
         told(f"a file that is {name} stays", content, path.read_bytes())
 
 
+def try_backups():
+    """A file of totals is copied while a till has it. The copy is whole, or isn't there."""
+    path, copy_of, part = WORK / "kept", WORK / "kept.copy", WORK / "kept.copy.part"
+
+    def refused(*words):
+        """What copying is refused with, and whether anything is there then."""
+        fault = raised(kijolvar.backup, *(words or (path, copy_of)), LIBRARY)
+        return type(fault).__name__, getattr(fault, "filename", None), copy_of.exists(), part.exists()
+    with opened(totals=path, create=True) as till:
+        totals = till.totals("t1")
+        totals.create("SALES", 3)
+        totals["SALES"].write(0, b"abc")
+        steps = mock.Mock()
+        with contextlib.ExitStack() as stack:
+            for name in ("pwrite", "fsync", "link", "unlink"):
+                step = stack.enter_context(mock.patch(f"os.{name}", side_effect=getattr(os, name)))
+                steps.attach_mock(step, name)
+            told("a copy while a till has the file", None, kijolvar.backup(path, copy_of, LIBRARY))
+        told("it is synced, and then gets its name", ["pwrite", "fsync", "link", "unlink", "fsync"],
+             [call[0] for call in steps.mock_calls])
+        told("what it holds", {b"SALES": b"abc"}, kijolvar.files(copy_of, LIBRARY).files)
+        told("its bytes, for its owner alone", (True, 0o600),
+             (copy_of.read_bytes() == path.read_bytes(), copy_of.stat().st_mode & 0o777))
+        told("the till has the file still", "BlockingIOError", name_of(kijolvar.files, path, LIBRARY))
+        totals["SALES"].write(0, b"xyz")
+        told("a copy is there", ("FileExistsError", str(copy_of), True, False), refused())
+        told("it stays as it is", {b"SALES": b"abc"}, kijolvar.files(copy_of, LIBRARY).files)
+        copy_of.unlink()
+        copy_of.symlink_to(WORK / "no-such-file")
+        told("a link that leads nowhere is there", "FileExistsError", refused()[0])
+        copy_of.unlink()
+        part.write_bytes(b"")
+        told("a crash has left a part", ("FileExistsError", str(part), False, True), refused())
+        part.unlink()
+        for name, number in (("pwrite", errno.ENOSPC), ("fsync", errno.EIO), ("link", errno.EPERM)):
+            with mock.patch(f"os.{name}", side_effect=OSError(number, os.strerror(number))):
+                told(f"{name} fails", (type(OSError(number, "")).__name__, str(copy_of if name == "link" else part),
+                                       False, False), refused())
+        told("no folder", ("FileNotFoundError", str(WORK / "none"), False, False), refused(path, WORK / "none/copy"))
+    whole = path.read_bytes()
+    for name, content, wanted in (
+            ("nothing is there", None, "FileNotFoundError"), ("a short file", b"", "TooSmallError"),
+            ("one that isn't formatted", bytes(KIJOLVAR_DISK_LENGTH), "UnformattedError"),
+            ("a damaged one", whole[:1] + bytes(len(whole) - 1), "DamagedError")):
+        (WORK / "kept.bad").unlink(missing_ok=True)
+        if content is not None:
+            (WORK / "kept.bad").write_bytes(content)
+        told(name, (wanted, False, False), refused(WORK / "kept.bad", copy_of)[:1] + refused(WORK / "kept.bad", copy_of)[2:])
+    told("a folder", "IsADirectoryError", refused(WORK, copy_of)[0])
+    with mock.patch("kijolvar._files.read_whole", side_effect=[b"", b"torn", whole, b"torn", whole, whole]) as readings:
+        told("a file that changes between two readings", None, kijolvar.backup(path, copy_of, LIBRARY))
+    told("it is read until two are the same", (6, whole), (readings.call_count, copy_of.read_bytes()))
+    copy_of.unlink()
+    with mock.patch("kijolvar._files.read_whole", side_effect=[bytes([at % 2]) for at in range(1001)]) as readings:
+        told("one that always changes", (("BlockingIOError", str(path), False, False), 1001),
+             (refused(), readings.call_count))
+
+
+def try_backups_beside_changes():
+    """A copy that is made while a till changes two files together has both as they were at one moment."""
+    path, copy_of, ending, counts = WORK / "busy", WORK / "busy.copy", threading.Event(), []
+    with opened(totals=path, create=True) as till:
+        totals = till.totals("t1")
+        for name in ("A", "B"):
+            totals.create(name, 4)
+
+    def changes():
+        with opened(totals=path) as till:
+            totals = till.totals("t1")
+            for count in range(1, 1_000_000):
+                with totals.transaction():
+                    for name in ("A", "B"):
+                        totals[name].write(0, count.to_bytes(4, "big"))
+                counts.append(count)
+                if ending.is_set():
+                    break
+    with contextlib.ExitStack() as stack:
+        changing = threading.Thread(target=changes)
+        changing.start()
+        stack.callback(changing.join)
+        stack.callback(ending.set)
+        is_same, is_new = [], []
+        for _ in range(20):
+            before = len(counts)
+            kijolvar.backup(path, copy_of, LIBRARY)
+            first, second = (int.from_bytes(found) for found in kijolvar.files(copy_of, LIBRARY).files.values())
+            is_same.append(first == second)
+            is_new.append(first >= before)
+            copy_of.unlink()
+    told("two files of one transaction", [True] * 20, is_same)
+    told("each change that was done before", [True] * 20, is_new)
+    told("the till has gone on", True, len(counts) > 20)
+
+
 def try_replaced_totals():
     """Another file gets the name of the totals before they are locked, as `kijolvar restore --replace` gives it."""
     path, old, new = (WORK / name for name in ("replaced", "replaced.old", "replaced.new"))
@@ -2149,6 +2244,17 @@ def try_library():
     library = kijolvar.load(LIBRARY)
     with kijolvar.open(library=library) as till:
         told("a library that was loaded", False, till.drawer("d1").drawer_opened)
+    told("one that ctypes has loaded", ["d1", "s1", "p1", "r1", "t1"],
+         [device.name for device in kijolvar.devices(library=ctypes.CDLL(LIBRARY))])
+    told("another one", "LibraryError", name_of(kijolvar.devices, library=ctypes.CDLL(None)))
+    none = WORK / "none"
+    with mock.patch.object(kijolvar._library, "KIJOLVAR_VERSION", 1):
+        for given in (LIBRARY, library):
+            told("another version", ["the library has interface version 2, and this package needs 1"] * 8 + [False], [
+                str(raised(call, *words, library=given)) for call, *words in (
+                    (kijolvar.devices,), (kijolvar.files, none), (kijolvar.check, none), (kijolvar.migrate, none),
+                    (kijolvar.backup, none, WORK / "none.copy"),
+                    (kijolvar.create_totals, none), (kijolvar.open,), (kijolvar.open, None, none))] + [none.exists()])
 
 
 def members(kind):
@@ -2165,7 +2271,7 @@ def try_help():
     told("each method and property says what it does", [],
          [f"{kind.__name__}.{name}" for kind in own for name, member in members(kind) if not inspect.getdoc(member)])
     functions = [kijolvar.open, kijolvar.load, kijolvar.create_totals, kijolvar.open_totals, kijolvar.devices,
-                 kijolvar.files, kijolvar.check, kijolvar.migrate]
+                 kijolvar.files, kijolvar.check, kijolvar.migrate, kijolvar.backup]
     told("each function too", [], [call.__name__ for call in functions if not call.__doc__])
     missing = []
     for part in PARTS[1:]:
@@ -2366,7 +2472,8 @@ def main():
         for try_it in (try_scripts, try_threads, try_fork, try_closed, try_replies, try_events, try_copies,
                        try_types_of_codes, try_constants_of_others, try_listeners, try_kept_listeners, try_claims,
                        try_misuse, try_many_controls, try_totals, try_disabled_transactions, try_files,
-                       try_replaced_totals, try_handlers, try_closing_handlers, try_forking_handlers, try_any_event,
+                       try_backups, try_backups_beside_changes, try_replaced_totals, try_handlers,
+                       try_closing_handlers, try_forking_handlers, try_any_event,
                        try_lines_without_memory, try_orders_without_memory, try_order_without_memory,
                        try_scan_before_power, try_lost_answers, try_lost_openings, try_lost_renames,
                        try_lost_constructors, try_given_up_by_a_closed_control,

@@ -234,8 +234,8 @@ typedef struct kij_mistake {
  *
  * @param profile the profile's text, as kij_open takes it
  * @param mistake where it is written what is wrong; all 0 if nothing is
- * @return KIJ_BAD_PROFILE, and mistake says why; KIJ_OK if the profile isn't refused; KIJ_NO_MEMORY; KIJ_BAD_ARGUMENT
- * without a mistake
+ * @return KIJ_BAD_PROFILE, and mistake says why; KIJ_OK if the profile isn't refused; KIJ_NO_MEMORY, KIJ_WRONG_VERSION;
+ * KIJ_BAD_ARGUMENT without a mistake
  */
 kij_result kij_profile_mistake(const char *profile, kij_mistake *mistake);
 
@@ -258,7 +258,7 @@ typedef struct kij_device {
  * @param devices room for them; null if room is 0
  * @param room    how many there is room for; further ones aren't written
  * @param count   where it is written how many the profile has
- * @return KIJ_BAD_PROFILE, KIJ_NO_MEMORY or KIJ_BAD_ARGUMENT on failure
+ * @return KIJ_BAD_PROFILE, KIJ_NO_MEMORY, KIJ_WRONG_VERSION or KIJ_BAD_ARGUMENT on failure
  */
 kij_result kij_devices(const char *profile, kij_device *devices, size_t room, size_t *count);
 
@@ -271,11 +271,26 @@ kij_result kij_devices(const char *profile, kij_device *devices, size_t room, si
  * @param room   how many bytes there is room for
  * @param needed where it is written how many bytes the text has without the 0 byte; 0 if there is no text
  * @param place  where the place is written, in bytes from the first of the file, if the code is KIJ_DAMAGED
- * @return KIJ_DAMAGED, and text is the rule; KIJ_UNFORMATTED, KIJ_TOO_SMALL, KIJ_NO_MEMORY; KIJ_SYSTEM, with ENOENT if
- * there is no file, EWOULDBLOCK if a till has it, or why it couldn't be opened, synced or read; KIJ_BAD_ARGUMENT
- * without a path
+ * @return KIJ_DAMAGED, and text is the rule; KIJ_UNFORMATTED, KIJ_TOO_SMALL, KIJ_NO_MEMORY, KIJ_WRONG_VERSION;
+ * KIJ_SYSTEM, with ENOENT if there is no file, EWOULDBLOCK if a till has it, or why it couldn't be opened, synced or
+ * read; KIJ_BAD_ARGUMENT without a path
  */
 kij_result kij_files(const char *path, char *text, size_t room, size_t *needed, uint64_t *place);
+
+/**
+ * Copies a file of totals to a path where nothing is, also while a till has it open. The file is only read, and not
+ * locked: again and again, until two readings in a row give the same bytes. They have to be sound. The copy appears whole
+ * or not at all: it is written to a file beside it, with `.part` at its end, and synced before it gets its name. Its file
+ * system must have hard links.
+ *
+ * @param path the path of the file
+ * @param to   the path of the copy, which is for its owner alone
+ * @return KIJ_DAMAGED, KIJ_UNFORMATTED, KIJ_TOO_SMALL, KIJ_NO_MEMORY, KIJ_WRONG_VERSION; KIJ_SYSTEM, with EEXIST if
+ * anything has the name of the copy, or that with `.part` at its end, as after a crash; with EWOULDBLOCK if the file
+ * changes from each of 1,000 readings to the next; or with why it couldn't be read, or the copy not be made;
+ * KIJ_BAD_ARGUMENT without a path
+ */
+kij_result kij_backup(const char *path, const char *to);
 
 /**
  * Moves the totals in a file to layout 2, in place: their files stay, and may be more and longer from then on. A crash

@@ -36,7 +36,8 @@
    memory N [COUNT]  refuses the allocation of this number and all behind it, or so many, and gives all again if N is 0
                      or less
 
-   What is refused is answered by the name of its code, and the extended code if it has one. */
+   What is refused is answered by the name of its code, and the extended code if it has one. `host begin FILE` reads no
+   commands: it answers what the calls say by which a program begins. */
 #include "kij.h"
 #include <stdio.h>
 #include <stdlib.h>
@@ -439,12 +440,28 @@ static char *text_of(const char *path) {
     return text;
 }
 
+/* What the calls answer by which a program begins: of a profile, of a file that isn't there, and of tills. */
+static int begin(const char *path) {
+    kij_mistake mistake;
+    size_t count;
+    uint64_t place;
+    answer(kij_profile_mistake(NULL, &mistake), "ok");
+    answer(kij_devices(NULL, NULL, 0, &count), "ok");
+    answer(kij_files(path, NULL, 0, &count, &place), "ok");
+    answer(kij_backup(path, path), "ok");
+    answer(kij_migrate(path), "ok");
+    answer(kij_open(NULL, NULL, KIJ_EXISTING, &till), "ok");
+    answer(kij_open(NULL, path, KIJ_CREATE, &till), "ok");
+    return 0;
+}
+
 int main(int count, char **words) {
     static char line[300000];
     if (count < 2 || count > 3) {
-        fprintf(stderr, "Usage: host PROFILE [TOTALS]\n");
+        fprintf(stderr, "Usage: host PROFILE [TOTALS], or host begin FILE\n");
         return 2;
     }
+    if (count == 3 && strcmp(words[1], "begin") == 0) return begin(words[2]);
     const char *totals = count > 2 ? words[2] : NULL;
     kij_result result = kij_open(text_of(words[1]), totals, totals == NULL ? KIJ_EXISTING : KIJ_CREATE, &till);
     if (result.code != KIJ_OK) {

@@ -28,7 +28,7 @@ from ._events import DataEvent, ErrorEvent, Event, OutputCompleteEvent, StatusUp
 from ._files import open_totals
 from ._library import find as load
 from .drivers import Driver, EscPosDrawer, EscPosPrinter, Scan, SerialDisplay, WedgeScanner
-from ._questions import ProfileDevice, TotalsContents, check, devices, files, migrate
+from ._questions import ProfileDevice, TotalsContents, backup, check, devices, files, migrate
 from ._wire import JOB_DRAWER, JOB_PAPER, Asked, Reply, WireSettings
 from .errors import *
 from .ports import FilePort, Port, PortError, SerialPort, TcpPort, port_of
@@ -43,8 +43,8 @@ __all__ = [
     "JOB_PAPER", "LineDisplay", "Order", "OutputCompleteEvent", "POSPrinter", "Port", "PortError", "PrintedCut",
     "PrintedLine", "Printer", "PrinterView", "ProfileDevice", "Reply", "Scan", "Scanner", "ScannerView",
     "SerialDisplay", "SerialPort", "StandardControl", "StatusUpdateEvent", "TcpPort", "Till", "Totals",
-    "TotalsContents", "TotalsFile", "WedgeScanner", "WireSettings", "WorkDone",
-    "WorkFailed", "check", "create_totals", "devices", "files", "load", "migrate", "open", "open_totals", "port_of",
+    "TotalsContents", "TotalsFile", "WedgeScanner", "WireSettings", "WorkDone", "WorkFailed", "backup", "check",
+    "create_totals", "devices", "files", "load", "migrate", "open", "open_totals", "port_of",
 ]
 __all__ += _constants.__all__
 __all__ += errors.__all__

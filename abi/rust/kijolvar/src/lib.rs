@@ -98,7 +98,7 @@ pub use error::{Cause, Error};
 pub use event::{ErrorEvent, Event, Events, StatusUpdate};
 pub use ports::{Flow, Parity, Port, SerialSettings};
 pub use property::{Property, PropertyType, Value};
-pub use questions::{check, devices, files, migrate, ProfileDevice, ProfileMistake, TotalsContents};
+pub use questions::{backup, check, devices, files, migrate, ProfileDevice, ProfileMistake, TotalsContents};
 pub use till::{Till, BUILT_PROFILE};
 pub use totals_file::Totals;
 pub use views::{Alignment, DisplayView, Printed, PrintedText, PrinterView};

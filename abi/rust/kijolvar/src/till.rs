@@ -81,6 +81,16 @@ pub(crate) fn opening_cause(code: u32, profile: &str) -> Cause {
     }
 }
 
+/// Refuses a library of another version, whose answers may mean something else.
+pub(crate) fn check_version() -> Result<(), Cause> {
+    // SAFETY: it takes nothing.
+    if unsafe { kijolvar_version() } == library::VERSION {
+        Ok(())
+    } else {
+        Err(Cause::WrongVersion)
+    }
+}
+
 /// Refuses what can't be a device's name.
 fn checked(call: &'static str, device: &str) -> Result<(), Error> {
     if is_name(device) {
@@ -474,10 +484,7 @@ impl Till {
     }
 
     fn begin(profile: &str, totals: &Totals) -> Result<Inner, Cause> {
-        // SAFETY: it takes nothing.
-        if unsafe { kijolvar_version() } != library::VERSION {
-            return Err(Cause::WrongVersion);
-        }
+        check_version()?;
         let Some(file) = totals.open(profile)? else { return Inner::in_memory(profile) };
         let bytes = Inner::bytes_of(&file)?;
         let mut inner = Inner::over_file(profile, file, bytes, kijolvar_open_file)?;
@@ -643,11 +650,11 @@ impl Till {
     pub fn input_scan(
         &self,
         device: &str,
-        of: u64,
+        kind: u64,
         data: impl AsRef<[u8]>,
         label: impl AsRef<[u8]>,
     ) -> Result<(), Error> {
-        let line = Line::new("input").name(device).word("scan").number(of).bytes(data.as_ref()).bytes(label.as_ref());
+        let line = Line::new("input").name(device).word("scan").number(kind).bytes(data.as_ref()).bytes(label.as_ref());
         self.ask_device("input_scan", line)
     }
 

@@ -2,7 +2,7 @@
 use kijolvar::standard::{Category, DrawerStatus, ScrollDirection, State, PTR_CP_FULLCUT};
 use kijolvar::standard::{DisplayAttribute, ErrorLocus, ErrorReply, ExtendedCode, PrinterStation, ResultCode};
 use kijolvar::standard::{PowerNotify, PowerStatus};
-use kijolvar::{check, files, migrate, StatusUpdate, Till, Totals, Value, Work, BUILT_PROFILE};
+use kijolvar::{backup, check, files, migrate, StatusUpdate, Till, Totals, Value, Work, BUILT_PROFILE};
 use kijolvar::{Actor, Asked, CashDrawer, Cause, Error, Event, Events, HardTotals, Order, PosPrinter, PrinterReply};
 use kijolvar::{DisplaySettings, Driver, DriverTill, EscPosPrinter, EscPosSettings, Port, Scan, SerialDisplay};
 use kijolvar::{Property, Scanner, SerialSettings, WedgeScanner, WireSettings};
@@ -155,6 +155,45 @@ fn a_lock_ends_with_its_call_or_till() {
         let in_use = Till::open(BUILT_PROFILE, Totals::existing(place.file())).unwrap_err();
         assert_eq!(system_kind(&in_use), Some(ErrorKind::WouldBlock));
     });
+}
+
+#[test]
+fn a_file_is_copied_while_a_till_has_it() {
+    let place = Place::new("copied");
+    let (copy, part) = (place.file().with_extension("copy"), place.file().with_extension("copy.part"));
+    let kind = |done: Result<(), Error>| system_kind(&done.unwrap_err());
+    assert_eq!(kind(backup(place.file(), &copy)), Some(ErrorKind::NotFound));
+    let till = Till::open(BUILT_PROFILE, Totals::create_new(place.file())).unwrap();
+    let totals = till.hard_totals("t1").unwrap().enabled().unwrap();
+    let handle = totals.create("DAY", 2, false).unwrap();
+    totals.write(handle, 0, [1, 0xff]).unwrap();
+    backup(place.file(), &copy).unwrap();
+    assert_eq!(std::fs::read(&copy).unwrap(), std::fs::read(place.file()).unwrap());
+    assert_eq!(std::fs::metadata(&copy).unwrap().mode() & 0o777, 0o600);
+    totals.write(handle, 0, [2, 0]).unwrap();
+    assert_eq!(kind(backup(place.file(), &copy)), Some(ErrorKind::AlreadyExists));
+    assert_eq!(files(&copy).unwrap().files, [(b"DAY".to_vec(), vec![1, 0xff])]);
+    std::fs::remove_file(&copy).unwrap();
+    // A crash has left it.
+    std::fs::write(&part, "").unwrap();
+    assert_eq!(kind(backup(place.file(), &copy)), Some(ErrorKind::AlreadyExists));
+    std::fs::remove_file(&part).unwrap();
+    assert_eq!(kind(backup(place.file(), "/nowhere/at/all")), Some(ErrorKind::NotFound));
+    drop(totals);
+    drop(till);
+    let mut bytes = std::fs::read(place.file()).unwrap();
+    let slot = files(place.file()).unwrap().slot as usize;
+    bytes[slot + 9..slot + 17].fill(0xff);
+    for (found, is_wanted) in [
+        (bytes, (|cause| matches!(cause, Cause::Damaged(Some(_)))) as fn(&Cause) -> bool),
+        (vec![0; 327_680], |cause| matches!(cause, Cause::Unformatted)),
+        (b"short".to_vec(), |cause| matches!(cause, Cause::TooSmall)),
+    ] {
+        std::fs::write(place.file(), found).unwrap();
+        let error = backup(place.file(), &copy).unwrap_err();
+        assert!(is_wanted(error.cause()), "{error}");
+    }
+    assert!(!copy.exists() && !part.exists());
 }
 
 #[test]

@@ -2,8 +2,9 @@
 //! reads, and how it answers them.
 use kijolvar::standard::{Category, ErrorReply, PrinterStation};
 use kijolvar::{
-    Cause, DisplaySettings, Driver, DriverTill, Error, EscPosPrinter, EscPosSettings, Event, Flow, Order, Port,
-    PosPrinter, Protocol, Scan, SerialDisplay, SerialSettings, Till, Totals, WedgeScanner,
+    backup, check, devices, files, migrate, Cause, DisplaySettings, Driver, DriverTill, Error, EscPosPrinter,
+    EscPosSettings, Event, Flow, Order, Port, PosPrinter, Protocol, Scan, SerialDisplay, SerialSettings, Till, Totals,
+    WedgeScanner, BUILT_PROFILE,
 };
 use std::io::{BufRead, Write};
 use std::sync::{Mutex, MutexGuard};
@@ -333,12 +334,33 @@ fn refusal(error: &Error) -> String {
         Cause::Driven => "KIJ_DRIVEN".to_string(),
         Cause::NoMemory => "KIJ_NO_MEMORY".to_string(),
         Cause::NoAnswer => "KIJ_NO_ANSWER".to_string(),
+        Cause::WrongVersion => "KIJ_WRONG_VERSION".to_string(),
         _ => error.to_string(),
+    }
+}
+
+/// What the calls answer by which a program begins: of a profile, of a file that isn't there, and of tills.
+fn begin(path: &str) {
+    let answers = [
+        devices(BUILT_PROFILE).map(drop),
+        files(path).map(drop),
+        check(path),
+        backup(path, path),
+        migrate(path),
+        Till::open(BUILT_PROFILE, Totals::Memory).map(drop),
+        Till::open(BUILT_PROFILE, Totals::create(path)).map(drop),
+    ];
+    for answer in answers {
+        println!("{}", answer.map_or_else(|error| refusal(&error), |()| "ok".to_string()));
     }
 }
 
 fn main() {
     let words: Vec<String> = std::env::args().collect();
+    if words[1] == "begin" {
+        begin(&words[2]);
+        return;
+    }
     let profile = std::fs::read_to_string(&words[1]).expect("a profile");
     let totals = words.get(2).map_or(Totals::Memory, Totals::create);
     let till = Till::open(&profile, totals).expect("a till");
