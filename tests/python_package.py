@@ -758,6 +758,12 @@ def try_misuse():
             till.device("r1").cover(is_open=False)
             till.device("r1").paper(0)
             told("no paper", "ReceiptEmptyError", name_of(printer.print, "A\n"))
+        told("a device that isn't there, and which are", [
+            "open of POSPrinter d1: E_NOEXIST (109): No device of the control's category has the name. The profile has r1.",
+            "the profile has no device 'r9': it has d1, s1, p1, r1, t1",
+            "a name has 1 to 16 ASCII letters, digits and hyphens: not 'd 1'"], [
+                str(raised(*call)) for call in ((till.printer, "d1"), (till.drive, "r9", kijolvar.Driver()),
+                                                (till.drawer, "d 1"))])
         told("reprs", ["<kijolvar.CashDrawer on 'd1'>", "<kijolvar.Device 'd1'>", "<kijolvar.CashDrawer closed>",
                        "<kijolvar.TotalsFile b'A': 1 bytes, handle 1>"],
              [repr(it) for it in (drawer, till.device("d1"), till.new_control(kijolvar.CashDrawer), totals["A"])])
@@ -1400,11 +1406,12 @@ def try_files():
     fault = raised(kijolvar.check, path, LIBRARY)
     reason = "the length of the current body is above the longest"
     told("damage", ("DamagedError", reason, found.slot + 9), (type(fault).__name__, fault.reason, fault.place))
-    told("what it says", f"the totals are damaged at byte {fault.place}: {reason}: keep the file, and work on a copy of it",
-         str(fault))
+    told("what it says", (f"{path}: the totals are damaged at byte {fault.place}: {reason}: keep the file, and work on a "
+                          "copy of it", str(path)), (str(fault), fault.path))
     done = subprocess.run([PROGRAM, "files", "--disk", path], capture_output=True, text=True)
     told("as the program says", True, f"its totals are damaged at byte {fault.place}: {fault.reason}" in done.stderr)
-    told("a damaged one isn't moved", "DamagedError", name_of(kijolvar.migrate, path, LIBRARY))
+    told("a damaged one isn't moved", f"{path}: the totals are damaged: keep the file, and work on a copy of it",
+         str(raised(kijolvar.migrate, path, LIBRARY)))
     told("and stays", bytes(disk), path.read_bytes())
     for name, content, wanted in (("short", bytes(100), "TooSmallError"),
                                   ("zeros", bytes(KIJOLVAR_DISK_LENGTH), "UnformattedError")):

@@ -10,7 +10,7 @@ from collections.abc import Iterator
 from typing import BinaryIO, Literal
 
 from ._constants import KIJOLVAR_DISK_LENGTH
-from ._faults import FormattedError, MovedError, TooSmallError, UnformattedError
+from ._faults import DamagedError, FormattedError, MovedError, TooSmallError, UnformattedError
 from ._library import Path
 from ._session import Session, read_whole, write_whole
 
@@ -30,6 +30,8 @@ def naming(path: str) -> Iterator[None]:
         if fault.errno is None or fault.filename == path or type(named) is not type(fault):
             raise
         raise named from None
+    except DamagedError as fault:
+        raise DamagedError(fault.reason, fault.place, path) from None
     except (FormattedError, MovedError, TooSmallError, UnformattedError) as fault:
         raise type(fault)(fault.library_code, f"{path}: {fault.text}") from None
 
