@@ -2,7 +2,7 @@
 """Writes abi/description.json: the methods, properties, events, codes and constants, with what they mean.
 
 The words, types, ranges and numbers are read from the definitions under crates/. The meaning is read from
-abi/documentation.toml. The script fails if something has no entry there, or if an entry there names nothing.
+abi/documentation.toml, and so are the numbers of the types of bar codes, which no definition names. The script fails if something has no entry there, or if an entry there names nothing.
 
 Usage: abi/describe.py, or abi/describe.py --check, which compares the file with what would be written.
 """
@@ -330,17 +330,23 @@ def describe_property(name, variant, row, kind, documentation, range_of, codes):
 
 
 def describe_constants(documentation, numbers):
-    """The groups of constants. Each number but the codes and loci of the errors has to be in one."""
+    """The groups of constants. Each number but the codes and loci of the errors has to be in one. The documentation has
+    the numbers of a group that no definition names."""
     found, used = [], set()
     for name, entry in documentation.found["constants"].items():
         documentation.get("constants", name, summary=str, chapter=str, members=dict)
-        subset(entry, ("summary", "chapter", "members"), f"constants.{name}")
+        subset(entry, ("summary", "chapter", "members", "numbers"), f"constants.{name}")
+        own = entry.get("numbers", numbers)
+        if own is not numbers and set(own) != set(entry["members"]):
+            raise Fault(f"constants.{name}: members and numbers differ: {set(own) ^ set(entry['members'])}")
+        if own is not numbers and set(own) & set(numbers):
+            raise Fault(f"constants.{name}: the definitions have numbers: {set(own) & set(numbers)}")
         for word in entry["members"]:
-            if word not in numbers:
+            if word not in own:
                 raise Fault(f"constants.{name}: {word} has no number in the definitions")
         used |= set(entry["members"])
         found.append({"name": name, "snake": snake(name), "summary": entry["summary"], "chapter": entry["chapter"],
-                      "members": [{"name": word, "number": numbers[word], "summary": summary}
+                      "members": [{"name": word, "number": own[word], "summary": summary}
                                   for word, summary in entry["members"].items()]})
     return found, used
 

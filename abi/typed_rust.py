@@ -23,13 +23,20 @@ ENUMS = {
     "State": "S_", "DrawerStatus": "CASH_SUE_DRAWER", "PrinterStatus": "PTR_SUE_", "PowerStatus": "SUE_POWER_",
     "PowerReporting": "PR_", "PowerNotify": "PN_", "PowerState": "PS_", "ErrorLocus": "EL_",
     "DisplayAttribute": "DISP_DT_", "ScrollDirection": "DISP_ST_", "PrinterStation": "PTR_S_",
+    "ScanDataType": "SCAN_SDT_",
 }
+# Those whose constants are some of the numbers that a call takes.
+NUMBERS_OF = {"ScanDataType"}
 # The names that the standard writes in one word, and those that a prefix hides.
 WORDS = {
     "NOTCLAIMED": "NotClaimed", "NOSERVICE": "NoService", "NOHARDWARE": "NoHardware", "NOEXIST": "NoExist",
     "NEAREMPTY": "NearEmpty", "PAPEROK": "PaperOk", "CONTINUEINPUT": "ContinueInput", "NOROOM": "NoRoom",
+    "UPCA": "UpcA", "UPCE": "UpcE", "OCRA": "OcrA", "OCRB": "OcrB", "GS1DATABAR": "Gs1DataBar", "MAXICODE": "MaxiCode",
+    "DATAMATRIX": "DataMatrix", "QRCODE": "QrCode",
 }
 EXTENDED = {"ETOT": "Totals", "EPTR": "Printer"}
+# Names with which a summary begins: they keep their capital.
+NAMES = ("Aztec Code", "Codabar", "Code 128", "Code 39", "Code 93", "Data Matrix", "MaxiCode")
 CATEGORIES = {"POSPrinter": "PosPrinter"}
 # The devices of the built profile.
 DEVICES = {"CashDrawer": "d1", "Scanner": "s1", "LineDisplay": "p1", "POSPrinter": "r1", "HardTotals": "t1"}
@@ -87,6 +94,8 @@ def arms(pairs):
 
 
 def lowered(text):
+    if text.startswith(NAMES):
+        return text
     return text[0].lower() + text[1:] if text[1:2].islower() or text[1:2] == " " else text
 
 
@@ -134,6 +143,16 @@ impl {name} {{
     pub fn name(self) -> &'static str {{
         match self {{
 {names}        }}
+    }}
+}}
+"""
+
+
+def number_of(name):
+    """How a constant becomes a number where a call takes any."""
+    return f"""impl From<{name}> for u64 {{
+    fn from(constant: {name}) -> u64 {{
+        constant.number().into()
     }}
 }}
 """
@@ -267,6 +286,8 @@ pub(crate) mod library {{
                        for member in group["members"]]
             what = f"{group['summary'].removesuffix('.')} (chapter {group['chapter']})."
             out.append(enum(group["name"], what, members))
+            if group["name"] in NUMBERS_OF:
+                out.append(number_of(group["name"]))
         else:
             out += [constant(member, group) for member in group["members"] if member["number"] >= 0]
     return "\n".join(out)
@@ -381,7 +402,7 @@ def method(about):
         lines += ["", about["detail"]]
     said = []
     for argument in about["arguments"]:
-        forever = " `None` is without end." if is_timeout(argument) else ""
+        forever = " `None` and [`Duration::MAX`] are without end." if is_timeout(argument) else ""
         ranged = "" if is_timeout(argument) or argument["constants"] in ENUMS else range_text(argument)
         summary = argument["summary"].split("; UPOS_FOREVER")[0].removesuffix(".") + "."
         said.append(f"- `{argument['name']}`: {lowered(summary)}{forever}{ranged}")
@@ -556,6 +577,7 @@ use crate::control::{{Control, Key}};
 #[cfg(doc)]
 use crate::error::Cause;
 use crate::error::Error;
+use crate::line::GREATEST;
 use crate::property::{{Property, Value}};
 use crate::standard::{{
     Category, {', '.join(names)},
@@ -567,9 +589,10 @@ use std::fmt;
 use std::ops::Deref;
 use std::time::Duration;
 
-/// The milliseconds of a timeout, of which -1 is without end.
+/// The milliseconds of a timeout, of which -1 is without end. One that is too long for a line is without end, too.
 fn milliseconds(timeout: Option<Duration>) -> i64 {{
-    timeout.map_or(-1, |time| i64::try_from(time.as_millis()).unwrap_or(i64::MAX))
+    let time = timeout.and_then(|time| i64::try_from(time.as_millis()).ok());
+    time.filter(|time| *time <= GREATEST).unwrap_or(-1)
 }}
 
 impl Till {{

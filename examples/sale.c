@@ -15,8 +15,6 @@
     "  { name = \"totals\", category = \"HardTotals\" },\n"                                                            \
     "]\n"
 
-enum { EAN13 = 104 };
-
 typedef struct article {
     const char *code;
     const char *name;
@@ -93,7 +91,7 @@ static kij_reply heard_scanner(const kij_event *event, void *with) {
 }
 
 static void scan(sale *self, const char *code) {
-    need(kij_input_scan(self->till, "scanner", EAN13, code, KIJ_ZERO_ENDED, code, KIJ_ZERO_ENDED));
+    need(kij_input_scan(self->till, "scanner", KIJ_SCAN_SDT_EAN13, code, KIJ_ZERO_ENDED, code, KIJ_ZERO_ENDED));
 }
 
 static void fill_basket(sale *self) {

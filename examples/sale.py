@@ -9,7 +9,8 @@ import sys
 sys.path.insert(0, str(pathlib.Path(__file__).resolve().parent.parent / "abi/python"))
 
 import kijolvar
-from kijolvar import ER_CLEAR, ER_RETRY, DataEvent, ErrorEvent, OutputCompleteEvent, StatusUpdateEvent
+from kijolvar import (ER_CLEAR, ER_RETRY, SCAN_SDT_EAN13, DataEvent, ErrorEvent, OutputCompleteEvent,
+                      StatusUpdateEvent)
 
 PROFILE = """
 device = [
@@ -21,7 +22,6 @@ device = [
 ]
 """
 ARTICLES = {b"4006381": ("Bread", 450), b"4006398": ("Milk", 139)}
-EAN13 = 104
 
 
 def row(text, cents):
@@ -45,12 +45,12 @@ def scan(till, scanner, display):
             scanner.data_event_enabled = True
 
     scanner.decode_data = scanner.data_event_enabled = True
-    at_scanner.scan(EAN13, "4006381", "4006381")
+    at_scanner.scan(SCAN_SDT_EAN13, "4006381", "4006381")
     till.deliver()
-    at_scanner.scan(EAN13, "4006398", "4006398")
+    at_scanner.scan(SCAN_SDT_EAN13, "4006398", "4006398")
     at_scanner.scan_fault()
     till.deliver()
-    at_scanner.scan(EAN13, "4006398", "4006398")
+    at_scanner.scan(SCAN_SDT_EAN13, "4006398", "4006398")
     till.deliver()
     print("display:", till.device("display").show().characters.decode())
     return basket

@@ -1,7 +1,7 @@
 //! Rings up a sale: scan, show, pay, print, and the day's totals in a file. Usage: sale FILE
 //!
 //! The file is created if it is missing. `sale.py` and `sale.c` are the same sale.
-use kijolvar::standard::{DisplayAttribute, ErrorReply, PrinterStation, ResultCode};
+use kijolvar::standard::{DisplayAttribute, ErrorReply, PrinterStation, ResultCode, ScanDataType};
 use kijolvar::{
     Cause, Error, Event, HardTotals, LineDisplay, PosPrinter, Printed, Scanner, Till, Totals, Work,
 };
@@ -16,7 +16,6 @@ device = [
 ]
 "#;
 const ARTICLES: [(&str, &str, u64); 2] = [("4006381", "Bread", 450), ("4006398", "Milk", 139)];
-const EAN13: u64 = 104;
 
 type Basket = Vec<(&'static str, u64)>;
 
@@ -62,12 +61,12 @@ fn scan(till: &Till) -> Result<Basket, Error> {
     let mut basket = Basket::new();
     scanner.set_decode_data(true)?;
     scanner.set_data_event_enabled(true)?;
-    till.input_scan("scanner", EAN13, "4006381", "4006381")?;
+    till.input_scan("scanner", ScanDataType::Ean13.into(), "4006381", "4006381")?;
     hear(&scanner, &display, &mut basket)?;
-    till.input_scan("scanner", EAN13, "4006398", "4006398")?;
+    till.input_scan("scanner", ScanDataType::Ean13.into(), "4006398", "4006398")?;
     till.input_scan_fault("scanner")?;
     hear(&scanner, &display, &mut basket)?;
-    till.input_scan("scanner", EAN13, "4006398", "4006398")?;
+    till.input_scan("scanner", ScanDataType::Ean13.into(), "4006398", "4006398")?;
     hear(&scanner, &display, &mut basket)?;
     println!(
         "display: {}",

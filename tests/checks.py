@@ -16,6 +16,8 @@ import tempfile
 import time
 import traceback
 
+from emulator import take_unknown
+
 # How often it is looked whether the machine goes on, how many looks count together, which is half a second, and for how long
 # of that something didn't go on if the machine stood still, in seconds.
 OFTEN, LOOKS, LONG = 0.05, 10, 0.1
@@ -116,6 +118,8 @@ class Checks:
 
     def __init__(self):
         self.passed = self.failed = 0
+        # What the emulated devices didn't know, with the tests that sent it. Without a test there are no such devices.
+        self._unknown, self._has_run = [], False
         self._room = self.work = pathlib.Path(tempfile.mkdtemp())
         self._watch = Watch()
 
@@ -129,6 +133,7 @@ class Checks:
 
     def run(self, test, give_time=None):
         """Runs a test, again if it fails while the machine stands still. Before that `give_time` is called, if it is given."""
+        self._has_run = True
         for turn in range(1, TURNS + 1):
             before = self.passed, self.failed
             self._watch.longest()
@@ -138,6 +143,7 @@ class Checks:
             except Exception as fault:
                 traceback.print_exc(file=sys.stdout)
                 self.told(f"{test.__name__} ends well", None, fault)
+            self._unknown += [(test.__name__, *found) for found in take_unknown()]
             longest = self._watch.longest()
             if self.failed == before[1] or longest < LONG or turn == TURNS:
                 return
@@ -152,6 +158,8 @@ class Checks:
         shutil.rmtree(self._room)
         if not self.passed and not self.failed:
             self.told("a test has the word of --only", True, False)
+        if self._has_run:
+            self.told("the emulated devices know each command", [], self._unknown[:5])
         print(f"{self.passed} passed, {self.failed} failed")
         sys.exit(self.failed != 0)
 

@@ -325,6 +325,54 @@ def try_bytes():
     told("all rows of a new display", b"\x1b@\x0c" + after[0] + before[0], after[1])
 
 
+# ---- commands that no device knows
+
+def met(device, *sent):
+    """The commands that an emulated device didn't know. Bytes are given to it, and something else is done."""
+    with device, device.lock:
+        for one in sent:
+            if callable(one):
+                one()
+                continue
+            for byte in device.arrives(one):
+                device.takes(byte)
+        # What was cut off, and never begun again, counts from here on.
+        device.meets(b" ", True)
+        found, device.unknown = device.unknown, []
+    return found
+
+
+def try_unknown_commands():
+    """An emulated device notes what it doesn't know, but not what a host or a loss of power has cut off."""
+    start, shown = PrinterLink._start, b"\x1b@\x0c"
+    told("all that the library sends", [], met(
+        Printer(cable()), start + b"\x1ba\x01\x1bE\x01Bread\x1bE\x00\n\x1dVA\x03\x1bp\x00\x19\xfa\x1bd\x03\x1dr\x01"
+        + b"\x1d(H\x06\x0000@@@@\x10\x04\x01"))
+    told("a character table, and a number out of range", [b"\x1bt", b"\x01", b"\x1dV\x05"],
+         met(Printer(cable()), start + b"\x1bt\x01Bread\n\x1dV\x05Tea\n"))
+    told("a simpler printer", [b"\x1da\xff", b"\x1d(H\x06\x0000@@@@"],
+         met(Printer(cable(), is_simple=True), AskedLink._start + b"\x1da\xff\x1d(H\x06\x0000@@@@"))
+    for cut in (b"\x1d", b"\x1d(", b"\x1d(H\x06", b"\x1d(H\x06\x000", b"\x1b", b"\x1ba", b"\x10"):
+        told(f"{cut} that the host has cut off", [], met(Printer(cable()), start + cut, start + b"Bread\n"))
+        printer = Printer(cable("tcp"))
+        told(f"{cut} at which the power was lost", [b"\x1bt"], met(
+            printer, start + cut, printer.pull_plug, printer.plug_in, b"\x06\x1bt\n", start + b"\x1btBread\n"))
+        printer = Printer(cable())
+        told(f"{cut} at which it was lost for a moment", [b"\x1bt"], met(
+            printer, start + cut, lambda: printer.blink(0), b"\x06\x1bt\n", start + b"\x1btBread\n"))
+    rows = {"cd5220": b"\x1bl\x01\x01", "escpos": b"\x1f$\x01\x01"}
+    for protocol, place in rows.items():
+        (other,) = (row for name, row in rows.items() if name != protocol)
+        told(f"{protocol}: rows", [], met(Display(cable(), protocol=protocol), shown + place + b"Bread" + bytes(12)))
+        told(f"{protocol}: a command of the other one, and a row that isn't there", [other, place[:3] + b"\x09"],
+             met(Display(cable(), protocol=protocol), shown + other + place[:3] + b"\x09"))
+        for size in range(1, len(place)):
+            for zeros in (b"", bytes(12)):
+                told(f"{protocol}: {size} bytes that the host has cut off", [], met(
+                    Display(cable(), protocol=protocol), shown + place[:size], zeros + shown + place + b"Bread"))
+    told("a host that writes to a scanner", [b"x"], met(Scanner(cable()), b"x"))
+
+
 # ---- a printer
 
 class Shop:

@@ -2459,6 +2459,9 @@ def try_refusals():
         told("no speed of a line", "KIJ_BAD_SETTINGS", host.ask(f"printer r1 {port} serial 9601"))
         told("no time for an order", ["KIJ_BAD_SETTINGS"] * 2,
              [host.ask(f"printer r1 {port} timeout 0"), host.ask(f"display p1 {port} timeout 0")])
+        told("an order that needn't end, and a port that is never tried again", ["KIJ_BAD_SETTINGS"] * 5,
+             [host.ask(f"{words} {port} {key} -1") for key, made in (("timeout", 2), ("pause", 3))
+              for words in ("printer r1", "display p1", "scanner s1")[:made]])
         for name in ("tcp:", "tcp:h:", "tcp:h:91OO", "tcp:h:0", "tcp:h:99999", "tcp:[::1", "tcp:[::1]9101",
                      "tcp:[::1]x:9100", "tcp:a:b:9100"):
             told(f"no port: {name}", ["KIJ_BAD_SETTINGS"] * 3,
@@ -2470,6 +2473,20 @@ def try_refusals():
         told("a file is no port", "ok", host.ask(f"display p1 {CHECKS.work / 'profile'}"))
         told("it is off", "offline 0", host.ask("state p1"))
         told("nothing to do", "false", until(lambda: host.ask("run 0") == "false") and host.ask("run 20"))
+
+
+def try_endless_wait():
+    """The loop waits without an end until something comes."""
+    with contextlib.ExitStack() as stack:
+        device = stack.enter_context(Scanner(cable()))
+        host = Host(stack)
+        told("it is opened", "ok", host.ask(f"scanner s1 {device.path} pause 2147483000"))
+        host.lines("new s Scanner", "open s s1", "claim s 0", "set s DeviceEnabled true")
+        told("nothing is to be done", True, until(lambda: host.ask("run 0") == "false"))
+        typing = threading.Timer(0.3, device.scan, [b"7"])
+        typing.start()
+        told("a code that comes later", ["true", "ok 1"], [host.ask("run -1"), host.line("get s DataCount")])
+        typing.join()
 
 
 def try_hosted():

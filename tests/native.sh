@@ -3,7 +3,8 @@
 # (tests/native.py says what): the layer of C as it is, and under the address and the undefined behaviour sanitizer;
 # the crate of Rust. valgrind looks for what the layer of C forgets, tests/native/system.c tries what only the system
 # can do, tests/native/memory.c what the library says without memory, and tests/native/cost.c says what an order costs.
-# tests/native/preloaded.c changes what the system does for a host.
+# tests/native/preloaded.c changes what the system does for a host, and tests/native/other_version.c which version the
+# library has.
 # It installs nothing, and a missing tool is a failure that names its package.
 # Usage: tests/native.sh [WORD ..]. The words are those of tests/native.py: --faults N (100 random faults by default),
 # --seed N, --only WORD. KIJOLVAR_ARCHIVE names a library in place of the one that rt lib builds. Its last line is
@@ -130,6 +131,18 @@ runs "the heap of the library is built" gcc -std=c99 "${strict[@]}" -O1 -DHEAP_O
 runs "the host in Rust is built with a heap" env CARGO_TARGET_DIR="$work/heaped" cargo rustc -q --offline --release \
   --features heap --manifest-path "$here/rust/Cargo.toml" -- -C link-arg="$work/scarce.o" \
   -C link-arg=-Wl,--wrap=rattle_alloc,--wrap=rattle_realloc
+
+runs "the library of another version is built" gcc -std=c99 "${strict[@]}" -O1 -c -o "$work/other.o" \
+  "$here/other_version.c"
+runs "the host in C is built over it" gcc -std=c99 "${strict[@]}" -O1 -o "$work/old" "$here/host.c" "$work/other.o" \
+  "$work/libkijolvar.a" -Wl,--wrap=kijolvar_version
+runs "the host in Rust is built over it" env CARGO_TARGET_DIR="$work/other" cargo rustc -q --offline --release \
+  --manifest-path "$here/rust/Cargo.toml" -- -C link-arg="$work/other.o" -C link-arg=-Wl,--wrap=kijolvar_version
+for host in "$work/old" "$work/other/release/host"; do
+  told "over a library of another version no call begins anything" \
+    "$(printf 'KIJ_WRONG_VERSION %.0s' {1..7})no file" \
+    "$("$host" begin "$work/none" 2>&1 | paste -s -d' ') $([ -e "$work/none" ] && echo "a file" || echo "no file")"
+done
 
 tries "C" "$work/host" --preloaded "$work/preloaded.so" "$@"
 tries "C with sanitizers" "$work/checked" "$@"

@@ -104,6 +104,10 @@ planted "an argument without an entry" $words '/^arguments.percentage/d' describ
 planted "an entry that names nothing" $words '$a [methods.paste]\nsummary = "Pastes."\nchapter = "None"' \
   describe.py 'name nothing: methods.paste'
 planted "a constant that isn't one" $words 's/^S_IDLE = /S_IDLED = /' describe.py 'S_IDLED has no number'
+planted "a type of bar codes without a number" $words '/^SCAN_SDT_AZTEC = 206/d' \
+  describe.py "members and numbers differ: {'SCAN_SDT_AZTEC'}"
+planted "a number that the definitions have" $words '/^\[constants.ScanDataType/,/^$/s/SCAN_SDT_AZTEC/S_IDLE/' \
+  describe.py "the definitions have numbers: {'S_IDLE'}"
 planted "an error that is no code" $words 's/"E_BUSY"/"E_BUSIER"/' describe.py 'E_BUSIER is no code'
 planted "a number of the definitions" $specs/Statuses.antt 's/^cover_status true = 11/cover_status true = 13/' \
   describe.py "isn't what the definitions say"

@@ -7,6 +7,7 @@ import builtins
 import collections.abc
 import contextlib
 import copy
+import ctypes
 import dataclasses
 import errno
 import fcntl
@@ -516,13 +517,61 @@ def try_events():
 
 # ---- claims, names, misuse
 
+def constants_of_c():
+    """The standard's constants in the headers for C, by their names there without the prefix."""
+    headers = "".join((TOP / "abi/c" / name).read_text() for name in ("kij_controls.h", "kij.h"))
+    found = {name: int(number) for name, number in re.findall(r"^ +KIJ_(\w+) = (-?\d+)", headers, re.M)}
+    # Those of the layer have no prefix of a group of the standard.
+    return {name: number for name, number in found.items() if name.startswith(tuple(PREFIXES))}
+
+
+def constants_of_rust():
+    """The standard's constants in the crate for Rust, by their names there: those of enums, and others. A reply has no
+    number there."""
+    text = (TOP / "abi/rust/kijolvar/src/standard.rs").read_text()
+    found = {name: int(number) for name, number in re.findall(r"^pub const (\w+): u64 = (\d+);", text, re.M)}
+    variants = dict(re.findall(r"(\w+::\w+) => \"([A-Z]\w+)\"", text)) | {
+        f"ErrorReply::{variant}": name for name, variant in re.findall(r"/// (ER_\w+): .*\n +(\w+),", text)}
+    numbers = {variant: int(number) for number, variant in re.findall(r"(\d+) => Some\((\w+::\w+)\)", text)}
+    numbers |= {variant: int(number) for variant, number in re.findall(r"(ExtendedCode::\w+) => (\d+),", text)}
+    return found | {name: numbers.get(variant) for variant, name in variants.items()
+                    if name.startswith(tuple(PREFIXES))}
+
+
+# What the names of the standard's constants begin with, and what some have in C or Rust alone: there a timeout without
+# an end is no number, no error succeeds, and a listener in C may leave the reply to an ErrorEvent to the till.
+PREFIXES = ["E_", "ETOT_", "EPTR_", "S_", "CASH_SUE_", "PTR_", "SUE_", "PR_", "PN_", "PS_", "EL_", "ER_", "DISP_",
+            "SCAN_SDT_", "UPOS_", "FOREVER"]
+APART_IN_C, APART_IN_RUST = {"FOREVER", "ER_DEFAULT"}, {"E_SUCCESS", "UPOS_FOREVER"}
+
+
+def try_constants_of_others():
+    """The layers for C and Rust have the constants of the standard that this one has, with the same numbers."""
+    own = {name: getattr(kijolvar, name) for name in kijolvar.__all__ if name.startswith(tuple(PREFIXES))}
+    replies = {name for name in own if name.startswith("ER_")}
+    numbers = {name: int(value) for name, value in own.items() if name not in replies}
+    told("how many there are", (74, 3), (len(numbers), len(replies)))
+    of_c, of_rust = constants_of_c(), constants_of_rust()
+    told("those of C alone", APART_IN_C, set(of_c) - set(own))
+    told("those of C", (set(own) - {"UPOS_FOREVER"}, numbers), (set(of_c) - APART_IN_C, {
+        name: of_c.get("FOREVER" if name == "UPOS_FOREVER" else name) for name in numbers}))
+    told("those of Rust", (set(own) - APART_IN_RUST, {
+        name: number for name, number in numbers.items() if name not in APART_IN_RUST}), (set(of_rust), {
+            name: number for name, number in of_rust.items() if name not in replies}))
+
+
 def try_types_of_codes():
-    """The types of codes, by the AIM identifiers that the drivers of Rust know too."""
-    text = (TOP / "abi/rust/kijolvar/src/drivers.rs").read_text()
-    found = re.findall(r"\(b'(\w)', (?:b'(\d)'|_)\) => (\d+)", text)
-    told("AIM identifiers", [int(kind) for _, _, kind in found],
-         [kijolvar._codes.kind_of(f"{letter}{digit or 9}".encode()) for letter, digit, _ in found])
-    told("how many, and another one", (18, kijolvar.SCAN_SDT_OTHER), (len(found), kijolvar._codes.kind_of(b"X0")))
+    """The types of codes, by the AIM identifiers that the drivers of C and Rust know too."""
+    types = {name.removeprefix("SCAN_SDT_").replace("_", "").lower(): kind
+             for name, kind in kijolvar.ScanDataType.__members__.items()}
+    in_c = re.findall(r"\{'(\w)', (?:'(\d)'|0), KIJ_SCAN_SDT_(\w+)\}", (TOP / "abi/c/kij_drivers.c").read_text())
+    in_rust = re.findall(r"\(b'(\w)', (?:b'(\d)'|_)\) => ScanDataType::(\w+)",
+                         (TOP / "abi/rust/kijolvar/src/drivers.rs").read_text())
+    for language, found in (("C", in_c), ("Rust", in_rust)):
+        told(f"AIM identifiers in {language}", [types[name.replace("_", "").lower()] for _, _, name in found],
+             [kijolvar._codes.kind_of(f"{letter}{digit or 9}".encode()) for letter, digit, _ in found])
+    told("how many, and another one", (18, 18, kijolvar.SCAN_SDT_OTHER),
+         (len(in_c), len(in_rust), kijolvar._codes.kind_of(b"X0")))
     told("each constant is one of the group", {kind.name: kind for kind in kijolvar.ScanDataType},
          {name: getattr(kijolvar, name) for name in kijolvar.__all__ if name.startswith("SCAN_SDT_")})
 
@@ -709,6 +758,12 @@ def try_misuse():
             till.device("r1").cover(is_open=False)
             till.device("r1").paper(0)
             told("no paper", "ReceiptEmptyError", name_of(printer.print, "A\n"))
+        told("a device that isn't there, and which are", [
+            "open of POSPrinter d1: E_NOEXIST (109): No device of the control's category has the name. The profile has r1.",
+            "the profile has no device 'r9': it has d1, s1, p1, r1, t1",
+            "a name has 1 to 16 ASCII letters, digits and hyphens: not 'd 1'"], [
+                str(raised(*call)) for call in ((till.printer, "d1"), (till.drive, "r9", kijolvar.Driver()),
+                                                (till.drawer, "d 1"))])
         told("reprs", ["<kijolvar.CashDrawer on 'd1'>", "<kijolvar.Device 'd1'>", "<kijolvar.CashDrawer closed>",
                        "<kijolvar.TotalsFile b'A': 1 bytes, handle 1>"],
              [repr(it) for it in (drawer, till.device("d1"), till.new_control(kijolvar.CashDrawer), totals["A"])])
@@ -1351,11 +1406,12 @@ def try_files():
     fault = raised(kijolvar.check, path, LIBRARY)
     reason = "the length of the current body is above the longest"
     told("damage", ("DamagedError", reason, found.slot + 9), (type(fault).__name__, fault.reason, fault.place))
-    told("what it says", f"the totals are damaged at byte {fault.place}: {reason}: keep the file, and work on a copy of it",
-         str(fault))
+    told("what it says", (f"{path}: the totals are damaged at byte {fault.place}: {reason}: keep the file, and work on a "
+                          "copy of it", str(path)), (str(fault), fault.path))
     done = subprocess.run([PROGRAM, "files", "--disk", path], capture_output=True, text=True)
     told("as the program says", True, f"its totals are damaged at byte {fault.place}: {fault.reason}" in done.stderr)
-    told("a damaged one isn't moved", "DamagedError", name_of(kijolvar.migrate, path, LIBRARY))
+    told("a damaged one isn't moved", f"{path}: the totals are damaged: keep the file, and work on a copy of it",
+         str(raised(kijolvar.migrate, path, LIBRARY)))
     told("and stays", bytes(disk), path.read_bytes())
     for name, content, wanted in (("short", bytes(100), "TooSmallError"),
                                   ("zeros", bytes(KIJOLVAR_DISK_LENGTH), "UnformattedError")):
@@ -1366,6 +1422,100 @@ def try_files():
              [str(raised(call, path, LIBRARY))[:len(f"{path}: the file")]
               for call in (kijolvar.files, kijolvar.check, kijolvar.migrate)])
         told(f"a file that is {name} stays", content, path.read_bytes())
+
+
+def try_backups():
+    """A file of totals is copied while a till has it. The copy is whole, or isn't there."""
+    path, copy_of, part = WORK / "kept", WORK / "kept.copy", WORK / "kept.copy.part"
+
+    def refused(*words):
+        """What copying is refused with, and whether anything is there then."""
+        fault = raised(kijolvar.backup, *(words or (path, copy_of)), LIBRARY)
+        return type(fault).__name__, getattr(fault, "filename", None), copy_of.exists(), part.exists()
+    with opened(totals=path, create=True) as till:
+        totals = till.totals("t1")
+        totals.create("SALES", 3)
+        totals["SALES"].write(0, b"abc")
+        steps = mock.Mock()
+        with contextlib.ExitStack() as stack:
+            for name in ("pwrite", "fsync", "link", "unlink"):
+                step = stack.enter_context(mock.patch(f"os.{name}", side_effect=getattr(os, name)))
+                steps.attach_mock(step, name)
+            told("a copy while a till has the file", None, kijolvar.backup(path, copy_of, LIBRARY))
+        told("it is synced, and then gets its name", ["pwrite", "fsync", "link", "unlink", "fsync"],
+             [call[0] for call in steps.mock_calls])
+        told("what it holds", {b"SALES": b"abc"}, kijolvar.files(copy_of, LIBRARY).files)
+        told("its bytes, for its owner alone", (True, 0o600),
+             (copy_of.read_bytes() == path.read_bytes(), copy_of.stat().st_mode & 0o777))
+        told("the till has the file still", "BlockingIOError", name_of(kijolvar.files, path, LIBRARY))
+        totals["SALES"].write(0, b"xyz")
+        told("a copy is there", ("FileExistsError", str(copy_of), True, False), refused())
+        told("it stays as it is", {b"SALES": b"abc"}, kijolvar.files(copy_of, LIBRARY).files)
+        copy_of.unlink()
+        copy_of.symlink_to(WORK / "no-such-file")
+        told("a link that leads nowhere is there", "FileExistsError", refused()[0])
+        copy_of.unlink()
+        part.write_bytes(b"")
+        told("a crash has left a part", ("FileExistsError", str(part), False, True), refused())
+        part.unlink()
+        for name, number in (("pwrite", errno.ENOSPC), ("fsync", errno.EIO), ("link", errno.EPERM)):
+            with mock.patch(f"os.{name}", side_effect=OSError(number, os.strerror(number))):
+                told(f"{name} fails", (type(OSError(number, "")).__name__, str(copy_of if name == "link" else part),
+                                       False, False), refused())
+        told("no folder", ("FileNotFoundError", str(WORK / "none"), False, False), refused(path, WORK / "none/copy"))
+    whole = path.read_bytes()
+    for name, content, wanted in (
+            ("nothing is there", None, "FileNotFoundError"), ("a short file", b"", "TooSmallError"),
+            ("one that isn't formatted", bytes(KIJOLVAR_DISK_LENGTH), "UnformattedError"),
+            ("a damaged one", whole[:1] + bytes(len(whole) - 1), "DamagedError")):
+        (WORK / "kept.bad").unlink(missing_ok=True)
+        if content is not None:
+            (WORK / "kept.bad").write_bytes(content)
+        told(name, (wanted, False, False), refused(WORK / "kept.bad", copy_of)[:1] + refused(WORK / "kept.bad", copy_of)[2:])
+    told("a folder", "IsADirectoryError", refused(WORK, copy_of)[0])
+    with mock.patch("kijolvar._files.read_whole", side_effect=[b"", b"torn", whole, b"torn", whole, whole]) as readings:
+        told("a file that changes between two readings", None, kijolvar.backup(path, copy_of, LIBRARY))
+    told("it is read until two are the same", (6, whole), (readings.call_count, copy_of.read_bytes()))
+    copy_of.unlink()
+    with mock.patch("kijolvar._files.read_whole", side_effect=[bytes([at % 2]) for at in range(1001)]) as readings:
+        told("one that always changes", (("BlockingIOError", str(path), False, False), 1001),
+             (refused(), readings.call_count))
+
+
+def try_backups_beside_changes():
+    """A copy that is made while a till changes two files together has both as they were at one moment."""
+    path, copy_of, ending, counts = WORK / "busy", WORK / "busy.copy", threading.Event(), []
+    with opened(totals=path, create=True) as till:
+        totals = till.totals("t1")
+        for name in ("A", "B"):
+            totals.create(name, 4)
+
+    def changes():
+        with opened(totals=path) as till:
+            totals = till.totals("t1")
+            for count in range(1, 1_000_000):
+                with totals.transaction():
+                    for name in ("A", "B"):
+                        totals[name].write(0, count.to_bytes(4, "big"))
+                counts.append(count)
+                if ending.is_set():
+                    break
+    with contextlib.ExitStack() as stack:
+        changing = threading.Thread(target=changes)
+        changing.start()
+        stack.callback(changing.join)
+        stack.callback(ending.set)
+        is_same, is_new = [], []
+        for _ in range(20):
+            before = len(counts)
+            kijolvar.backup(path, copy_of, LIBRARY)
+            first, second = (int.from_bytes(found) for found in kijolvar.files(copy_of, LIBRARY).files.values())
+            is_same.append(first == second)
+            is_new.append(first >= before)
+            copy_of.unlink()
+    told("two files of one transaction", [True] * 20, is_same)
+    told("each change that was done before", [True] * 20, is_new)
+    told("the till has gone on", True, len(counts) > 20)
 
 
 def try_replaced_totals():
@@ -2101,6 +2251,17 @@ def try_library():
     library = kijolvar.load(LIBRARY)
     with kijolvar.open(library=library) as till:
         told("a library that was loaded", False, till.drawer("d1").drawer_opened)
+    told("one that ctypes has loaded", ["d1", "s1", "p1", "r1", "t1"],
+         [device.name for device in kijolvar.devices(library=ctypes.CDLL(LIBRARY))])
+    told("another one", "LibraryError", name_of(kijolvar.devices, library=ctypes.CDLL(None)))
+    none = WORK / "none"
+    with mock.patch.object(kijolvar._library, "KIJOLVAR_VERSION", 1):
+        for given in (LIBRARY, library):
+            told("another version", ["the library has interface version 2, and this package needs 1"] * 8 + [False], [
+                str(raised(call, *words, library=given)) for call, *words in (
+                    (kijolvar.devices,), (kijolvar.files, none), (kijolvar.check, none), (kijolvar.migrate, none),
+                    (kijolvar.backup, none, WORK / "none.copy"),
+                    (kijolvar.create_totals, none), (kijolvar.open,), (kijolvar.open, None, none))] + [none.exists()])
 
 
 def members(kind):
@@ -2117,7 +2278,7 @@ def try_help():
     told("each method and property says what it does", [],
          [f"{kind.__name__}.{name}" for kind in own for name, member in members(kind) if not inspect.getdoc(member)])
     functions = [kijolvar.open, kijolvar.load, kijolvar.create_totals, kijolvar.open_totals, kijolvar.devices,
-                 kijolvar.files, kijolvar.check, kijolvar.migrate]
+                 kijolvar.files, kijolvar.check, kijolvar.migrate, kijolvar.backup]
     told("each function too", [], [call.__name__ for call in functions if not call.__doc__])
     missing = []
     for part in PARTS[1:]:
@@ -2316,10 +2477,10 @@ def try_reply_lines():
 def main():
     try:
         for try_it in (try_scripts, try_threads, try_fork, try_closed, try_replies, try_events, try_copies,
-                       try_types_of_codes, try_listeners,
-                       try_kept_listeners, try_claims,
+                       try_types_of_codes, try_constants_of_others, try_listeners, try_kept_listeners, try_claims,
                        try_misuse, try_many_controls, try_totals, try_disabled_transactions, try_files,
-                       try_replaced_totals, try_handlers, try_closing_handlers, try_forking_handlers, try_any_event,
+                       try_backups, try_backups_beside_changes, try_replaced_totals, try_handlers,
+                       try_closing_handlers, try_forking_handlers, try_any_event,
                        try_lines_without_memory, try_orders_without_memory, try_order_without_memory,
                        try_scan_before_power, try_lost_answers, try_lost_openings, try_lost_renames,
                        try_lost_constructors, try_given_up_by_a_closed_control,

@@ -234,8 +234,8 @@ typedef struct kij_mistake {
  *
  * @param profile the profile's text, as kij_open takes it
  * @param mistake where it is written what is wrong; all 0 if nothing is
- * @return KIJ_BAD_PROFILE, and mistake says why; KIJ_OK if the profile isn't refused; KIJ_NO_MEMORY; KIJ_BAD_ARGUMENT
- * without a mistake
+ * @return KIJ_BAD_PROFILE, and mistake says why; KIJ_OK if the profile isn't refused; KIJ_NO_MEMORY, KIJ_WRONG_VERSION;
+ * KIJ_BAD_ARGUMENT without a mistake
  */
 kij_result kij_profile_mistake(const char *profile, kij_mistake *mistake);
 
@@ -258,7 +258,7 @@ typedef struct kij_device {
  * @param devices room for them; null if room is 0
  * @param room    how many there is room for; further ones aren't written
  * @param count   where it is written how many the profile has
- * @return KIJ_BAD_PROFILE, KIJ_NO_MEMORY or KIJ_BAD_ARGUMENT on failure
+ * @return KIJ_BAD_PROFILE, KIJ_NO_MEMORY, KIJ_WRONG_VERSION or KIJ_BAD_ARGUMENT on failure
  */
 kij_result kij_devices(const char *profile, kij_device *devices, size_t room, size_t *count);
 
@@ -271,11 +271,26 @@ kij_result kij_devices(const char *profile, kij_device *devices, size_t room, si
  * @param room   how many bytes there is room for
  * @param needed where it is written how many bytes the text has without the 0 byte; 0 if there is no text
  * @param place  where the place is written, in bytes from the first of the file, if the code is KIJ_DAMAGED
- * @return KIJ_DAMAGED, and text is the rule; KIJ_UNFORMATTED, KIJ_TOO_SMALL, KIJ_NO_MEMORY; KIJ_SYSTEM, with ENOENT if
- * there is no file, EWOULDBLOCK if a till has it, or why it couldn't be opened, synced or read; KIJ_BAD_ARGUMENT
- * without a path
+ * @return KIJ_DAMAGED, and text is the rule; KIJ_UNFORMATTED, KIJ_TOO_SMALL, KIJ_NO_MEMORY, KIJ_WRONG_VERSION;
+ * KIJ_SYSTEM, with ENOENT if there is no file, EWOULDBLOCK if a till has it, or why it couldn't be opened, synced or
+ * read; KIJ_BAD_ARGUMENT without a path
  */
 kij_result kij_files(const char *path, char *text, size_t room, size_t *needed, uint64_t *place);
+
+/**
+ * Copies a file of totals to a path where nothing is, also while a till has it open. The file is only read, and not
+ * locked: again and again, until two readings in a row give the same bytes. They have to be sound. The copy appears whole
+ * or not at all: it is written to a file beside it, with `.part` at its end, and synced before it gets its name. Its file
+ * system must have hard links.
+ *
+ * @param path the path of the file
+ * @param to   the path of the copy, which is for its owner alone
+ * @return KIJ_DAMAGED, KIJ_UNFORMATTED, KIJ_TOO_SMALL, KIJ_NO_MEMORY, KIJ_WRONG_VERSION; KIJ_SYSTEM, with EEXIST if
+ * anything has the name of the copy, or that with `.part` at its end, as after a crash; with EWOULDBLOCK if the file
+ * changes from each of 1,000 readings to the next; or with why it couldn't be read, or the copy not be made;
+ * KIJ_BAD_ARGUMENT without a path
+ */
+kij_result kij_backup(const char *path, const char *to);
 
 /**
  * Moves the totals in a file to layout 2, in place: their files stay, and may be more and longer from then on. A crash
@@ -420,8 +435,8 @@ kij_result kij_pump_all(kij_till *till, kij_listener listen, void *with);
 /** A cash drawer is opened or closed by hand. */
 kij_result kij_input_drawer(kij_till *till, const char *device, bool is_open);
 
-/** A scanner reads a code: its type, 0 to 999 (ScanDataType), all that was read, and its label. A size may be
- * KIJ_ZERO_ENDED. */
+/** A scanner reads a code: its type, 0 to 999 (KIJ_SCAN_SDT_EAN13 and the like), all that was read, and its label. A
+ * size may be KIJ_ZERO_ENDED. */
 kij_result kij_input_scan(kij_till *till, const char *device, int64_t type, const void *data, size_t data_size,
                           const void *label, size_t label_size);
 
@@ -614,8 +629,8 @@ typedef struct kij_escpos_settings {
     /** Whether the printer says nothing by itself, and doesn't know GS ( H. Then it is asked for its status (DLE EOT),
      * and whether an order is printed (GS r). */
     bool is_asked;
-    /** How long the printer may go on without acknowledging a line, 1 or more; and how long to wait before a lost port
-     * is tried again, 0 or more; in milliseconds. */
+    /** How long the printer may go on without acknowledging a line, 1 or more: an order has to end, so KIJ_FOREVER is
+     * refused. And how long to wait before a lost port is tried again, 0 or more. Both are in milliseconds. */
     int timeout;
     int pause;
     kij_serial_settings serial;
@@ -631,8 +646,8 @@ typedef enum kij_protocol { KIJ_CD5220 = 0, KIJ_ESCPOS = 1 } kij_protocol;
 /** A customer display. Begin with KIJ_DISPLAY_SETTINGS. */
 typedef struct kij_display_settings {
     kij_protocol protocol;
-    /** How long an order may take, 1 or more; and how long to wait before a lost port is tried again, 0 or more; in
-     * milliseconds. */
+    /** How long an order may take, 1 or more: it has to end, so KIJ_FOREVER is refused. And how long to wait before a
+     * lost port is tried again, 0 or more. Both are in milliseconds. */
     int timeout;
     int pause;
     kij_serial_settings serial;
@@ -645,7 +660,7 @@ typedef struct kij_display_settings {
 
 /** A scanner. Begin with KIJ_SCANNER_SETTINGS. */
 typedef struct kij_scanner_settings {
-    /** The type of a code without an AIM identifier (ScanDataType); 0 is SCAN_SDT_UNKNOWN. */
+    /** The type of a code without an AIM identifier, 0 to 999: KIJ_SCAN_SDT_UNKNOWN (0) and the like. */
     int type;
     /** Whether the device sends key events, whatever its name. A path of /dev/input/.. always does. */
     bool has_keys;
@@ -740,7 +755,7 @@ kij_result kij_wedge_scanner_open(kij_till *till, const char *device, const char
 typedef struct kij_scan {
     /** Whether the scanner failed to read; nothing else counts then. */
     bool has_failed;
-    /** Its type, 0 to 999 (ScanDataType); all that came; and the code alone. */
+    /** Its type, 0 to 999 (KIJ_SCAN_SDT_EAN13 and the like); all that came; and the code alone. */
     int type;
     const void *data;
     size_t data_size;
@@ -794,8 +809,8 @@ kij_result kij_driver_open(kij_till *till, const char *device, const kij_driver 
  * again, and prints output that waits (AsyncMode), at most one request of each printer. Call it regularly, and then
  * deliver events. Output that failed is tried again at the earliest 100 ms later, each time with an ErrorEvent.
  *
- * @param timeout how long to wait until there is something to do, in milliseconds, 0 or more. Printing may take longer.
- * Without driven devices the call waits the whole time. A signal doesn't end it.
+ * @param timeout how long to wait until there is something to do, in milliseconds, 0 or more; without an end by
+ * KIJ_FOREVER. Printing may take longer. Without driven devices the call waits the whole time. A signal doesn't end it.
  * @param is_any  where it is written whether anything was done; may be null
  * @return KIJ_BAD_INPUT if the device can't be as its hardware says, KIJ_NO_MEMORY, KIJ_NO_ANSWER, KIJ_DISK_FAILED or
  * KIJ_BAD_ARGUMENT on failure

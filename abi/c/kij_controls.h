@@ -138,6 +138,57 @@ enum {
     KIJ_EL_INPUT_DATA = 3
 };
 
+/**
+ * Types of bar codes (ScanDataType). The standard has others, and a scan may have any of 0 to 999 (chapter Scanner
+ * (Bar Code Reader)).
+ */
+enum {
+    /** It isn't known. */
+    KIJ_SCAN_SDT_UNKNOWN = 0,
+    /** UPC-A; with an AIM identifier it comes as EAN-13. */
+    KIJ_SCAN_SDT_UPCA = 101,
+    /** UPC-E; with an AIM identifier it comes as EAN-13. */
+    KIJ_SCAN_SDT_UPCE = 102,
+    /** EAN-8. */
+    KIJ_SCAN_SDT_EAN8 = 103,
+    /** EAN-13. */
+    KIJ_SCAN_SDT_EAN13 = 104,
+    /** 2 of 5. */
+    KIJ_SCAN_SDT_TF = 105,
+    /** Interleaved 2 of 5. */
+    KIJ_SCAN_SDT_ITF = 106,
+    /** Codabar. */
+    KIJ_SCAN_SDT_Codabar = 107,
+    /** Code 39. */
+    KIJ_SCAN_SDT_Code39 = 108,
+    /** Code 93. */
+    KIJ_SCAN_SDT_Code93 = 109,
+    /** Code 128. */
+    KIJ_SCAN_SDT_Code128 = 110,
+    /** EAN-13 with a supplement. */
+    KIJ_SCAN_SDT_EAN13_S = 119,
+    /** GS1-128. */
+    KIJ_SCAN_SDT_EAN128 = 120,
+    /** OCR-A. */
+    KIJ_SCAN_SDT_OCRA = 121,
+    /** OCR-B. */
+    KIJ_SCAN_SDT_OCRB = 122,
+    /** GS1 DataBar. */
+    KIJ_SCAN_SDT_GS1DATABAR = 131,
+    /** PDF417. */
+    KIJ_SCAN_SDT_PDF417 = 201,
+    /** MaxiCode. */
+    KIJ_SCAN_SDT_MAXICODE = 202,
+    /** Data Matrix. */
+    KIJ_SCAN_SDT_DATAMATRIX = 203,
+    /** QR Code. */
+    KIJ_SCAN_SDT_QRCODE = 204,
+    /** Aztec Code. */
+    KIJ_SCAN_SDT_AZTEC = 206,
+    /** Another type. */
+    KIJ_SCAN_SDT_OTHER = 501
+};
+
 /** How a line display shows characters (chapter Line Display). */
 enum {
     /** Plain. */
@@ -297,7 +348,7 @@ typedef enum kij_property {
     KIJ_PROP_SCAN_DATA_LABEL = 15,
     /**
      * ScanDataType (Scanner (Bar Code Reader)): the type of the bar code, of the DataEvent that was delivered last.
-     * It is 0 if DecodeData was false then.
+     * It is 0 if DecodeData was false then. Many types have names: SCAN_SDT_UPCA and the like.
      * Of Scanner: a number, read only.
      * Reading: KIJ_E_CLOSED: the control is closed.
      */

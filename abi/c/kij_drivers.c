@@ -551,22 +551,36 @@ void kij_internal_give_up(kij_till *till) {
 
 /* ---- Scanners ---- */
 
-/* The type of a code by its AIM identifier, which is behind its bracket: 120 is SCAN_SDT_EAN128 (GS1-128), 119
-   SCAN_SDT_EAN13_S (EAN-13 with a supplement), and 501 SCAN_SDT_OTHER. */
+/* The type of a code by its AIM identifier, which is behind its bracket. */
 static int type_of(const uint8_t *name) {
     static const struct {
         char letter;
         char digit;
         int type;
     } types[] = {
-        {'C', '1', 120}, {'E', '3', 119}, {'E', '4', 103}, {'o', '1', 121}, {'o', '2', 122}, {'A', 0, 108},
-        {'C', 0, 110},   {'E', 0, 104},   {'F', 0, 107},   {'G', 0, 109},   {'I', 0, 106},   {'L', 0, 201},
-        {'Q', 0, 204},   {'S', 0, 105},   {'U', 0, 202},   {'d', 0, 203},   {'e', 0, 131},   {'z', 0, 206},
+        {'C', '1', KIJ_SCAN_SDT_EAN128},
+        {'E', '3', KIJ_SCAN_SDT_EAN13_S},
+        {'E', '4', KIJ_SCAN_SDT_EAN8},
+        {'o', '1', KIJ_SCAN_SDT_OCRA},
+        {'o', '2', KIJ_SCAN_SDT_OCRB},
+        {'A', 0, KIJ_SCAN_SDT_Code39},
+        {'C', 0, KIJ_SCAN_SDT_Code128},
+        {'E', 0, KIJ_SCAN_SDT_EAN13},
+        {'F', 0, KIJ_SCAN_SDT_Codabar},
+        {'G', 0, KIJ_SCAN_SDT_Code93},
+        {'I', 0, KIJ_SCAN_SDT_ITF},
+        {'L', 0, KIJ_SCAN_SDT_PDF417},
+        {'Q', 0, KIJ_SCAN_SDT_QRCODE},
+        {'S', 0, KIJ_SCAN_SDT_TF},
+        {'U', 0, KIJ_SCAN_SDT_MAXICODE},
+        {'d', 0, KIJ_SCAN_SDT_DATAMATRIX},
+        {'e', 0, KIJ_SCAN_SDT_GS1DATABAR},
+        {'z', 0, KIJ_SCAN_SDT_AZTEC},
     };
     for (size_t place = 0; place < sizeof types / sizeof types[0]; place++)
         if (types[place].letter == (char)name[0] && (types[place].digit == 0 || types[place].digit == (char)name[1]))
             return types[place].type;
-    return 501;
+    return KIJ_SCAN_SDT_OTHER;
 }
 
 /* Tells the till of a scan: a code of enum kij_code. Whether it couldn't be told for want of memory is written. */
@@ -894,8 +908,8 @@ static void wait_for_any(const kij_drives *drives, int64_t time) {
 
 kij_result kij_run_devices(kij_till *till, int timeout, bool *is_any) {
     bool found = false;
-    int64_t end = kij_internal_now() + timeout;
-    if (timeout < 0) return plain(KIJ_BAD_ARGUMENT);
+    int64_t end = timeout == KIJ_FOREVER ? INT64_MAX : kij_internal_now() + timeout;
+    if (timeout < 0 && timeout != KIJ_FOREVER) return plain(KIJ_BAD_ARGUMENT);
     int code = kij_internal_enter(till);
     if (code != KIJ_OK) return plain(code);
     while (code == KIJ_OK) {

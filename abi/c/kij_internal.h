@@ -315,6 +315,10 @@ int kij_internal_sync_first(int file);
 /* Reads a file, as many bytes as totals have: 0 or errno. */
 int kij_internal_read_file(int file, uint8_t *bytes, size_t *size);
 
+/* Makes a file with these bytes, for its owner alone, at a path where nothing is: 0, or errno, or a code of enum kij_code
+   with a minus. It appears whole or not at all. */
+int kij_internal_put_file(const char *path, const uint8_t *bytes, size_t size);
+
 /* What the library's code means to who opens a file or a till. */
 int kij_internal_code_of(uint32_t code);
 

@@ -10,7 +10,13 @@
 #include <sys/file.h>
 #include <unistd.h>
 
+/* How often a file is read again that changes from one reading to the next. */
+enum { MOST_READINGS = 1000 };
+
 static kij_result plain(int code) { return kij_internal_result(code, 0, KIJ_NO_CATEGORY); }
+
+/* Whether the library is of this version: the answers of another one may mean something else. */
+static bool is_of_version(void) { return kijolvar_version() == KIJOLVAR_VERSION; }
 
 static size_t size_of(const char *profile) { return profile == NULL ? 0 : strlen(profile); }
 
@@ -31,6 +37,7 @@ kij_result kij_profile_mistake(const char *profile, kij_mistake *mistake) {
     uint64_t at = UINT64_MAX;
     size_t needed = 0;
     if (mistake == NULL) return plain(KIJ_BAD_ARGUMENT);
+    if (!is_of_version()) return plain(KIJ_WRONG_VERSION);
     memset(mistake, 0, sizeof *mistake);
     uint32_t code = kijolvar_profile_mistake((const uint8_t *)profile, size_of(profile), &at,
                                              (uint8_t *)mistake->reason, sizeof mistake->reason - 1, &needed);
@@ -79,6 +86,7 @@ static size_t read_devices(char *text, kij_device *devices, size_t room) {
 kij_result kij_devices(const char *profile, kij_device *devices, size_t room, size_t *count) {
     size_t size = 4096, needed = 0;
     if (count == NULL || (devices == NULL && room != 0)) return plain(KIJ_BAD_ARGUMENT);
+    if (!is_of_version()) return plain(KIJ_WRONG_VERSION);
     for (;;) {
         char *text = (char *)malloc(size);
         if (text == NULL) return plain(KIJ_NO_MEMORY);
@@ -121,6 +129,7 @@ kij_result kij_files(const char *path, char *text, size_t room, size_t *needed, 
     uint8_t *bytes = NULL;
     size_t size = 0;
     if (path == NULL || needed == NULL || place == NULL || (text == NULL && room != 0)) return plain(KIJ_BAD_ARGUMENT);
+    if (!is_of_version()) return plain(KIJ_WRONG_VERSION);
     int file = open(path, O_RDONLY | O_NONBLOCK | O_CLOEXEC);
     int why = file < 0 ? errno : read_file(file, &bytes, &size);
     if (file >= 0) {
@@ -134,9 +143,42 @@ kij_result kij_files(const char *path, char *text, size_t room, size_t *needed, 
     return result;
 }
 
+/* Reads a file that a till may be writing: 0, or errno. It has had these bytes at a moment, since two readings gave them,
+   one right after the other. There is room for both. EWOULDBLOCK if it changes each time. */
+static int read_steady(int file, uint8_t *bytes, size_t *size) {
+    uint8_t *before = bytes + KIJOLVAR_DISK_LENGTH;
+    size_t count = 0;
+    int why = kij_internal_read_file(file, before, &count);
+    for (int turn = 0; why == 0 && turn < MOST_READINGS; turn++) {
+        why = kij_internal_read_file(file, bytes, size);
+        if (why == 0 && *size == count && memcmp(bytes, before, count) == 0) return 0;
+        count = *size;
+        memcpy(before, bytes, count);
+    }
+    return why == 0 ? EWOULDBLOCK : why;
+}
+
+kij_result kij_backup(const char *path, const char *to) {
+    size_t size = 0, needed = 0;
+    uint64_t place = 0;
+    if (path == NULL || to == NULL) return plain(KIJ_BAD_ARGUMENT);
+    if (!is_of_version()) return plain(KIJ_WRONG_VERSION);
+    uint8_t *bytes = (uint8_t *)malloc(2 * (size_t)KIJOLVAR_DISK_LENGTH);
+    if (bytes == NULL) return plain(KIJ_NO_MEMORY);
+    int file = open(path, O_RDONLY | O_NONBLOCK | O_CLOEXEC);
+    int why = file < 0 ? errno : read_steady(file, bytes, &size);
+    if (file >= 0) close(file);
+    kij_result result = plain(KIJ_OK);
+    if (why == 0) result = survey(bytes, size, NULL, 0, &needed, &place);
+    if (why == 0 && result.code == KIJ_OK) why = kij_internal_put_file(to, bytes, size);
+    free(bytes);
+    if (why == 0) return result;
+    return why < 0 ? plain(-why) : kij_internal_result(KIJ_SYSTEM, why, KIJ_NO_CATEGORY);
+}
+
 kij_result kij_migrate(const char *path) {
     if (path == NULL) return plain(KIJ_BAD_ARGUMENT);
-    if (kijolvar_version() != KIJOLVAR_VERSION) return plain(KIJ_WRONG_VERSION);
+    if (!is_of_version()) return plain(KIJ_WRONG_VERSION);
     int why = kij_internal_move_file(path);
     return why <= 0 ? plain(-why) : kij_internal_result(KIJ_SYSTEM, why, KIJ_NO_CATEGORY);
 }

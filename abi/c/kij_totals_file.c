@@ -1,4 +1,5 @@
-/* The file of a till's totals: it is opened or created and locked, and what the till's disk does is done in it. */
+/* The file of a till's totals: it is opened or created and locked, and what the till's disk does is done in it. And
+   copies of such files. */
 #ifndef _GNU_SOURCE
 #define _GNU_SOURCE
 #endif
@@ -232,6 +233,43 @@ int kij_internal_open_file(const char *path, int flags, const char *profile, int
     if (why == ENOENT && flags == KIJ_CREATE) why = create_new(path, profile, file);
     /* Another till created it in between. */
     if (why == EEXIST && flags == KIJ_CREATE) why = open_existing(path, file);
+    return why;
+}
+
+/* Makes a file of a name in a folder, synced. If that fails after it was made, it is removed again. */
+static int write_part(int folder, const char *part, const uint8_t *bytes, size_t size) {
+    int file = openat(folder, part, O_WRONLY | O_CREAT | O_EXCL | O_CLOEXEC, 0600);
+    if (file < 0) return errno;
+    int why = is_written(file, bytes, size, 0) && kij_internal_is_synced(file) ? 0 : errno;
+    close(file);
+    if (why != 0) (void)unlinkat(folder, part, 0);
+    return why;
+}
+
+/* Gives the file of a name in a folder another name there, which nothing has. */
+static int link_part(int folder, const char *part, const char *name) {
+    int why = linkat(folder, part, folder, name, 0) == 0 ? 0 : errno;
+    if (unlinkat(folder, part, 0) != 0 && why == 0) why = errno;
+    return why == 0 && !kij_internal_is_synced(folder) ? errno : why;
+}
+
+int kij_internal_put_file(const char *path, const uint8_t *bytes, size_t size) {
+    static const char end[] = ".part";
+    const char *name;
+    int folder;
+    int why = open_folder(path, &name, &folder);
+    if (why != 0) return why;
+    size_t length = strlen(name);
+    char *part = (char *)malloc(length + sizeof end);
+    if (part == NULL) why = -KIJ_NO_MEMORY;
+    else {
+        memcpy(part, name, length);
+        memcpy(part + length, end, sizeof end);
+        why = write_part(folder, part, bytes, size);
+        if (why == 0) why = link_part(folder, part, name);
+    }
+    free(part);
+    close(folder);
     return why;
 }
 

@@ -5,9 +5,10 @@ calls their methods to open a cover, use up the paper, pull a plug or make them 
 `python3 tests/emulator printer --path PATH` runs one by itself (see __main__.py).
 """
 from .cables import PtyCable, SilentHost, TcpCable
+from .device import take_unknown
 from .display import Display
 from .printer import Cut, Feed, HearingPrinter, LatePrinter, Line, Printer, first_strange
 from .scanner import Scanner
 
 __all__ = ["Cut", "Display", "Feed", "HearingPrinter", "LatePrinter", "Line", "Printer", "PtyCable", "Scanner", "SilentHost",
-           "TcpCable", "first_strange"]
+           "TcpCable", "first_strange", "take_unknown"]

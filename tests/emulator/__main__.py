@@ -6,7 +6,7 @@ Usage: python3 tests/emulator printer [--path PATH | --tcp PORT] [--columns N] [
 
 A simple printer has neither automatic status nor acknowledgements of jobs. With --tcp 0 any port is taken.
 
-It prints the port first. Then it takes: `cover open`, `cover closed`, `paper LINES`, `drawer open`, `drawer closed`,
+It prints the port first, and each command that it doesn't know on standard error. Then it takes: `cover open`, `cover closed`, `paper LINES`, `drawer open`, `drawer closed`,
 `jam on`, `jam off`, `plug out`, `plug in`, `hang on`, `hang off`, `mute on`, `mute off` (its answers are lost),
 `slow SECONDS` (for each line), `garbage HEX`, `scan TEXT`, `after BYTES WORDS ..` (the same once so many more bytes are
 worked off), `wait` (until all is worked off), `show`, which prints what is on the paper or the display, and `pulses`,
@@ -112,6 +112,7 @@ def main():
         device = Display(cable, words.rows, words.columns or 20, words.protocol)
     else:
         device = Scanner(cable)
+    device.says_unknown = lambda command: print(f"unknown command: {command.hex(' ')}", file=sys.stderr, flush=True)
     with device:
         print(device.path, flush=True)
         for line in sys.stdin:

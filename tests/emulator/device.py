@@ -5,12 +5,28 @@ import select
 import threading
 import time
 
+# The commands that devices got and didn't know, with the kinds of the devices, until somebody takes them.
+_unknown = []
+
+
+def take_unknown():
+    """Returns the commands that the devices that have ended didn't know, with their kinds, and forgets them."""
+    found, _unknown[:] = list(_unknown), []
+    return found
+
 
 class Device:
-    """A device on a cable. Its methods may be called in any thread; `with device:` switches it on and ends it."""
+    """A device on a cable. Its methods may be called in any thread; `with device:` switches it on and ends it.
+
+    Attributes:
+        unknown: The commands that it didn't know. A host has sent them, so that they are its fault. No fault is what a
+            loss of power has left of a command, and what a host had begun before it began the connection again.
+    """
 
     #: How many bytes it takes before it has worked off what came before.
     ROOM = 4096
+    #: Which bytes may end a command that was cut off where a host begins the connection again, and come behind it.
+    CUTS = FILLS = b"\0"
 
     def __init__(self, cable):
         self.cable = cable
@@ -29,6 +45,9 @@ class Device:
         # What an adapter in its cable keeps for it.
         self._kept = bytearray()
         self._triggers = []
+        self.unknown = []
+        # Whether it got all since the connection began, and unknown commands that the host may have cut off.
+        self._is_whole, self._doubtful = False, []
         self._is_ending = False
         self._thread = None
         self._wakes, self._waker = os.pipe()
@@ -54,6 +73,8 @@ class Device:
         self.cable.pull_out(is_forever=True)
         os.close(self._wakes)
         os.close(self._waker)
+        self._counts_doubtful()
+        _unknown.extend((type(self).__name__, command.hex(" ")) for command in self.unknown)
 
     # What happens to it.
 
@@ -74,6 +95,7 @@ class Device:
             self.is_on, self._ready_at = False, 0.0
             self._got.clear()
             self._sends.clear()
+            self._misses()
             self.forget()
             self.cable.pull_out()
         self._wake()
@@ -84,6 +106,7 @@ class Device:
             self._flush()
             del self._got[:count]
             self._sends.clear()
+            self._misses()
             self.forget()
 
     def hang(self, is_hung=True):
@@ -171,6 +194,37 @@ class Device:
     def takes(self, byte):
         """Works off a byte."""
         raise NotImplementedError
+
+    def is_start(self, command):
+        """Whether a host begins a connection with it."""
+        return False
+
+    def says_unknown(self, command):
+        """It doesn't know a command."""
+
+    # Commands that it doesn't know.
+
+    def meets(self, command, is_known):
+        """Notes a command that it has worked off, if it doesn't know it."""
+        if self.is_start(command):
+            self._is_whole, self._doubtful = True, []
+        elif not is_known and self._is_whole:
+            self._doubtful.append(command)
+            if not any(byte in self.CUTS for byte in command[1:]):
+                self._counts_doubtful()
+        elif command not in self.FILLS:
+            self._counts_doubtful()
+
+    def _counts_doubtful(self):
+        """The host hasn't begun the connection again: it has sent what the device doesn't know."""
+        self.unknown += self._doubtful
+        for command in self._doubtful:
+            self.says_unknown(command)
+        self._doubtful = []
+
+    def _misses(self):
+        """What comes next may be the rest of a command."""
+        self._is_whole, self._doubtful = False, []
 
     # The thread.
 

@@ -12,6 +12,9 @@ class Display(Device):
         cells: What it shows, a bytearray for each row.
     """
 
+    #: A host may begin a connection by ESC @ without bytes of 0 in front.
+    CUTS, FILLS = bytes([0, ESC]), b"\0@"
+
     def __init__(self, cable, rows=2, columns=20, protocol="cd5220"):
         super().__init__(cable)
         self.rows, self.columns, self.protocol = rows, columns, protocol
@@ -29,13 +32,16 @@ class Display(Device):
 
     def takes(self, byte):
         self._begun.append(byte)
-        if self._is_whole():
+        if self._has_ended():
             command = bytes(self._begun)
             self._begun.clear()
-            self._obeys(command)
+            self.meets(command, self._obeys(command))
         return True
 
-    def _is_whole(self):
+    def is_start(self, command):
+        return command in (b"\x1b@", b"\x0c")
+
+    def _has_ended(self):
         command = self._begun
         if command[0] not in (ESC, US):
             return True
@@ -50,6 +56,7 @@ class Display(Device):
         return True
 
     def _obeys(self, command):
+        """Obeys a command, and returns whether it knows it."""
         if command == b"\x0c" or command == b"\x1b@":
             self.forget()
         elif command == b"\x0b":
@@ -57,19 +64,22 @@ class Display(Device):
         elif len(command) == 1:
             if command[0] >= 0x20:
                 self._puts(command[0])
-        elif self.protocol == "cd5220" and command[:2] == b"\x1bl":
-            self._moves(command[2], command[3])
-        elif self.protocol == "escpos" and command[:2] == b"\x1f$":
-            self._moves(command[2], command[3])
-        elif self.protocol == "cd5220" and command[:2] == b"\x1bQ" and command[2] in (0x41, 0x42):
-            row = command[2] - 0x41
-            if row < self.rows:
-                text = command[3:-1][:self.columns]
-                self.cells[row][:] = text + b" " * (self.columns - len(text))
+            return command[0] >= 0x20 or command[0] == 0
+        elif command[:2] == (b"\x1bl" if self.protocol == "cd5220" else b"\x1f$"):
+            return self._moves(command[2], command[3])
+        elif self.protocol == "cd5220" and command[:2] == b"\x1bQ" and command[2] - 0x41 in range(min(self.rows, 2)):
+            text = command[3:-1][:self.columns]
+            self.cells[command[2] - 0x41][:] = text + b" " * (self.columns - len(text))
+        else:
+            return False
+        return True
 
     def _moves(self, column, row):
-        if 1 <= column <= self.columns and 1 <= row <= self.rows:
-            self._row, self._column = row - 1, column - 1
+        """Moves its cursor, and returns whether there is such a place."""
+        if not (1 <= column <= self.columns and 1 <= row <= self.rows):
+            return False
+        self._row, self._column = row - 1, column - 1
+        return True
 
     def _puts(self, byte):
         self.cells[self._row][self._column] = byte

@@ -206,8 +206,11 @@ class Printer(Device):
         self._begun.append(byte)
         if len(self._begun) >= self._length():
             self._begun.clear()
-            self._obeys(command)
+            self.meets(command, self._obeys(command))
         return True
+
+    def is_start(self, command):
+        return command == b"\x1b@"
 
     def _needs_paper(self, command):
         if command == b"\n":
@@ -235,6 +238,7 @@ class Printer(Device):
         return {0x61: 3, 0x72: 3}.get(second, 2)
 
     def _obeys(self, command):
+        """Obeys a command, and returns whether it knows it."""
         if command == b"\n":
             self._ends_line()
         elif len(command) == 1:
@@ -242,16 +246,20 @@ class Printer(Device):
                 if len(self._line) == self.columns:
                     self._ends_line()
                 self._puts(command[0])
+            return command[0] >= 0x20 or command[0] == 0
         elif command[0] == ESC:
-            self._obeys_escape(command)
+            return self._obeys_escape(command)
         elif command[0] == GS:
-            self._obeys_group(command)
+            return self._obeys_group(command)
+        else:
+            return False
+        return True
 
     def _obeys_escape(self, command):
         if command[1] == 0x40:
             self._line, self._alignment, self._is_bold = [], 0, False
-        elif command[1] == 0x61:
-            if not self._line and command[2] in ALIGNMENTS:
+        elif command[1] == 0x61 and command[2] in ALIGNMENTS:
+            if not self._line:
                 self._alignment = command[2]
         elif command[1] == 0x45:
             self._is_bold = command[2] % 2 == 1
@@ -262,22 +270,27 @@ class Printer(Device):
             if not self.is_drawer_stuck:
                 self.is_drawer_open = True
                 self._changed()
+        else:
+            return False
+        return True
 
     def _obeys_group(self, command):
-        if command[1] == 0x56:
+        if command[1] == 0x56 and command[2] in (0, 1, 0x41, 0x42):
             if not self._line:
-                way = command[2]
-                if way in (0, 1, 0x41, 0x42):
-                    self.paper.append(Cut(way in (0, 0x41), command[3] if len(command) == 4 else None))
+                self.paper.append(Cut(command[2] in (0, 0x41), command[3] if len(command) == 4 else None))
         elif command[1] == 0x61:
             self._is_automatic = command[2] != 0 and not self.is_simple
             self._told = None
             self._changed()
-        elif command[1] == 0x72:
+            return not (self.is_simple and command[2])
+        elif command[1] == 0x72 and command[2] in (1, 2, 0x31, 0x32):
             paper = (0x03 if self.lines_left <= self.near else 0) | (0x0C if self.lines_left == 0 else 0)
             self._acknowledges(bytes([paper if command[2] in (1, 0x31) else self.is_drawer_open]))
         elif not self.is_simple and command[1] == 0x28 and command[2] == 0x48 and command[3:7] == b"\x06\x00\x30\x30":
             self._acknowledges(b"\x37\x22" + command[7:11] + b"\0")
+        else:
+            return False
+        return True
 
     def _puts(self, character):
         """Puts a character into the line, and does what was to be done then."""

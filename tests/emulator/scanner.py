@@ -18,6 +18,9 @@ class Scanner(Device):
     """A scanner."""
 
     def takes(self, byte):
+        # A host sends it nothing.
+        self._is_whole = True
+        self.meets(bytes([byte]), False)
         return True
 
     def scan(self, code, terminator=b"\r"):

@@ -12,7 +12,7 @@
    there yes|no      whether the device is there
    reads TYPE HEX    a code that it reads next; or a failed scan, for `fault` in place of the type
    calls             whether the till may be called from the driver's next order
-   run TIMEOUT       kij_run_devices: `true` or `false`
+   run TIMEOUT       kij_run_devices: `true` or `false`; without an end by -1
    state DEVICE      kij_show_driver: whether it is online, and how many orders were printed late
    why DEVICE        kij_show_driver: why its port couldn't be opened or was lost the last time, as errno
    lines LINE;LINE   kij_carry_out: the answers, with `;` in place of line feeds
@@ -36,7 +36,8 @@
    memory N [COUNT]  refuses the allocation of this number and all behind it, or so many, and gives all again if N is 0
                      or less
 
-   What is refused is answered by the name of its code, and the extended code if it has one. */
+   What is refused is answered by the name of its code, and the extended code if it has one. `host begin FILE` reads no
+   commands: it answers what the calls say by which a program begins. */
 #include "kij.h"
 #include <stdio.h>
 #include <stdlib.h>
@@ -389,7 +390,7 @@ static void obey(char *line) {
         return;
     }
     const char *verb = strtok(line, " \n");
-    if (verb == NULL) answer(kij_run_devices(till, -1, NULL), "");
+    if (verb == NULL) answer(kij_run_devices(till, -2, NULL), "");
     else if (strcmp(verb, "printer") == 0) answer(open_printer(), "ok");
     else if (strcmp(verb, "display") == 0) answer(open_display(), "ok");
     else if (strcmp(verb, "scanner") == 0) answer(open_scanner(), "ok");
@@ -439,12 +440,28 @@ static char *text_of(const char *path) {
     return text;
 }
 
+/* What the calls answer by which a program begins: of a profile, of a file that isn't there, and of tills. */
+static int begin(const char *path) {
+    kij_mistake mistake;
+    size_t count;
+    uint64_t place;
+    answer(kij_profile_mistake(NULL, &mistake), "ok");
+    answer(kij_devices(NULL, NULL, 0, &count), "ok");
+    answer(kij_files(path, NULL, 0, &count, &place), "ok");
+    answer(kij_backup(path, path), "ok");
+    answer(kij_migrate(path), "ok");
+    answer(kij_open(NULL, NULL, KIJ_EXISTING, &till), "ok");
+    answer(kij_open(NULL, path, KIJ_CREATE, &till), "ok");
+    return 0;
+}
+
 int main(int count, char **words) {
     static char line[300000];
     if (count < 2 || count > 3) {
-        fprintf(stderr, "Usage: host PROFILE [TOTALS]\n");
+        fprintf(stderr, "Usage: host PROFILE [TOTALS], or host begin FILE\n");
         return 2;
     }
+    if (count == 3 && strcmp(words[1], "begin") == 0) return begin(words[2]);
     const char *totals = count > 2 ? words[2] : NULL;
     kij_result result = kij_open(text_of(words[1]), totals, totals == NULL ? KIJ_EXISTING : KIJ_CREATE, &till);
     if (result.code != KIJ_OK) {

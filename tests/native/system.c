@@ -29,6 +29,8 @@
 
 static int failed, lookups, lookup_fault, calls, read_fault, write_fault, sync_fault, syncs, flush_fault;
 static bool is_partial;
+/* How often a file is read from its beginning with another byte each time; always if it is less than 0. */
+static int changes;
 static char looked_up[100];
 /* Whether keys are kept from other programs, or -1, and which type of their events is left out. */
 static int is_grabbed = -1, left_out = -1;
@@ -92,7 +94,9 @@ static size_t part(size_t size, int fault) {
 
 ssize_t __wrap_pread(int file, void *bytes, size_t size, off_t at) {
     size = part(size, read_fault);
-    return size == 0 ? -1 : __real_pread(file, bytes, size, at);
+    ssize_t count = size == 0 ? -1 : __real_pread(file, bytes, size, at);
+    if (changes != 0 && at == 0 && count > 0) ((uint8_t *)bytes)[count - 1] = (uint8_t)changes--;
+    return count;
 }
 
 ssize_t __wrap_pwrite(int file, const void *bytes, size_t size, off_t at) {
@@ -877,6 +881,41 @@ static void try_forked_totals(const char *path) {
     kij_close(till);
 }
 
+/* A copy of a file that changes between two readings has what two in a row gave. If the system fails, no copy is left.
+ */
+static void try_backups(const char *path) {
+    char copy[4200], part[4300];
+    snprintf(copy, sizeof copy, "%s.copy", path);
+    snprintf(part, sizeof part, "%s.part", copy);
+    changes = -1;
+    told("a file that always changes", EWOULDBLOCK, kij_backup(path, copy).extended);
+    told("no copy of it", -1, access(copy, F_OK));
+    changes = 3;
+    told("one that changes three times", KIJ_OK, kij_backup(path, copy).code);
+    told("it is read until it doesn't", 0, changes);
+    size_t needed = 0;
+    uint64_t place = 0;
+    told("its copy is sound", KIJ_OK, kij_files(copy, NULL, 0, &needed, &place).code);
+    if (unlink(copy) != 0) abort();
+    is_partial = true;
+    told("one that is read and written in parts", KIJ_OK, kij_backup(path, copy).code);
+    is_partial = false;
+    told("that copy is sound", KIJ_OK, kij_files(copy, NULL, 0, &needed, &place).code);
+    if (unlink(copy) != 0) abort();
+    int *faults[] = {&read_fault, &write_fault, &sync_fault};
+    for (size_t at = 0; at < sizeof faults / sizeof faults[0]; at++) {
+        *faults[at] = EIO;
+        told("a copy that the system refuses", EIO, kij_backup(path, copy).extended);
+        *faults[at] = 0;
+        told("it isn't there", -1, access(copy, F_OK));
+        told("nor a part of it", -1, access(part, F_OK));
+    }
+    syncs = 0;
+    told("a copy", KIJ_OK, kij_backup(path, copy).code);
+    told("it is synced, and its folder", 2, syncs);
+    if (unlink(copy) != 0) abort();
+}
+
 /* Reading and writing in parts and signals are no failure of the file of the totals, and a failure says why. */
 static void try_totals(const char *path) {
     write_fault = ENOSPC;
@@ -900,6 +939,7 @@ static void try_totals(const char *path) {
     syncs = 0;
     told("what it holds", KIJ_OK, kij_files(path, NULL, 0, &needed, &place).code);
     told("that is synced", 1, syncs);
+    try_backups(path);
     read_fault = EIO;
     open_totals("a file that can't be read", path, KIJ_EXISTING, KIJ_SYSTEM, EIO);
     told("nor moved", KIJ_SYSTEM, kij_migrate(path).code);

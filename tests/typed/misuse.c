@@ -188,9 +188,9 @@ static void opened_on(kij_till *till) {
     kij_discard(again);
 }
 
-/* No order succeeds in no time, and no call waits for less. */
+/* No order succeeds in no time, and each has to end. No call waits for less than no time. */
 static void times(kij_till *till) {
-    static const int refused[] = {0, -1, INT_MIN};
+    static const int refused[] = {0, KIJ_FOREVER, -2, INT_MIN};
     for (size_t place = 0; place < sizeof refused / sizeof refused[0]; place++) {
         int time = refused[place];
         kij_escpos_settings printer = KIJ_ESCPOS_SETTINGS;
@@ -205,7 +205,7 @@ static void times(kij_till *till) {
         gives("a printer's pause", KIJ_BAD_SETTINGS, kij_escpos_printer_open(till, "r1", "/dev/none", &printer));
         gives("a display's pause", KIJ_BAD_SETTINGS, kij_serial_display_open(till, "p1", "/dev/none", &display));
         gives("a scanner's pause", KIJ_BAD_SETTINGS, kij_wedge_scanner_open(till, "s1", "/dev/none", &scanner));
-        gives("a time to run", KIJ_BAD_ARGUMENT, kij_run_devices(till, time, NULL));
+        if (time != KIJ_FOREVER) gives("a time to run", KIJ_BAD_ARGUMENT, kij_run_devices(till, time, NULL));
     }
 }
 
@@ -408,6 +408,66 @@ static void writes(const char *path, long at, int byte) {
     wants("a byte", file != NULL && fseek(file, at, SEEK_SET) == 0 && fputc(byte, file) == byte && fclose(file) == 0);
 }
 
+/* Whether anything is at a path with an end. */
+static bool is_there(const char *path, const char *end) {
+    char whole[4096];
+    snprintf(whole, sizeof whole, "%s%s", path, end);
+    FILE *file = fopen(whole, "rb");
+    if (file != NULL) fclose(file);
+    return file != NULL;
+}
+
+/* A file of totals is copied while a till has it. The copy is whole, or isn't there. */
+static void backups(const char *path) {
+    char copy[4096], part[4096], text[4096], again[4096];
+    size_t needed = 0;
+    uint64_t place = 0;
+    kij_till *till;
+    kij_control *totals;
+    int64_t handle = 0;
+    snprintf(copy, sizeof copy, "%s.copy", path);
+    snprintf(part, sizeof part, "%s.copy.part", path);
+    remove(path);
+    gives("a copy of no file", KIJ_SYSTEM, kij_backup(path, copy));
+    succeeds("a till", kij_open(NULL, path, KIJ_CREATE_NEW, &till));
+    succeeds("totals", kij_start(till, KIJ_HARD_TOTALS, "t1", KIJ_UNCLAIMED, &totals));
+    succeeds("a file", kij_totals_create(totals, "A", 1, 2, false, &handle));
+    succeeds("its bytes", kij_totals_write(totals, handle, 0, "BC", 2));
+    succeeds("a copy while a till has it", kij_backup(path, copy));
+    wants("no part is left", is_there(copy, "") && !is_there(part, ""));
+    succeeds("other bytes", kij_totals_write(totals, handle, 0, "DE", 2));
+    kij_result result = kij_backup(path, copy);
+    wants("a copy is there", result.code == KIJ_SYSTEM && result.extended == EEXIST && !is_there(part, ""));
+    succeeds("what it holds", kij_files(copy, text, sizeof text, &needed, &place));
+    wants("its bytes", strstr(text, "\nfile 41\nname A\nsize 2\nhex 4243\n") != NULL);
+    remove(copy);
+    FILE *file = fopen(part, "wb");
+    wants("a part that a crash has left", file != NULL && fclose(file) == 0);
+    result = kij_backup(path, copy);
+    wants("it is there", result.code == KIJ_SYSTEM && result.extended == EEXIST && is_there(part, ""));
+    remove(part);
+    kij_close(till);
+    succeeds("a copy of a file that no till has", kij_backup(path, copy));
+    succeeds("what the file holds", kij_files(path, text, sizeof text, &needed, &place));
+    succeeds("what the copy holds", kij_files(copy, again, sizeof again, &needed, &place));
+    wants("it is the same", strcmp(text, again) == 0 && strstr(text, "\nhex 4445\n") != NULL);
+    remove(copy);
+    gives("no path", KIJ_BAD_ARGUMENT, kij_backup(NULL, copy));
+    gives("no path of a copy", KIJ_BAD_ARGUMENT, kij_backup(path, NULL));
+    gives("no folder", KIJ_SYSTEM, kij_backup(path, "/nowhere/at/all"));
+    unsigned long slot = strtoul(strstr(text, "\nslot ") + 6, NULL, 10);
+    for (long byte = 9; byte < 17; byte++) writes(path, (long)slot + byte, 0xff);
+    gives("a damaged file", KIJ_DAMAGED, kij_backup(path, copy));
+    file = fopen(path, "wb");
+    wants("a short file", file != NULL && fputs("short", file) >= 0 && fclose(file) == 0);
+    gives("a short file", KIJ_TOO_SMALL, kij_backup(path, copy));
+    writes(path, 327679, 0);
+    writes(path, 0, 0);
+    gives("no totals", KIJ_UNFORMATTED, kij_backup(path, copy));
+    wants("nothing is made", !is_there(copy, "") && !is_there(part, ""));
+    remove(path);
+}
+
 /* What a file of totals holds, and that it is moved to layout 2. */
 static void totals_files(const char *path) {
     char text[4096], cut[10];
@@ -536,6 +596,7 @@ int main(int count, char **words) {
     texts();
     profiles();
     totals_files(words[1]);
+    backups(words[1]);
     succeeds("a till", kij_open("", NULL, KIJ_EXISTING, &till));
     arguments(till);
     opened_on(till);

@@ -18,8 +18,7 @@ it does, its ranges, its errors, and the standard's chapter.
 
 A till can be used only in the thread that opened it.
 """
-from . import _codes, _constants, errors
-from ._codes import *
+from . import _constants, errors
 from ._constants import *
 from ._control import Claim, Control
 from ._controls import CashDrawer, HardTotals, LineDisplay, POSPrinter, Scanner, StandardControl
@@ -29,7 +28,7 @@ from ._events import DataEvent, ErrorEvent, Event, OutputCompleteEvent, StatusUp
 from ._files import open_totals
 from ._library import find as load
 from .drivers import Driver, EscPosDrawer, EscPosPrinter, Scan, SerialDisplay, WedgeScanner
-from ._questions import ProfileDevice, TotalsContents, check, devices, files, migrate
+from ._questions import ProfileDevice, TotalsContents, backup, check, devices, files, migrate
 from ._wire import JOB_DRAWER, JOB_PAPER, Asked, Reply, WireSettings
 from .errors import *
 from .ports import FilePort, Port, PortError, SerialPort, TcpPort, port_of
@@ -44,9 +43,8 @@ __all__ = [
     "JOB_PAPER", "LineDisplay", "Order", "OutputCompleteEvent", "POSPrinter", "Port", "PortError", "PrintedCut",
     "PrintedLine", "Printer", "PrinterView", "ProfileDevice", "Reply", "Scan", "Scanner", "ScannerView",
     "SerialDisplay", "SerialPort", "StandardControl", "StatusUpdateEvent", "TcpPort", "Till", "Totals",
-    "TotalsContents", "TotalsFile", "WedgeScanner", "WireSettings", "WorkDone",
-    "WorkFailed", "check", "create_totals", "devices", "files", "load", "migrate", "open", "open_totals", "port_of",
+    "TotalsContents", "TotalsFile", "WedgeScanner", "WireSettings", "WorkDone", "WorkFailed", "backup", "check",
+    "create_totals", "devices", "files", "load", "migrate", "open", "open_totals", "port_of",
 ]
-__all__ += _codes.__all__
 __all__ += _constants.__all__
 __all__ += errors.__all__

@@ -165,6 +165,58 @@ class ErrorLocus(enum.IntEnum):
     """Input failed, and earlier input is still held."""
 
 
+class ScanDataType(enum.IntEnum):
+    """Types of bar codes (ScanDataType). The standard has others, and a scan may have any of 0 to 999.
+
+    UnifiedPOS 1.16, chapter Scanner (Bar Code Reader).
+    """
+
+    SCAN_SDT_UNKNOWN = 0
+    """It isn't known."""
+    SCAN_SDT_UPCA = 101
+    """UPC-A; with an AIM identifier it comes as EAN-13."""
+    SCAN_SDT_UPCE = 102
+    """UPC-E; with an AIM identifier it comes as EAN-13."""
+    SCAN_SDT_EAN8 = 103
+    """EAN-8."""
+    SCAN_SDT_EAN13 = 104
+    """EAN-13."""
+    SCAN_SDT_TF = 105
+    """2 of 5."""
+    SCAN_SDT_ITF = 106
+    """Interleaved 2 of 5."""
+    SCAN_SDT_Codabar = 107
+    """Codabar."""
+    SCAN_SDT_Code39 = 108
+    """Code 39."""
+    SCAN_SDT_Code93 = 109
+    """Code 93."""
+    SCAN_SDT_Code128 = 110
+    """Code 128."""
+    SCAN_SDT_EAN13_S = 119
+    """EAN-13 with a supplement."""
+    SCAN_SDT_EAN128 = 120
+    """GS1-128."""
+    SCAN_SDT_OCRA = 121
+    """OCR-A."""
+    SCAN_SDT_OCRB = 122
+    """OCR-B."""
+    SCAN_SDT_GS1DATABAR = 131
+    """GS1 DataBar."""
+    SCAN_SDT_PDF417 = 201
+    """PDF417."""
+    SCAN_SDT_MAXICODE = 202
+    """MaxiCode."""
+    SCAN_SDT_DATAMATRIX = 203
+    """Data Matrix."""
+    SCAN_SDT_QRCODE = 204
+    """QR Code."""
+    SCAN_SDT_AZTEC = 206
+    """Aztec Code."""
+    SCAN_SDT_OTHER = 501
+    """Another type."""
+
+
 class DisplayAttribute(enum.IntEnum):
     """How a line display shows characters.
 
@@ -264,6 +316,28 @@ PS_OFF_OFFLINE: Final = PowerState.PS_OFF_OFFLINE
 EL_OUTPUT: Final = ErrorLocus.EL_OUTPUT
 EL_INPUT: Final = ErrorLocus.EL_INPUT
 EL_INPUT_DATA: Final = ErrorLocus.EL_INPUT_DATA
+SCAN_SDT_UNKNOWN: Final = ScanDataType.SCAN_SDT_UNKNOWN
+SCAN_SDT_UPCA: Final = ScanDataType.SCAN_SDT_UPCA
+SCAN_SDT_UPCE: Final = ScanDataType.SCAN_SDT_UPCE
+SCAN_SDT_EAN8: Final = ScanDataType.SCAN_SDT_EAN8
+SCAN_SDT_EAN13: Final = ScanDataType.SCAN_SDT_EAN13
+SCAN_SDT_TF: Final = ScanDataType.SCAN_SDT_TF
+SCAN_SDT_ITF: Final = ScanDataType.SCAN_SDT_ITF
+SCAN_SDT_Codabar: Final = ScanDataType.SCAN_SDT_Codabar
+SCAN_SDT_Code39: Final = ScanDataType.SCAN_SDT_Code39
+SCAN_SDT_Code93: Final = ScanDataType.SCAN_SDT_Code93
+SCAN_SDT_Code128: Final = ScanDataType.SCAN_SDT_Code128
+SCAN_SDT_EAN13_S: Final = ScanDataType.SCAN_SDT_EAN13_S
+SCAN_SDT_EAN128: Final = ScanDataType.SCAN_SDT_EAN128
+SCAN_SDT_OCRA: Final = ScanDataType.SCAN_SDT_OCRA
+SCAN_SDT_OCRB: Final = ScanDataType.SCAN_SDT_OCRB
+SCAN_SDT_GS1DATABAR: Final = ScanDataType.SCAN_SDT_GS1DATABAR
+SCAN_SDT_PDF417: Final = ScanDataType.SCAN_SDT_PDF417
+SCAN_SDT_MAXICODE: Final = ScanDataType.SCAN_SDT_MAXICODE
+SCAN_SDT_DATAMATRIX: Final = ScanDataType.SCAN_SDT_DATAMATRIX
+SCAN_SDT_QRCODE: Final = ScanDataType.SCAN_SDT_QRCODE
+SCAN_SDT_AZTEC: Final = ScanDataType.SCAN_SDT_AZTEC
+SCAN_SDT_OTHER: Final = ScanDataType.SCAN_SDT_OTHER
 DISP_DT_NORMAL: Final = DisplayAttribute.DISP_DT_NORMAL
 DISP_DT_BLINK: Final = DisplayAttribute.DISP_DT_BLINK
 DISP_DT_REVERSE: Final = DisplayAttribute.DISP_DT_REVERSE
@@ -293,6 +367,10 @@ __all__ = [
     "KIJOLVAR_WAITS", "KIJOLVAR_WRITE", "PN_DISABLED", "PN_ENABLED", "PR_NONE", "PR_STANDARD", "PS_OFF_OFFLINE",
     "PS_ONLINE", "PS_UNKNOWN", "PTR_CP_FULLCUT", "PTR_SUE_COVER_OK", "PTR_SUE_COVER_OPEN", "PTR_SUE_REC_EMPTY",
     "PTR_SUE_REC_NEAREMPTY", "PTR_SUE_REC_PAPEROK", "PTR_S_RECEIPT", "PaperCut", "PowerNotify", "PowerReporting",
-    "PowerState", "PowerStatus", "PrinterStation", "PrinterStatus", "SUE_POWER_OFF_OFFLINE", "SUE_POWER_ONLINE",
-    "S_BUSY", "S_CLOSED", "S_ERROR", "S_IDLE", "ScrollDirection", "State", "Timeout", "UPOS_FOREVER",
+    "PowerState", "PowerStatus", "PrinterStation", "PrinterStatus", "SCAN_SDT_AZTEC", "SCAN_SDT_Codabar",
+    "SCAN_SDT_Code128", "SCAN_SDT_Code39", "SCAN_SDT_Code93", "SCAN_SDT_DATAMATRIX", "SCAN_SDT_EAN128",
+    "SCAN_SDT_EAN13", "SCAN_SDT_EAN13_S", "SCAN_SDT_EAN8", "SCAN_SDT_GS1DATABAR", "SCAN_SDT_ITF", "SCAN_SDT_MAXICODE",
+    "SCAN_SDT_OCRA", "SCAN_SDT_OCRB", "SCAN_SDT_OTHER", "SCAN_SDT_PDF417", "SCAN_SDT_QRCODE", "SCAN_SDT_TF",
+    "SCAN_SDT_UNKNOWN", "SCAN_SDT_UPCA", "SCAN_SDT_UPCE", "SUE_POWER_OFF_OFFLINE", "SUE_POWER_ONLINE", "S_BUSY",
+    "S_CLOSED", "S_ERROR", "S_IDLE", "ScanDataType", "ScrollDirection", "State", "Timeout", "UPOS_FOREVER",
 ]

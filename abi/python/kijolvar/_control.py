@@ -75,7 +75,7 @@ def device_word(name: str) -> bytes:
         raise TypeError(f"the name of a device is a str, not {type(name).__name__}")
     word = name.encode("ascii", "replace")
     if not (1 <= len(word) <= 16 and word.replace(b"-", b"0").isalnum()):
-        raise ValueError(f"not a name of a device: {name!r}")
+        raise ValueError(f"a name has 1 to 16 ASCII letters, digits and hyphens: not {name!r}")
     return word
 
 

@@ -458,7 +458,7 @@ class Scanner(StandardControl):
     def scan_data_type(self) -> int:
         """The type of the bar code, of the DataEvent that was delivered last.
 
-        It is 0 if DecodeData was false then.
+        It is 0 if DecodeData was false then. Many types have names: SCAN_SDT_UPCA and the like.
 
         Raises:
             ClosedError: The control is closed.

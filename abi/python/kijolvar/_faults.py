@@ -89,12 +89,14 @@ class DamagedError(LibraryFault):
     Attributes:
         reason: The rule; "" if the call doesn't say. `kijolvar.check` does.
         place: Where, counted in bytes from the first of the file; None if the call doesn't say.
+        path: The path of the file.
     """
 
-    def __init__(self, reason: str = "", place: int | None = None) -> None:
+    def __init__(self, reason: str = "", place: int | None = None, path: str | None = None) -> None:
+        whose = f"{path}: the totals" if path is not None else "the totals"
         where = f" at byte {place}: {reason}" if place is not None else ""
-        super().__init__(KIJOLVAR_DAMAGED, f"the totals are damaged{where}: keep the file, and work on a copy of it")
-        self.args = self.reason, self.place = reason, place
+        super().__init__(KIJOLVAR_DAMAGED, f"{whose} are damaged{where}: keep the file, and work on a copy of it")
+        self.args = self.reason, self.place, self.path = reason, place, path
 
 
 class UnformattedError(LibraryFault):

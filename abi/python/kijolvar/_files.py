@@ -1,4 +1,4 @@
-"""Files of totals: opening and creating them, with a lock against every other till."""
+"""Files of totals: opening, creating and copying them, with a lock against every other till."""
 from __future__ import annotations
 
 import contextlib
@@ -10,12 +10,13 @@ from collections.abc import Iterator
 from typing import BinaryIO, Literal
 
 from ._constants import KIJOLVAR_DISK_LENGTH
-from ._faults import FormattedError, MovedError, TooSmallError, UnformattedError
+from ._faults import DamagedError, FormattedError, MovedError, TooSmallError, UnformattedError
 from ._library import Path
 from ._session import Session, read_whole, write_whole
 
-# How often a file is opened whose name another program gives to another file meanwhile.
-_TRIES = 10
+# How often a file is opened whose name another program gives to another file meanwhile, and how often one is read again
+# that changes from one reading to the next.
+_TRIES, _READINGS = 10, 1000
 
 
 @contextlib.contextmanager
@@ -29,6 +30,8 @@ def naming(path: str) -> Iterator[None]:
         if fault.errno is None or fault.filename == path or type(named) is not type(fault):
             raise
         raise named from None
+    except DamagedError as fault:
+        raise DamagedError(fault.reason, fault.place, path) from None
     except (FormattedError, MovedError, TooSmallError, UnformattedError) as fault:
         raise type(fault)(fault.library_code, f"{path}: {fault.text}") from None
 
@@ -149,6 +152,51 @@ def read_totals(path: Path) -> bytes:
     with naming(name), _locked(name, "rb", fcntl.LOCK_SH) as totals:
         _sync_first(totals)
         return read_whole(totals.fileno())
+
+
+def read_steady(path: Path) -> bytes:
+    """The bytes of a file of totals, which a till may be writing. It isn't locked: it has had these bytes at a moment,
+    since two readings gave them, one right after the other.
+
+    Raises:
+        FileNotFoundError: The file is missing.
+        BlockingIOError: It changes from each reading to the next.
+        OSError: It is no regular file, or can't be read.
+    """
+    name = os.fspath(path)
+    with naming(name), open(name, "rb", buffering=0, opener=_open_at_once) as totals:
+        before = read_whole(totals.fileno())
+        for _ in range(_READINGS):
+            found = read_whole(totals.fileno())
+            if found == before:
+                return found
+            before = found
+    raise BlockingIOError(errno.EAGAIN, "changes from each reading to the next: try again", name)
+
+
+def put_new(path: Path, data: bytes) -> None:
+    """Makes a file with these bytes, for its owner alone, at a path where nothing is. It appears whole or not at all:
+    it is written beside that, with .part at its end, and synced before it gets its name.
+
+    Raises:
+        FileExistsError: Anything has the name already, or the one with .part at its end.
+        OSError: The file can't be made.
+    """
+    name = os.fspath(path)
+    base, part = os.path.basename(name), f"{os.path.basename(name)}.part"
+    with _folder(name) as folder, contextlib.ExitStack() as ends:
+        with naming(f"{name}.part"):
+            file = os.open(part, os.O_WRONLY | os.O_CREAT | os.O_EXCL | os.O_CLOEXEC, 0o600, dir_fd=folder)
+            ends.callback(os.unlink, part, dir_fd=folder)
+            try:
+                write_whole(file, data, 0)
+                os.fsync(file)
+            finally:
+                os.close(file)
+        with naming(name):
+            os.link(part, base, src_dir_fd=folder, dst_dir_fd=folder)
+        ends.close()
+        os.fsync(folder)
 
 
 def _open_at_once(path: str, flags: int) -> int:

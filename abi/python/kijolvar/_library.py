@@ -81,8 +81,8 @@ def carrier(library: ctypes.CDLL) -> Any:
 
 def load(path: Path) -> ctypes.CDLL:
     """Loads the library at a path. A name without a slash that is no file here is looked for where the system has its
-    libraries. Raises OSError if there is none, and AttributeError if it is another one."""
-    return declare(ctypes.CDLL(os.path.abspath(path) if os.path.exists(path) else os.fspath(path)))
+    libraries. Raises OSError if there is none."""
+    return ctypes.CDLL(os.path.abspath(path) if os.path.exists(path) else os.fspath(path))
 
 
 def places() -> list[pathlib.Path]:
@@ -104,14 +104,22 @@ def find(path: Path | None = None) -> ctypes.CDLL:
         raise LibraryError(f"{NAME} not found: pass library=.., set {VARIABLE}, or put it at one of: {looked}")
     try:
         library = load(where)
-    except (OSError, AttributeError) as fault:
+    except OSError as fault:
         raise LibraryError(f"{os.fspath(where)} can't be loaded: {fault}") from fault
-    check(library)
-    return library
+    return checked(library)
 
 
-def check(library: ctypes.CDLL) -> None:
-    """Refuses a library of another version than this package is for."""
-    version = library.kijolvar_version()
-    if version != KIJOLVAR_VERSION:
-        raise LibraryError(f"the library has interface version {version}, and this package needs {KIJOLVAR_VERSION}")
+def checked(library: ctypes.CDLL) -> ctypes.CDLL:
+    """A library that was loaded, with its exports declared.
+
+    Raises:
+        LibraryError: It isn't this library, or it is of another version than this package is for.
+    """
+    try:
+        version = library.kijolvar_version()
+        if version != KIJOLVAR_VERSION:
+            raise LibraryError(
+                f"the library has interface version {version}, and this package needs {KIJOLVAR_VERSION}")
+        return declare(library)
+    except AttributeError as fault:
+        raise LibraryError(f"{library._name} can't be used: {fault}") from fault

@@ -38,8 +38,8 @@ def _place(before: str) -> tuple[int, int]:
 
 
 def library_of(library: Path | ctypes.CDLL | None) -> ctypes.CDLL:
-    """The library, by its path, or the one that was loaded already."""
-    return library if isinstance(library, ctypes.CDLL) else _library.find(library)
+    """The library, by its path, or the one that was loaded already, by whomever."""
+    return _library.checked(library) if isinstance(library, ctypes.CDLL) else _library.find(library)
 
 
 def _ask(call: Any, given: bytes, *places: Any) -> tuple[int, str]:
@@ -154,6 +154,18 @@ def _files_of(lines: list[list[str]]) -> Iterator[tuple[bytes, bytes]]:
         yield _bytes_of(name[1]), _bytes_of(content[1])
 
 
+def _survey(library: ctypes.CDLL, path: Path, data: bytes) -> str:
+    """What the library says of the bytes of a file, if they are sound."""
+    at = ctypes.c_uint64()
+    code, told = _ask(library.kijolvar_survey, data, ctypes.byref(at))
+    with _files.naming(os.fspath(path)):
+        if code == KIJOLVAR_DAMAGED:
+            raise DamagedError(told, at.value)
+        if code != KIJOLVAR_OK:
+            raise library_fault(code)
+    return told
+
+
 def files(path: Path, library: Path | ctypes.CDLL | None = None) -> TotalsContents:
     """What a file of totals holds. It is only read, and first synced, so that what is found stays.
 
@@ -165,14 +177,8 @@ def files(path: Path, library: Path | ctypes.CDLL | None = None) -> TotalsConten
         UnformattedError: The file isn't formatted.
         TooSmallError: The file is too short for totals.
     """
-    at = ctypes.c_uint64()
-    code, told = _ask(library_of(library).kijolvar_survey, _files.read_totals(path), ctypes.byref(at))
-    if code == KIJOLVAR_DAMAGED:
-        raise DamagedError(told, at.value)
-    with _files.naming(os.fspath(path)):
-        if code != KIJOLVAR_OK:
-            raise library_fault(code)
-    lines = [line.split(" ", 1) for line in told.splitlines()]
+    found = library_of(library)
+    lines = [line.split(" ", 1) for line in _survey(found, path, _files.read_totals(path)).splitlines()]
     layout, slot, sequence, records, room = (word[1] for word in lines[:5])
     return TotalsContents(int(layout), int(slot), int(sequence), int(records), None if room == "none" else int(room),
                           dict(_files_of(lines[6:])))
@@ -186,6 +192,29 @@ def check(path: Path, library: Path | ctypes.CDLL | None = None) -> None:
         UnformattedError, TooSmallError, FileNotFoundError, BlockingIOError, OSError: As `kijolvar.files`.
     """
     files(path, library)
+
+
+def backup(path: Path, to: Path, library: Path | ctypes.CDLL | None = None) -> None:
+    """Copies a file of totals to a path where nothing is, also while a till has it open.
+
+    The file is only read, and not locked: again and again, until two readings in a row give the same bytes. They have
+    to be sound. The copy appears whole or not at all: it is written to a file beside it, with `.part` at its end, and
+    synced before it gets its name. Its file system must have hard links.
+
+    Args:
+        path: The file of totals.
+        to: The path of the copy, which is for its owner alone.
+        library: As `kijolvar.open` takes it.
+
+    Raises:
+        FileExistsError: Anything has the name of the copy, or that with `.part` at its end, as after a crash.
+        BlockingIOError: The file changes from each reading to the next, in 1,000 of them.
+        DamagedError, UnformattedError, TooSmallError, FileNotFoundError: As `kijolvar.files`.
+        OSError: The file can't be read, or the copy can't be made.
+    """
+    found, data = library_of(library), _files.read_steady(path)
+    _survey(found, path, data)
+    _files.put_new(to, data)
 
 
 def migrate(path: Path, library: Path | ctypes.CDLL | None = None) -> None:

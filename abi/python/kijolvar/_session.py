@@ -16,7 +16,7 @@ from ._constants import (KIJOLVAR_CUT, KIJOLVAR_DISK_FAILED, KIJOLVAR_DISK_LENGT
                          KIJOLVAR_NO_MEMORY, KIJOLVAR_NO_ORDER, KIJOLVAR_OK, KIJOLVAR_ORDER, KIJOLVAR_SHORT,
                          KIJOLVAR_SYNC, KIJOLVAR_UNDONE, KIJOLVAR_WAITS, KIJOLVAR_WRITE)
 from ._faults import NO_THREAD, NoMemoryError, library_fault
-from ._library import Raw, by_addresses, carrier, check
+from ._library import Raw, by_addresses, carrier
 from ._unique import Unique
 from ._wire import RawSettings, Reply
 from .errors import InCallError, InOrderError, ThreadError, TillClosedError
@@ -173,7 +173,6 @@ class Session(Unique):
         # The device and the number of the file of totals, and whether the till has it no more.
         self._place: tuple[int, int] | None = None
         self._has_ended = False
-        check(library)
         #: Carries out lines, and returns the text of their answers, once what they changed is in the file.
         self.carry_out = self._carrier()
         try:

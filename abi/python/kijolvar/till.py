@@ -30,6 +30,7 @@ from ._session import Session
 from ._unique import Unique
 from ._wire import Reply, WireSettings, behind, expected
 from .drivers import Driver
+from .errors import NoExistError
 from .ports import check_wait
 from .totals import Totals
 
@@ -228,10 +229,18 @@ class Till(Unique):
     def _opened(self, kind: type[C], device: str, enable: bool) -> C:
         is_enabled = is_true(enable)
         control = self.new_control(kind)
-        control._open(device)
+        try:
+            control._open(device)
+        except NoExistError as fault:
+            named = self._names_of(lambda one: one.category == kind.category)
+            raise NoExistError(fault.code, 0, fault.call, f"{fault.reason} The profile has {named}.") from None
         if is_enabled:
             control._do(control._set + b"DeviceEnabled true", "device_enabled")
         return control
+
+    def _names_of(self, is_meant: Callable[[ProfileDevice], bool]) -> str:
+        """The names of some of the profile's devices, as a sentence has them."""
+        return ", ".join(one.name for one in self._devices() if is_meant(one)) or "none"
 
     def drawer(self, device: str, *, enable: bool = True) -> CashDrawer:
         """Opens a control on a cash drawer, and enables it.
@@ -376,7 +385,8 @@ class Till(Unique):
         drivers = {device: driver, **driver.others()}
         for name in drivers:
             if name not in known:
-                raise NoDeviceError(KIJOLVAR_NO_DEVICE, f"the profile has no device {name!r}")
+                raise NoDeviceError(KIJOLVAR_NO_DEVICE, f"the profile has no device {name!r}: it has "
+                                    f"{self._names_of(lambda one: True)}")
         for name, one in drivers.items():
             self._drives.check(known[name], one)
         with contextlib.ExitStack() as undo:

@@ -4,6 +4,7 @@ use crate::control::{Control, Key};
 #[cfg(doc)]
 use crate::error::Cause;
 use crate::error::Error;
+use crate::line::GREATEST;
 use crate::property::{Property, Value};
 use crate::standard::{
     Category, DisplayAttribute, PowerNotify, PowerReporting, PowerState, PrinterStation, ScrollDirection, State,
@@ -15,9 +16,10 @@ use std::fmt;
 use std::ops::Deref;
 use std::time::Duration;
 
-/// The milliseconds of a timeout, of which -1 is without end.
+/// The milliseconds of a timeout, of which -1 is without end. One that is too long for a line is without end, too.
 fn milliseconds(timeout: Option<Duration>) -> i64 {
-    timeout.map_or(-1, |time| i64::try_from(time.as_millis()).unwrap_or(i64::MAX))
+    let time = timeout.and_then(|time| i64::try_from(time.as_millis()).ok());
+    time.filter(|time| *time <= GREATEST).unwrap_or(-1)
 }
 
 impl Till {
@@ -114,7 +116,7 @@ impl Control<'_> {
     /// A claim that the control has already stays as it is. The call never waits: if another control has the device, it
     /// fails at once.
     ///
-    /// - `timeout`: how long the claim may take. `None` is without end.
+    /// - `timeout`: how long the claim may take. `None` and [`Duration::MAX`] are without end.
     ///
     /// # Errors
     ///
@@ -534,7 +536,7 @@ impl<'till> Scanner<'till> {
 
     /// ScanDataType (Scanner (Bar Code Reader)): the type of the bar code, of the DataEvent that was delivered last.
     ///
-    /// It is 0 if DecodeData was false then.
+    /// It is 0 if DecodeData was false then. Many types have names: SCAN_SDT_UPCA and the like.
     ///
     /// # Errors
     ///
@@ -1287,7 +1289,7 @@ impl<'till> HardTotals<'till> {
     /// The call never waits: if another control has the file, it fails at once.
     ///
     /// - `handle`: the file's handle.
-    /// - `timeout`: how long the claim may take. `None` is without end.
+    /// - `timeout`: how long the claim may take. `None` and [`Duration::MAX`] are without end.
     ///
     /// # Errors
     ///

@@ -1,9 +1,9 @@
 //! Drivers: they move bytes between a till and the devices on its ports. A driver of your own implements [`Driver`].
 use crate::devices::Order;
 use crate::error::{Cause, Error};
-use crate::links::{is_over, Kind, Link, Told};
-use crate::ports::{end_after, uptime, Cable, Port, Ready, ETIMEDOUT, MOST_READS, QUICKLY};
-use crate::standard::Category;
+use crate::links::{is_over, is_timeout, Kind, Link, Told};
+use crate::ports::{end_after, uptime, Cable, Port, Ready, ETIMEDOUT, LONGEST_WAIT, MOST_READS, QUICKLY};
+use crate::standard::{Category, ScanDataType};
 use crate::till::Inner;
 use crate::wire::{Asked, PrinterReply, WireSettings};
 use std::fmt;
@@ -116,7 +116,7 @@ impl fmt::Debug for DriverTill<'_> {
 /// A code that a scanner has read.
 #[derive(Debug, Clone, PartialEq, Eq)]
 pub struct Scan {
-    /// Its type (ScanDataType), 0 if it isn't known.
+    /// Its type, 0 if it isn't known. [`ScanDataType`] has names of many types.
     pub kind: u64,
     /// All that came, without the terminator.
     pub data: Vec<u8>,
@@ -281,10 +281,10 @@ pub struct EscPosSettings {
     /// Whether the printer says nothing by itself, and doesn't know GS ( H. Then it is asked for its status (DLE
     /// EOT), and whether an order is printed (GS r).
     pub is_asked: bool,
-    /// How long the printer may go on without acknowledging a line of an order; more than zero. [`Duration::MAX`] is as
-    /// long as it takes.
+    /// How long the printer may go on without acknowledging a line of an order; more than zero, and at most 2,147,483
+    /// seconds. An order has to end, so [`Duration::MAX`] is refused.
     pub timeout: Duration,
-    /// How long to wait before a lost port is tried again; with [`Duration::MAX`] it never is.
+    /// How long to wait before a lost port is tried again, at most 2,147,483 seconds.
     pub pause: Duration,
 }
 
@@ -584,9 +584,10 @@ pub enum Protocol {
 pub struct DisplaySettings {
     /// What it understands.
     pub protocol: Protocol,
-    /// How long an order may take; more than zero. [`Duration::MAX`] is as long as it takes.
+    /// How long an order may take; more than zero, and at most 2,147,483 seconds. An order has to end, so
+    /// [`Duration::MAX`] is refused.
     pub timeout: Duration,
-    /// How long to wait before a lost port is tried again; with [`Duration::MAX`] it never is.
+    /// How long to wait before a lost port is tried again, at most 2,147,483 seconds.
     pub pause: Duration,
 }
 
@@ -608,6 +609,11 @@ struct Reopened {
 impl Reopened {
     fn new(cable: Cable, pause: Duration) -> Reopened {
         Reopened { cable, pause, tried_at: None }
+    }
+
+    /// Whether the port may be one, and the pause is in its range.
+    fn is_sound(&self) -> bool {
+        self.cable.port.is_sound() && self.pause <= LONGEST_WAIT
     }
 
     /// Opens the port, unless it is open or that was tried just now. Returns whether it was opened.
@@ -704,7 +710,7 @@ impl Driver for SerialDisplay {
     }
 
     fn start(&mut self, _: &mut DriverTill<'_>, _: &str) -> Result<(), Error> {
-        if !self.port.cable.port.is_sound() || self.timeout.is_zero() {
+        if !self.port.is_sound() || !is_timeout(self.timeout) {
             return Err(Error::new("drive", Cause::BadSettings));
         }
         Ok(())
@@ -804,13 +810,13 @@ impl WedgeScanner {
         }
     }
 
-    /// Makes this the type of a code without an identifier (ScanDataType, 0 to 999), which is 0 (SCAN_SDT_UNKNOWN)
-    /// otherwise.
+    /// Makes this the type of a code without an identifier, 0 to 999 (`ScanDataType::Ean13.into()`). Otherwise it is 0
+    /// ([`ScanDataType::Unknown`]).
     pub fn with_kind(self, kind: u64) -> WedgeScanner {
         WedgeScanner { kind, ..self }
     }
 
-    /// Makes this how long to wait before a lost port is tried again; with [`Duration::MAX`] it never is.
+    /// Makes this how long to wait before a lost port is tried again, at most 2,147,483 seconds; 1 second otherwise.
     pub fn with_pause(mut self, pause: Duration) -> WedgeScanner {
         self.port.pause = pause;
         self
@@ -827,7 +833,7 @@ impl WedgeScanner {
             return;
         }
         let (kind, front) = match &data[..] {
-            [b']', letter, digit, _, ..] => (kind_of(*letter, *digit), 3),
+            [b']', letter, digit, _, ..] => (kind_of(*letter, *digit).into(), 3),
             _ => (self.kind, 0),
         };
         let label = data[front..].to_vec();
@@ -923,29 +929,28 @@ const SHIFT_KEYS: &[u8; 56] = b"!@#$%^&*()_+\0\0QWERTYUIOP{}\0\0ASDFGHJKL:\"~\0|
 /// Those of the keypad from number 71 on.
 const PAD_KEYS: &[u8; 13] = b"789-456+1230.";
 
-/// The type of a code by its AIM identifier: 120 is SCAN_SDT_EAN128 (GS1-128), 119 SCAN_SDT_EAN13_S (EAN-13 with a
-/// supplement), and 501 SCAN_SDT_OTHER.
-fn kind_of(letter: u8, digit: u8) -> u64 {
+/// The type of a code by its AIM identifier.
+fn kind_of(letter: u8, digit: u8) -> ScanDataType {
     match (letter, digit) {
-        (b'C', b'1') => 120,
-        (b'E', b'3') => 119,
-        (b'E', b'4') => 103,
-        (b'o', b'1') => 121,
-        (b'o', b'2') => 122,
-        (b'A', _) => 108,
-        (b'C', _) => 110,
-        (b'E', _) => 104,
-        (b'F', _) => 107,
-        (b'G', _) => 109,
-        (b'I', _) => 106,
-        (b'L', _) => 201,
-        (b'Q', _) => 204,
-        (b'S', _) => 105,
-        (b'U', _) => 202,
-        (b'd', _) => 203,
-        (b'e', _) => 131,
-        (b'z', _) => 206,
-        _ => 501,
+        (b'C', b'1') => ScanDataType::Ean128,
+        (b'E', b'3') => ScanDataType::Ean13S,
+        (b'E', b'4') => ScanDataType::Ean8,
+        (b'o', b'1') => ScanDataType::OcrA,
+        (b'o', b'2') => ScanDataType::OcrB,
+        (b'A', _) => ScanDataType::Code39,
+        (b'C', _) => ScanDataType::Code128,
+        (b'E', _) => ScanDataType::Ean13,
+        (b'F', _) => ScanDataType::Codabar,
+        (b'G', _) => ScanDataType::Code93,
+        (b'I', _) => ScanDataType::Itf,
+        (b'L', _) => ScanDataType::Pdf417,
+        (b'Q', _) => ScanDataType::QrCode,
+        (b'S', _) => ScanDataType::Tf,
+        (b'U', _) => ScanDataType::MaxiCode,
+        (b'd', _) => ScanDataType::DataMatrix,
+        (b'e', _) => ScanDataType::Gs1DataBar,
+        (b'z', _) => ScanDataType::Aztec,
+        _ => ScanDataType::Other,
     }
 }
 
@@ -955,7 +960,7 @@ impl Driver for WedgeScanner {
     }
 
     fn start(&mut self, _: &mut DriverTill<'_>, _: &str) -> Result<(), Error> {
-        if !self.port.cable.port.is_sound() || self.kind > HIGHEST_KIND {
+        if !self.port.is_sound() || self.kind > HIGHEST_KIND {
             return Err(Error::new("drive", Cause::BadSettings));
         }
         Ok(())

@@ -5,7 +5,7 @@
 //! [`CashDrawer::enabled`] and its like do what is needed.
 //!
 //! ```
-//! use kijolvar::standard::{DisplayAttribute, PrinterStation};
+//! use kijolvar::standard::{DisplayAttribute, PrinterStation, ScanDataType};
 //! use kijolvar::{Event, Till, Totals, BUILT_PROFILE};
 //!
 //! let till = Till::open(BUILT_PROFILE, Totals::Memory)?;
@@ -14,7 +14,7 @@
 //! let printer = till.pos_printer("r1")?.enabled()?;
 //!
 //! scanner.set_data_event_enabled(true)?;
-//! till.input_scan("s1", 104, "4006381", "4006381")?;
+//! till.input_scan("s1", ScanDataType::Ean13.into(), "4006381", "4006381")?;
 //! for event in scanner.events() {
 //!     assert_eq!(event?, Event::Data);
 //!     assert_eq!(scanner.scan_data()?, b"4006381");
@@ -98,7 +98,7 @@ pub use error::{Cause, Error};
 pub use event::{ErrorEvent, Event, Events, StatusUpdate};
 pub use ports::{Flow, Parity, Port, SerialSettings};
 pub use property::{Property, PropertyType, Value};
-pub use questions::{check, devices, files, migrate, ProfileDevice, ProfileMistake, TotalsContents};
+pub use questions::{backup, check, devices, files, migrate, ProfileDevice, ProfileMistake, TotalsContents};
 pub use till::{Till, BUILT_PROFILE};
 pub use totals_file::Totals;
 pub use views::{Alignment, DisplayView, Printed, PrintedText, PrinterView};

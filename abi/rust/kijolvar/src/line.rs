@@ -5,7 +5,7 @@ use std::fmt::Write;
 
 /// The longest line that the library takes, and the greatest number in one.
 const LONGEST: usize = 140_000;
-const GREATEST: i64 = 999_999_999_999_999_999;
+pub(crate) const GREATEST: i64 = 999_999_999_999_999_999;
 
 /// A line that is being written.
 pub(crate) struct Line {

@@ -1,7 +1,7 @@
 //! The line to a receipt printer: what is sent, what has been acknowledged, and what the printer says of itself. The
 //! bytes of orders and the meaning of replies are the library's.
 use crate::drivers::{DriverTill, OrderEnd};
-use crate::ports::{end_after, uptime, Cable, Lost, Port, ETIMEDOUT, MOST_READS, QUICKLY};
+use crate::ports::{end_after, uptime, Cable, Lost, Port, ETIMEDOUT, LONGEST_WAIT, MOST_READS, QUICKLY};
 use crate::wire::{Asked, PrinterReply, WireSettings};
 use std::collections::VecDeque;
 use std::time::{Duration, Instant, SystemTime, UNIX_EPOCH};
@@ -201,6 +201,11 @@ pub(crate) struct Link {
     status_left: usize,
 }
 
+/// Whether an order may take so long: in no time none succeeds, and each has to end.
+pub(crate) fn is_timeout(time: Duration) -> bool {
+    !time.is_zero() && time <= LONGEST_WAIT
+}
+
 /// Whether a time is over, which begins at an instant; it is if that never was.
 pub(crate) fn is_over(since: Option<Instant>, time: Duration) -> bool {
     since.is_none_or(|since| since.elapsed() >= time)
@@ -260,9 +265,9 @@ impl Link {
         }
     }
 
-    /// Whether its settings can work: the port may be one, and the timeout leaves time for an order.
+    /// Whether its settings can work: the port may be one, and its times are in their ranges.
     pub(crate) fn is_sound(&self) -> bool {
-        self.cable.port.is_sound() && !self.timeout.is_zero()
+        self.cable.port.is_sound() && is_timeout(self.timeout) && self.pause <= LONGEST_WAIT
     }
 
     /// Whether the port is open and the printer answers.

@@ -3,8 +3,8 @@ use crate::error::{Cause, Error};
 use crate::raw::{kijolvar_devices, kijolvar_migrate_file, kijolvar_profile_mistake, kijolvar_survey};
 use crate::stack::with_stack;
 use crate::standard::{library, Category};
-use crate::till::{opening_cause, Inner};
-use crate::totals_file::{open_existing, read_file};
+use crate::till::{check_version, opening_cause, Inner};
+use crate::totals_file::{open_existing, put_new, read_file, read_steady};
 use std::fmt;
 use std::path::Path;
 
@@ -129,7 +129,7 @@ fn read_device(line: &str) -> Option<ProfileDevice> {
 ///
 /// # Errors
 ///
-/// [`Cause::BadProfile`], [`Cause::NoMemory`].
+/// [`Cause::BadProfile`], [`Cause::NoMemory`], [`Cause::WrongVersion`].
 ///
 /// ```
 /// use kijolvar::{devices, standard::Category, BUILT_PROFILE};
@@ -141,6 +141,7 @@ fn read_device(line: &str) -> Option<ProfileDevice> {
 /// ```
 pub fn devices(profile: &str) -> Result<Vec<ProfileDevice>, Error> {
     let failed = |cause| Error::new("devices", cause);
+    check_version().map_err(failed)?;
     // SAFETY: slices and a place, lent for the call.
     let found =
         ask(|text, room, needed| unsafe { kijolvar_devices(profile.as_ptr(), profile.len(), text, room, needed) });
@@ -181,21 +182,27 @@ fn read_contents(text: &str) -> Option<TotalsContents> {
 ///
 /// # Errors
 ///
-/// [`Cause::Damaged`], with the place and the rule; [`Cause::Unformatted`], [`Cause::TooSmall`], [`Cause::NoMemory`];
-/// [`Cause::System`], with `NotFound` if there is no file, `WouldBlock` if a till has it, or why it couldn't be opened,
-/// synced or read.
+/// [`Cause::Damaged`], with the place and the rule; [`Cause::Unformatted`], [`Cause::TooSmall`], [`Cause::NoMemory`],
+/// [`Cause::WrongVersion`]; [`Cause::System`], with `NotFound` if there is no file, `WouldBlock` if a till has it, or
+/// why it couldn't be opened, synced or read.
 pub fn files(path: impl AsRef<Path>) -> Result<TotalsContents, Error> {
     let failed = |cause| Error::new("files", cause);
+    check_version().map_err(failed)?;
     let bytes = read_file(path.as_ref()).map_err(|cause| failed(Cause::System(cause)))?;
+    let text = survey(&bytes).map_err(failed)?;
+    read_contents(&text).ok_or_else(|| failed(Cause::BadAnswer(text)))
+}
+
+/// What the library says of the bytes of a file, if they are sound.
+fn survey(bytes: &[u8]) -> Result<String, Cause> {
     let mut at = 0;
     // SAFETY: slices and places, lent for the call.
     let found =
         ask(|text, room, needed| unsafe { kijolvar_survey(bytes.as_ptr(), bytes.len(), &mut at, text, room, needed) });
-    let (code, text) = found.map_err(failed)?;
-    match code {
-        library::OK => read_contents(&text).ok_or_else(|| failed(Cause::BadAnswer(text))),
-        library::DAMAGED => Err(failed(Cause::Damaged(Some((at, text))))),
-        code => Err(failed(opening_cause(code, ""))),
+    match found? {
+        (library::OK, text) => Ok(text),
+        (library::DAMAGED, rule) => Err(Cause::Damaged(Some((at, rule)))),
+        (code, _) => Err(opening_cause(code, "")),
     }
 }
 
@@ -208,16 +215,37 @@ pub fn check(path: impl AsRef<Path>) -> Result<(), Error> {
     files(path).map(|_| ())
 }
 
+/// Copies a file of totals to a path where nothing is, also while a till has it open. The file is only read, and not
+/// locked: again and again, until two readings in a row give the same bytes. They have to be sound. The copy appears
+/// whole or not at all: it is written to a file beside it, with `.part` at its end, and synced before it gets its name.
+/// It is for its owner alone. Its file system must have hard links.
+///
+/// # Errors
+///
+/// [`Cause::Damaged`], with the place and the rule; [`Cause::Unformatted`], [`Cause::TooSmall`], [`Cause::NoMemory`],
+/// [`Cause::WrongVersion`]; [`Cause::System`], with `AlreadyExists` if anything has the name of the copy, or that with
+/// `.part` at its end, as after a crash; with `WouldBlock` if the file changes from each of 1,000 readings to the next;
+/// or with why it couldn't be read, or the copy not be made.
+pub fn backup(path: impl AsRef<Path>, to: impl AsRef<Path>) -> Result<(), Error> {
+    let failed = |cause| Error::new("backup", cause);
+    let of_system = |cause| failed(Cause::System(cause));
+    check_version().map_err(failed)?;
+    let bytes = read_steady(path.as_ref()).map_err(of_system)?;
+    survey(&bytes).map_err(failed)?;
+    put_new(to.as_ref(), &bytes).map_err(of_system)
+}
+
 /// Moves the totals in a file to layout 2, in place: their files stay, and may be more and longer from then on. A crash
 /// at any moment leaves the files by one layout or the other, and you can move the file again.
 ///
 /// # Errors
 ///
 /// [`Cause::Moved`] if they have layout 2 already, [`Cause::Damaged`], [`Cause::Unformatted`], [`Cause::TooSmall`],
-/// [`Cause::DiskFailed`], [`Cause::NoMemory`]; [`Cause::System`], with `NotFound` if there is no file, `WouldBlock` if
-/// a till has it, or why it couldn't be written.
+/// [`Cause::DiskFailed`], [`Cause::NoMemory`], [`Cause::WrongVersion`]; [`Cause::System`], with `NotFound` if there is
+/// no file, `WouldBlock` if a till has it, or why it couldn't be written.
 pub fn migrate(path: impl AsRef<Path>) -> Result<(), Error> {
     let failed = |cause| Error::new("migrate", cause);
+    check_version().map_err(failed)?;
     let file = open_existing(path.as_ref()).map_err(|cause| failed(Cause::System(cause)))?;
     let bytes = Inner::bytes_of(&file).map_err(failed)?;
     let mut till = Inner::over_file("", file, bytes, kijolvar_migrate_file).map_err(failed)?;

@@ -574,6 +574,127 @@ impl ErrorLocus {
     }
 }
 
+/// Types of bar codes (ScanDataType). The standard has others, and a scan may have any of 0 to 999 (chapter Scanner
+/// (Bar Code Reader)).
+#[derive(Debug, Clone, Copy, PartialEq, Eq, Hash)]
+#[non_exhaustive]
+pub enum ScanDataType {
+    /// SCAN_SDT_UNKNOWN: it isn't known.
+    Unknown = 0,
+    /// SCAN_SDT_UPCA: UPC-A; with an AIM identifier it comes as EAN-13.
+    UpcA = 101,
+    /// SCAN_SDT_UPCE: UPC-E; with an AIM identifier it comes as EAN-13.
+    UpcE = 102,
+    /// SCAN_SDT_EAN8: EAN-8.
+    Ean8 = 103,
+    /// SCAN_SDT_EAN13: EAN-13.
+    Ean13 = 104,
+    /// SCAN_SDT_TF: 2 of 5.
+    Tf = 105,
+    /// SCAN_SDT_ITF: interleaved 2 of 5.
+    Itf = 106,
+    /// SCAN_SDT_Codabar: Codabar.
+    Codabar = 107,
+    /// SCAN_SDT_Code39: Code 39.
+    Code39 = 108,
+    /// SCAN_SDT_Code93: Code 93.
+    Code93 = 109,
+    /// SCAN_SDT_Code128: Code 128.
+    Code128 = 110,
+    /// SCAN_SDT_EAN13_S: EAN-13 with a supplement.
+    Ean13S = 119,
+    /// SCAN_SDT_EAN128: GS1-128.
+    Ean128 = 120,
+    /// SCAN_SDT_OCRA: OCR-A.
+    OcrA = 121,
+    /// SCAN_SDT_OCRB: OCR-B.
+    OcrB = 122,
+    /// SCAN_SDT_GS1DATABAR: GS1 DataBar.
+    Gs1DataBar = 131,
+    /// SCAN_SDT_PDF417: PDF417.
+    Pdf417 = 201,
+    /// SCAN_SDT_MAXICODE: MaxiCode.
+    MaxiCode = 202,
+    /// SCAN_SDT_DATAMATRIX: Data Matrix.
+    DataMatrix = 203,
+    /// SCAN_SDT_QRCODE: QR Code.
+    QrCode = 204,
+    /// SCAN_SDT_AZTEC: Aztec Code.
+    Aztec = 206,
+    /// SCAN_SDT_OTHER: another type.
+    Other = 501,
+}
+
+impl ScanDataType {
+    /// Returns the number in the standard.
+    pub fn number(self) -> u32 {
+        self as u32
+    }
+
+    /// Returns the constant of a number, if there is one.
+    pub fn from_number(number: u64) -> Option<ScanDataType> {
+        match number {
+            0 => Some(ScanDataType::Unknown),
+            101 => Some(ScanDataType::UpcA),
+            102 => Some(ScanDataType::UpcE),
+            103 => Some(ScanDataType::Ean8),
+            104 => Some(ScanDataType::Ean13),
+            105 => Some(ScanDataType::Tf),
+            106 => Some(ScanDataType::Itf),
+            107 => Some(ScanDataType::Codabar),
+            108 => Some(ScanDataType::Code39),
+            109 => Some(ScanDataType::Code93),
+            110 => Some(ScanDataType::Code128),
+            119 => Some(ScanDataType::Ean13S),
+            120 => Some(ScanDataType::Ean128),
+            121 => Some(ScanDataType::OcrA),
+            122 => Some(ScanDataType::OcrB),
+            131 => Some(ScanDataType::Gs1DataBar),
+            201 => Some(ScanDataType::Pdf417),
+            202 => Some(ScanDataType::MaxiCode),
+            203 => Some(ScanDataType::DataMatrix),
+            204 => Some(ScanDataType::QrCode),
+            206 => Some(ScanDataType::Aztec),
+            501 => Some(ScanDataType::Other),
+            _ => None,
+        }
+    }
+
+    /// Returns the name in the standard.
+    pub fn name(self) -> &'static str {
+        match self {
+            ScanDataType::Unknown => "SCAN_SDT_UNKNOWN",
+            ScanDataType::UpcA => "SCAN_SDT_UPCA",
+            ScanDataType::UpcE => "SCAN_SDT_UPCE",
+            ScanDataType::Ean8 => "SCAN_SDT_EAN8",
+            ScanDataType::Ean13 => "SCAN_SDT_EAN13",
+            ScanDataType::Tf => "SCAN_SDT_TF",
+            ScanDataType::Itf => "SCAN_SDT_ITF",
+            ScanDataType::Codabar => "SCAN_SDT_Codabar",
+            ScanDataType::Code39 => "SCAN_SDT_Code39",
+            ScanDataType::Code93 => "SCAN_SDT_Code93",
+            ScanDataType::Code128 => "SCAN_SDT_Code128",
+            ScanDataType::Ean13S => "SCAN_SDT_EAN13_S",
+            ScanDataType::Ean128 => "SCAN_SDT_EAN128",
+            ScanDataType::OcrA => "SCAN_SDT_OCRA",
+            ScanDataType::OcrB => "SCAN_SDT_OCRB",
+            ScanDataType::Gs1DataBar => "SCAN_SDT_GS1DATABAR",
+            ScanDataType::Pdf417 => "SCAN_SDT_PDF417",
+            ScanDataType::MaxiCode => "SCAN_SDT_MAXICODE",
+            ScanDataType::DataMatrix => "SCAN_SDT_DATAMATRIX",
+            ScanDataType::QrCode => "SCAN_SDT_QRCODE",
+            ScanDataType::Aztec => "SCAN_SDT_AZTEC",
+            ScanDataType::Other => "SCAN_SDT_OTHER",
+        }
+    }
+}
+
+impl From<ScanDataType> for u64 {
+    fn from(constant: ScanDataType) -> u64 {
+        constant.number().into()
+    }
+}
+
 /// How a line display shows characters (chapter Line Display).
 #[derive(Debug, Clone, Copy, PartialEq, Eq, Hash)]
 #[non_exhaustive]

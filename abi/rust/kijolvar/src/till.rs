@@ -81,6 +81,16 @@ pub(crate) fn opening_cause(code: u32, profile: &str) -> Cause {
     }
 }
 
+/// Refuses a library of another version, whose answers may mean something else.
+pub(crate) fn check_version() -> Result<(), Cause> {
+    // SAFETY: it takes nothing.
+    if unsafe { kijolvar_version() } == library::VERSION {
+        Ok(())
+    } else {
+        Err(Cause::WrongVersion)
+    }
+}
+
 /// Refuses what can't be a device's name.
 fn checked(call: &'static str, device: &str) -> Result<(), Error> {
     if is_name(device) {
@@ -474,10 +484,7 @@ impl Till {
     }
 
     fn begin(profile: &str, totals: &Totals) -> Result<Inner, Cause> {
-        // SAFETY: it takes nothing.
-        if unsafe { kijolvar_version() } != library::VERSION {
-            return Err(Cause::WrongVersion);
-        }
+        check_version()?;
         let Some(file) = totals.open(profile)? else { return Inner::in_memory(profile) };
         let bytes = Inner::bytes_of(&file)?;
         let mut inner = Inner::over_file(profile, file, bytes, kijolvar_open_file)?;
@@ -633,7 +640,8 @@ impl Till {
         self.ask_device("input_drawer", Line::new("input").name(device).word(if is_open { "open" } else { "closed" }))
     }
 
-    /// Says that a scanner reads a code: its type (ScanDataType), all that was read, and its label.
+    /// Says that a scanner reads a code: its type, all that was read, and its label. The type is 0 to 999;
+    /// [`ScanDataType`](crate::standard::ScanDataType) has names of many.
     ///
     /// # Errors
     ///
@@ -642,11 +650,11 @@ impl Till {
     pub fn input_scan(
         &self,
         device: &str,
-        of: u64,
+        kind: u64,
         data: impl AsRef<[u8]>,
         label: impl AsRef<[u8]>,
     ) -> Result<(), Error> {
-        let line = Line::new("input").name(device).word("scan").number(of).bytes(data.as_ref()).bytes(label.as_ref());
+        let line = Line::new("input").name(device).word("scan").number(kind).bytes(data.as_ref()).bytes(label.as_ref());
         self.ask_device("input_scan", line)
     }
 
@@ -845,7 +853,7 @@ impl Till {
     /// Does what the driven devices need: tells the till what they say of themselves and what was scanned, opens lost
     /// ports again, and prints output that waits (AsyncMode), at most one request of each printer. Call it regularly,
     /// and then deliver events. It waits as long as this until there is something to do, also if no device has a
-    /// driver, and without end with [`Duration::MAX`]; printing may take longer. Returns whether anything was done.
+    /// driver, and without an end with [`Duration::MAX`]; printing may take longer. Returns whether anything was done.
     ///
     /// Nobody else can use the till meanwhile. If several threads do, give it to an [`Actor`](crate::Actor), and call
     /// [`Actor::run_devices`](crate::Actor::run_devices).

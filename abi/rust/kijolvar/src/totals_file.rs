@@ -1,4 +1,4 @@
-//! The file of a till's totals: opened or created, and locked.
+//! The file of a till's totals: opened or created, and locked. And copies of such files.
 use crate::error::Cause;
 use crate::ports::{EINVAL, O_NONBLOCK};
 use crate::raw::{kijolvar_format_file, linkat, AT_FDCWD, AT_SYMLINK_FOLLOW, O_TMPFILE};
@@ -165,6 +165,11 @@ pub(crate) fn open_existing(path: &Path) -> io::Result<LockedFile> {
 pub(crate) fn read_file(path: &Path) -> io::Result<Vec<u8>> {
     let file = LockedFile::shared(OpenOptions::new().read(true).custom_flags(O_NONBLOCK).open(path)?)?;
     sync_first(&file)?;
+    read_whole(&file)
+}
+
+/// The bytes of an open file, as many as totals have.
+fn read_whole(file: &File) -> io::Result<Vec<u8>> {
     let (mut bytes, mut count) = (vec![0; DISK_LENGTH as usize], 0);
     loop {
         match file.read_at(&mut bytes[count..], count as u64) {
@@ -176,6 +181,38 @@ pub(crate) fn read_file(path: &Path) -> io::Result<Vec<u8>> {
     }
     bytes.truncate(count);
     Ok(bytes)
+}
+
+/// How often a file is read again that changes from one reading to the next.
+const MOST_READINGS: u32 = 1000;
+
+/// The bytes of a file that a till may be writing. It has had them at a moment, since two readings gave them, one right
+/// after the other. `WouldBlock` if it changes each time.
+pub(crate) fn read_steady(path: &Path) -> io::Result<Vec<u8>> {
+    let file = OpenOptions::new().read(true).custom_flags(O_NONBLOCK).open(path)?;
+    let mut before = read_whole(&file)?;
+    for _ in 0..MOST_READINGS {
+        let found = read_whole(&file)?;
+        if found == before {
+            return Ok(found);
+        }
+        before = found;
+    }
+    Err(ErrorKind::WouldBlock.into())
+}
+
+/// Makes a file with these bytes, for its owner alone, at a path where nothing is. It appears whole or not at all: it
+/// is written beside that, with .part at its end, and synced before it gets its name.
+pub(crate) fn put_new(path: &Path, bytes: &[u8]) -> io::Result<()> {
+    let folder = folder_of(path)?.0;
+    let mut part = path.to_path_buf().into_os_string();
+    part.push(".part");
+    let file = OpenOptions::new().write(true).create_new(true).mode(0o600).open(&part)?;
+    let written = file.write_all_at(bytes, 0).and_then(|()| file.sync_all());
+    let named = written.and_then(|()| fs::hard_link(&part, path));
+    let removed = fs::remove_file(&part);
+    named.and(removed)?;
+    File::open(folder)?.sync_all()
 }
 
 /// Creates a file of totals without files, and locks it. It gets its name when it is whole and synced, which never

@@ -2,7 +2,7 @@
 use kijolvar::standard::{Category, DrawerStatus, ScrollDirection, State, PTR_CP_FULLCUT};
 use kijolvar::standard::{DisplayAttribute, ErrorLocus, ErrorReply, ExtendedCode, PrinterStation, ResultCode};
 use kijolvar::standard::{PowerNotify, PowerStatus};
-use kijolvar::{check, files, migrate, StatusUpdate, Till, Totals, Value, Work, BUILT_PROFILE};
+use kijolvar::{backup, check, files, migrate, StatusUpdate, Till, Totals, Value, Work, BUILT_PROFILE};
 use kijolvar::{Actor, Asked, CashDrawer, Cause, Error, Event, Events, HardTotals, Order, PosPrinter, PrinterReply};
 use kijolvar::{DisplaySettings, Driver, DriverTill, EscPosPrinter, EscPosSettings, Port, Scan, SerialDisplay};
 use kijolvar::{Property, Scanner, SerialSettings, WedgeScanner, WireSettings};
@@ -155,6 +155,45 @@ fn a_lock_ends_with_its_call_or_till() {
         let in_use = Till::open(BUILT_PROFILE, Totals::existing(place.file())).unwrap_err();
         assert_eq!(system_kind(&in_use), Some(ErrorKind::WouldBlock));
     });
+}
+
+#[test]
+fn a_file_is_copied_while_a_till_has_it() {
+    let place = Place::new("copied");
+    let (copy, part) = (place.file().with_extension("copy"), place.file().with_extension("copy.part"));
+    let kind = |done: Result<(), Error>| system_kind(&done.unwrap_err());
+    assert_eq!(kind(backup(place.file(), &copy)), Some(ErrorKind::NotFound));
+    let till = Till::open(BUILT_PROFILE, Totals::create_new(place.file())).unwrap();
+    let totals = till.hard_totals("t1").unwrap().enabled().unwrap();
+    let handle = totals.create("DAY", 2, false).unwrap();
+    totals.write(handle, 0, [1, 0xff]).unwrap();
+    backup(place.file(), &copy).unwrap();
+    assert_eq!(std::fs::read(&copy).unwrap(), std::fs::read(place.file()).unwrap());
+    assert_eq!(std::fs::metadata(&copy).unwrap().mode() & 0o777, 0o600);
+    totals.write(handle, 0, [2, 0]).unwrap();
+    assert_eq!(kind(backup(place.file(), &copy)), Some(ErrorKind::AlreadyExists));
+    assert_eq!(files(&copy).unwrap().files, [(b"DAY".to_vec(), vec![1, 0xff])]);
+    std::fs::remove_file(&copy).unwrap();
+    // A crash has left it.
+    std::fs::write(&part, "").unwrap();
+    assert_eq!(kind(backup(place.file(), &copy)), Some(ErrorKind::AlreadyExists));
+    std::fs::remove_file(&part).unwrap();
+    assert_eq!(kind(backup(place.file(), "/nowhere/at/all")), Some(ErrorKind::NotFound));
+    drop(totals);
+    drop(till);
+    let mut bytes = std::fs::read(place.file()).unwrap();
+    let slot = files(place.file()).unwrap().slot as usize;
+    bytes[slot + 9..slot + 17].fill(0xff);
+    for (found, is_wanted) in [
+        (bytes, (|cause| matches!(cause, Cause::Damaged(Some(_)))) as fn(&Cause) -> bool),
+        (vec![0; 327_680], |cause| matches!(cause, Cause::Unformatted)),
+        (b"short".to_vec(), |cause| matches!(cause, Cause::TooSmall)),
+    ] {
+        std::fs::write(place.file(), found).unwrap();
+        let error = backup(place.file(), &copy).unwrap_err();
+        assert!(is_wanted(error.cause()), "{error}");
+    }
+    assert!(!copy.exists() && !part.exists());
 }
 
 #[test]
@@ -949,13 +988,22 @@ fn what_no_device_can_have_is_refused() {
     let refused = |driven: Result<(), Error>| assert!(matches!(driven.unwrap_err().cause(), Cause::BadSettings));
     refused(till.drive("s1", WedgeScanner::open("/dev/input/none").with_kind(1000)));
     refused(till.drive("p1", SerialDisplay::open("tcp:192.168.1.9:91OO", DisplaySettings::default())));
-    // No order succeeds in no time.
-    let timeout = Duration::ZERO;
-    let printer = EscPosPrinter::open("/dev/none", EscPosSettings { timeout, ..EscPosSettings::default() });
-    refused(till.drive("d1", printer.drawer()));
-    refused(till.drive("r1", printer));
-    let settings = DisplaySettings { timeout, ..DisplaySettings::default() };
-    refused(till.drive("p1", SerialDisplay::open("/dev/none", settings)));
+    // No order succeeds in no time, and each has to end.
+    let too_long = Duration::from_secs(2_147_484);
+    for timeout in [Duration::ZERO, too_long, Duration::MAX] {
+        let printer = EscPosPrinter::open("/dev/none", EscPosSettings { timeout, ..EscPosSettings::default() });
+        refused(till.drive("d1", printer.drawer()));
+        refused(till.drive("r1", printer));
+        let settings = DisplaySettings { timeout, ..DisplaySettings::default() };
+        refused(till.drive("p1", SerialDisplay::open("/dev/none", settings)));
+    }
+    for pause in [too_long, Duration::MAX] {
+        let printer = EscPosPrinter::open("/dev/none", EscPosSettings { pause, ..EscPosSettings::default() });
+        refused(till.drive("r1", printer));
+        let settings = DisplaySettings { pause, ..DisplaySettings::default() };
+        refused(till.drive("p1", SerialDisplay::open("/dev/none", settings)));
+        refused(till.drive("s1", WedgeScanner::open("/dev/input/none").with_pause(pause)));
+    }
     till.drive("s1", WedgeScanner::open("/dev/input/none").with_kind(999)).unwrap();
     let state = till.driver_state("s1").unwrap();
     assert_eq!((state.is_online, state.port_error), (false, Some(2)));
@@ -1335,7 +1383,7 @@ fn a_port_that_opens_late_is_found() {
     let (till, port) = (till(), format!("tcp:{}", listener.local_addr().unwrap()));
     // It isn't waited for at first, nor tried a second time.
     let timeout = Duration::from_nanos(1);
-    let settings = DisplaySettings { timeout, pause: Duration::MAX, ..Default::default() };
+    let settings = DisplaySettings { timeout, pause: Duration::from_secs(1000), ..Default::default() };
     till.drive("p1", SerialDisplay::open(port, settings)).unwrap();
     let end = Instant::now() + Duration::from_secs(10);
     while !till.driver_state("p1").unwrap().is_online && Instant::now() < end {
@@ -1425,8 +1473,8 @@ fn a_driven_printer_may_be_detached() {
 }
 
 #[test]
-fn a_timeout_may_be_any() {
-    let (till, timeout) = (till(), Duration::MAX);
+fn a_wait_for_devices_may_have_no_end() {
+    let (till, timeout) = (till(), Duration::from_secs(2_147_483));
     till.drive("s1", Codes::of(&["4006381"])).unwrap();
     // Nothing listens at this port.
     let settings = EscPosSettings { timeout, pause: timeout, ..EscPosSettings::default() };
@@ -1435,7 +1483,18 @@ fn a_timeout_may_be_any() {
     till.drive("p1", SerialDisplay::open("/dev/null", settings)).unwrap();
     let display = till.line_display("p1").unwrap().enabled().unwrap();
     display.display_text("4.50", DisplayAttribute::Normal).unwrap();
-    assert!(till.run_devices(timeout).unwrap());
+    assert!(till.run_devices(Duration::MAX).unwrap());
+}
+
+#[test]
+fn a_claim_may_have_no_end() {
+    let till = till();
+    let scanner = till.scanner("s1").unwrap();
+    for timeout in [None, Some(Duration::MAX), Some(Duration::from_secs(1_000_000_000_000_000))] {
+        scanner.claim(timeout).unwrap();
+    }
+    let error = till.scanner("s1").unwrap().claim(Some(Duration::MAX)).unwrap_err();
+    assert_eq!(error.code(), Some(ResultCode::Timeout));
 }
 
 #[test]

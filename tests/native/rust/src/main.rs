@@ -2,8 +2,9 @@
 //! reads, and how it answers them.
 use kijolvar::standard::{Category, ErrorReply, PrinterStation};
 use kijolvar::{
-    Cause, DisplaySettings, Driver, DriverTill, Error, EscPosPrinter, EscPosSettings, Event, Flow, Order, Port,
-    PosPrinter, Protocol, Scan, SerialDisplay, SerialSettings, Till, Totals, WedgeScanner,
+    backup, check, devices, files, migrate, Cause, DisplaySettings, Driver, DriverTill, Error, EscPosPrinter,
+    EscPosSettings, Event, Flow, Order, Port, PosPrinter, Protocol, Scan, SerialDisplay, SerialSettings, Till, Totals,
+    WedgeScanner, BUILT_PROFILE,
 };
 use std::io::{BufRead, Write};
 use std::sync::{Mutex, MutexGuard};
@@ -11,6 +12,14 @@ use std::time::Duration;
 
 /// The words behind a command's verb, of which some are keys with a value.
 struct Words<'l>(Vec<&'l str>);
+
+/// A time, of which -1 has no end.
+fn milliseconds(word: &str) -> Duration {
+    if word == "-1" {
+        return Duration::MAX;
+    }
+    Duration::from_millis(word.parse().unwrap())
+}
 
 impl Words<'_> {
     fn has(&self, key: &str) -> bool {
@@ -27,7 +36,7 @@ impl Words<'_> {
     }
 
     fn time(&self, key: &str, usual: Duration) -> Duration {
-        self.number(key).map_or(usual, |number| Duration::from_millis(number.into()))
+        self.value(key).map_or(usual, milliseconds)
     }
 
     /// The port of a device, which may be a serial line whatever its name is.
@@ -279,7 +288,7 @@ fn obey<'till>(till: &'till Till, typed: &mut Typed<'till>, line: &str) -> Resul
             Ok("ok".to_string())
         }
         "reads" => Ok(read_code(&words)),
-        "run" => till.run_devices(Duration::from_millis(words.0[0].parse().unwrap())).map(|is_any| is_any.to_string()),
+        "run" => till.run_devices(milliseconds(words.0[0])).map(|is_any| is_any.to_string()),
         "state" => till
             .driver_state(words.0[0])
             .map(|state| format!("{} {}", if state.is_online { "online" } else { "offline" }, state.late_orders)),
@@ -325,12 +334,33 @@ fn refusal(error: &Error) -> String {
         Cause::Driven => "KIJ_DRIVEN".to_string(),
         Cause::NoMemory => "KIJ_NO_MEMORY".to_string(),
         Cause::NoAnswer => "KIJ_NO_ANSWER".to_string(),
+        Cause::WrongVersion => "KIJ_WRONG_VERSION".to_string(),
         _ => error.to_string(),
+    }
+}
+
+/// What the calls answer by which a program begins: of a profile, of a file that isn't there, and of tills.
+fn begin(path: &str) {
+    let answers = [
+        devices(BUILT_PROFILE).map(drop),
+        files(path).map(drop),
+        check(path),
+        backup(path, path),
+        migrate(path),
+        Till::open(BUILT_PROFILE, Totals::Memory).map(drop),
+        Till::open(BUILT_PROFILE, Totals::create(path)).map(drop),
+    ];
+    for answer in answers {
+        println!("{}", answer.map_or_else(|error| refusal(&error), |()| "ok".to_string()));
     }
 }
 
 fn main() {
     let words: Vec<String> = std::env::args().collect();
+    if words[1] == "begin" {
+        begin(&words[2]);
+        return;
+    }
     let profile = std::fs::read_to_string(&words[1]).expect("a profile");
     let totals = words.get(2).map_or(Totals::Memory, Totals::create);
     let till = Till::open(&profile, totals).expect("a till");
