@@ -2257,7 +2257,7 @@ def try_library():
     none = WORK / "none"
     with mock.patch.object(kijolvar._library, "KIJOLVAR_VERSION", 1):
         for given in (LIBRARY, library):
-            told("another version", ["the library has interface version 2, and this package needs 1"] * 8 + [False], [
+            told("another version", [f"{LIBRARY} has interface version 2, and this package needs 1"] * 8 + [False], [
                 str(raised(call, *words, library=given)) for call, *words in (
                     (kijolvar.devices,), (kijolvar.files, none), (kijolvar.check, none), (kijolvar.migrate, none),
                     (kijolvar.backup, none, WORK / "none.copy"),

@@ -124,6 +124,7 @@ class Printer(Device):
     # How it works.
 
     def forget(self):
+        self._misses()
         self._doubt_up_to(len(self.paper))
         self._line, self._begun, self._held = [], bytearray(), bytearray()
         self._alignment, self._is_bold, self._is_automatic, self._told = 0, False, False, None

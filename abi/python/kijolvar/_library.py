@@ -118,8 +118,8 @@ def checked(library: ctypes.CDLL) -> ctypes.CDLL:
     try:
         version = library.kijolvar_version()
         if version != KIJOLVAR_VERSION:
-            raise LibraryError(
-                f"the library has interface version {version}, and this package needs {KIJOLVAR_VERSION}")
+            raise LibraryError(f"{library._name} has interface version {version}, and this package needs "
+                               f"{KIJOLVAR_VERSION}")
         return declare(library)
     except AttributeError as fault:
         raise LibraryError(f"{library._name} can't be used: {fault}") from fault
