@@ -69,8 +69,8 @@ pub record TakesFailure (bound : DiskGhosts HostedDisk) (hosts : Device → Cour
   pub go_on : GoesOn bound hosts peripherals reported session between old.held.items new
   pub rest : KeepsRest old new
 
--- The order is not done, and memory ran out for what an input prints. No later line is carried out, none is held, and no
--- order is pending.
+-- The order is not done, and memory ran out for what an input prints. No later line is carried out, none is held, and
+-- no order is pending.
 pub record CutsInputs (bound : DiskGhosts HostedDisk) (hosts : Device → Course) (peripherals : Ghosts Device)
     (old : TillState) (inputs : List ℕ) (new : TillState) : Type 0 where
   pub fed : Counter HostedDisk Device
