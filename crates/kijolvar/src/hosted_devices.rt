@@ -52,6 +52,7 @@ pub(crate) fn host_device(profile: &Profile, order_queue: &OrderQueue, name: &[u
 
 /// Returns whether the device of a name is served by a peripheral whose line doesn't fail.
 fn is_drivable(till_state: &TillState, name: &[u8]) -> bool
+    requires { IsTillSound ⟦<Device as Peripheral>⟧ till_state.now }
     ensures { result ≡ is_drivable (served_named name.now (slots_in till_state.now.counter.devices)) }
 {
     match till_state.counter.served(name) {
