@@ -19,9 +19,11 @@ module _ (hosts : Device → Course) where
   pub drivable_is_served : (name : List ℕ) (slots : List (Slot Device)) → is_drivable (served_named name slots) ≡ true
       → is_some (course_named name (hosts_of hosts slots)) ≡ true
   drivable_is_served name [] is = absurd (false≢true is)
-  drivable_is_served name (slot ∷ slots) = by (bytes_eq name slot.name)
+  drivable_is_served name (slot ∷ slots) = by (bytes_eq name slot.name) (drivable_is_served name slots)
     where
-      by : (same : Bool) → is_drivable (if same then slot.peripheral else served_named name slots) ≡ true
+      by : (same : Bool)
+          → (is_drivable (served_named name slots) ≡ true → is_some (course_named name (hosts_of hosts slots)) ≡ true)
+          → is_drivable (if same then slot.peripheral else served_named name slots) ≡ true
           → is_some (if same then option_map hosts slot.peripheral else course_named name (hosts_of hosts slots)) ≡ true
-      by true is = has_course slot.peripheral is
-      by false is = drivable_is_served name slots is
+      by true later is = has_course slot.peripheral is
+      by false later is = later is
