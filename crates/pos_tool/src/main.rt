@@ -35,7 +35,6 @@ fn main(rt: HostRuntime) -> ExitCode {
     let terminals = Terminals {
         input: rt.stdin().is_terminal(),
         output: rt.stdout().is_terminal(),
-        errors: rt.stderr().is_terminal(),
     };
     let mut reader = ReaderSource::new(rt.stdin());
     let mut writer = WriterSink::new(rt.stdout());
@@ -46,7 +45,7 @@ fn main(rt: HostRuntime) -> ExitCode {
         &mut reader,
         terminals,
         &mut writer,
-        &mut Meter::new(&rt, terminals.errors),
+        &mut Meter::new(&rt, rt.stderr().is_terminal()),
         &Pages {
             help: HELP,
             version: VERSION,
