@@ -363,8 +363,8 @@ uint32_t kijolvar_host(kijolvar_till till, void **out, const uint8_t *name, size
 
    Errors:
 
-   NO_DEVICE if the profile has no device of the name, it is one of Hard Totals, it is detached, or what is attached
-   to it is flaky. Then nothing changes. */
+   NO_DEVICE if the profile has no device of the name, it is one of Hard Totals, its line is flaky, or it is
+   detached. Then nothing changes. */
 uint32_t kijolvar_drive(kijolvar_till till, void **out, const uint8_t *name, size_t name_len);
 
 /* Removes the oldest order of the devices that the host has, and writes its line to text and to needed how many
@@ -392,8 +392,7 @@ uint32_t kijolvar_next_order(kijolvar_till till, void **out, uint8_t *text, size
 
    Errors:
 
-   - SHORT, CUT, ERRANDS and DISK_FAILED as kijolvar_carry_out has them. After CUT no line is held, and no order
-     is pending.
+   - SHORT, CUT, ERRANDS and DISK_FAILED as kijolvar_carry_out has them. After CUT no line is held.
    - WAITS if the next line waits for an order. text has the answer of the lines before it.
    - NO_MEMORY if memory ran out. The answer of the lines that went on is in text: no bytes if none did. The host may
      make the same call again: a report that was taken is kept, and isn't taken twice.
