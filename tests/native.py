@@ -1500,9 +1500,9 @@ def try_long_pause():
         scanner = stack.enter_context(Scanner(cable()))
         host = Host(stack)
         told("a display with a long pause", ["ok", "online 0"],
-             [host.ask(f"display p1 {display.path} pause 2147483647"), host.ask("state p1")])
+             [host.ask(f"display p1 {display.path} pause 2147483000"), host.ask("state p1")])
         told("a scanner with a long pause", ["ok", "online 0"],
-             [host.ask(f"scanner s1 {scanner.path} pause 2147483647"), host.ask("state s1")])
+             [host.ask(f"scanner s1 {scanner.path} pause 2147483000"), host.ask("state s1")])
 
 
 def is_kept(line):
