@@ -202,7 +202,7 @@ pub(crate) const MOST_READS: usize = 16;
 /// How long other devices wait for a lost port to open. A keyboard that nobody reads drops what comes much later.
 pub(crate) const QUICKLY: Duration = Duration::from_millis(20);
 
-/// The longest timeout or pause of a driver: that of the drivers of C, whose milliseconds have 31 bits.
+/// The longest timeout or pause of a driver: the whole seconds that C's milliseconds of 31 bits hold, as in Python.
 pub(crate) const LONGEST_WAIT: Duration = Duration::from_secs(2_147_483);
 
 /// How long a host has to answer at least, though nobody waits for it so long.
