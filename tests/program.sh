@@ -222,6 +222,14 @@ formats 'a sync that fails' fsync:error=EIO:when=5 4 "$failed_format"
 ends 'format of it once more' 0 '' format --disk faulty.disk
 formats 'the last sync fails' fsync:error=EIO:when=6 4 "$failed_format"
 ends 'its totals are there' 4 "pos_console: faulty.disk: $formatted" format --disk faulty.disk
+# A link: a crash could lose its file from the folder that the file is in.
+mkdir far near
+ln -s ../far/linked.disk near/link.disk
+strace -y -e trace=fsync -o trace "$program" format --disk near/link.disk > out 2> err
+told 'format of a link' '0 327680' "$? $(wc -c < far/linked.disk)"
+told 'format of a link syncs the folder of its file before the file' far "$(sed -n '1s,.*<.*/\(.*\)>.*,\1,p' trace)"
+told 'format of a link syncs no other folder' 'far linked.disk' \
+  "$(sed -n 's,.*<.*/\(.*\)>.*,\1,p' trace | sort -u | tr '\n' ' ' | sed 's/ $//')"
 meets 'a move whose write fails' pwrite64:error=EIO:when=2 4 \
   'a read, a write or a sync failed while it was moved to layout 2: its files stay, so move it again' migrate --disk faulty.disk
 meets 'files that are not read' pread64:error=EIO 4 "can't be read whole: check the device that it is on" \

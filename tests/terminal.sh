@@ -107,14 +107,30 @@ typed 'open a d1' C-d C-d
 screen 'a line without an end is answered too' '> open a d1=> bad control' 'status 0' 'ready>'
 typed 'clear; echo "new a CashDrawer" | kijolvar run' Enter
 screen 'a pipe has no prompt' '-:1: ok' 'ready>'
+# --- a terminal that is read to its end: no prompt asks for lines, and a note says when they are run
+waits='kijolvar: reads lines up to Ctrl-D, and then runs them'
 typed 'clear; echo be""gun; kijolvar run > answers; cat answers' Enter
 shows 'a run into a file' 'begun'
+shows 'it says when its lines are run' "$waits"
 typed 'new a CashDrawer' Enter C-d
-screen 'a file has no prompt' 'begun' 'new a CashDrawer' '-:1: ok' 'ready>'
+screen 'a file has no prompt' 'begun' "$waits" 'new a CashDrawer' '-:1: ok' 'ready>'
+typed 'clear; echo be""gun again; kijolvar run | tee answers; cat answers' Enter
+shows 'a run into a pipe' 'begun again'
+shows 'it says when its lines are run, too' "$waits"
+typed 'new a CashDrawer' Enter C-d
+screen 'a pipe has the answers alone' 'begun again' "$waits" 'new a CashDrawer' '-:1: ok' '-:1: ok' 'ready>'
 typed 'clear; echo be""gun once more; kijolvar run --json' Enter
 shows 'a run without a prompt' 'begun once more'
+shows 'so does JSON' "$waits"
 typed 'new a CashDrawer' Enter C-d
 shows 'and JSON has none' '{"answer":"ok","line":1,"reason":null,"script":"-","text":"new a CashDrawer"}'
+typed 'clear; echo be""gun for a file; kijolvar run > answers 2> errors; wc -c < errors' Enter
+shows 'a run whose errors go elsewhere' 'begun for a file'
+typed 'new a CashDrawer' Enter C-d
+screen 'it has no note' 'begun for a file' 'new a CashDrawer' '0' 'ready>'
+echo 'new b CashDrawer' > two
+typed 'clear; kijolvar run two > answers; cat answers' Enter
+screen 'a script in a file has no note' 'two:1: ok' 'ready>'
 typed 'clear; kijolvar run --totals none.totals' Enter
 shows 'a fault ends it before it asks' "kijolvar: none.totals: can't be opened for reading and writing"
 # --- colours at a terminal, and none in a pipe

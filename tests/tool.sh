@@ -119,6 +119,7 @@ refuses 'cat without a name' "$missing <NAME>" cat a
 refuses 'backup without a place' "$missing <TO>" backup a
 refuses 'restore without words' "$missing <FROM> <FILE>" restore
 refuses 'explain without a code' "$missing <CODE>" explain
+refuses 'explain with a third word' "unexpected argument '1' found" explain 114 201 1
 refuses 'diff of one file' "$missing <OTHER>" diff a
 refuses 'salvage without a place' "$missing <TO>" salvage a
 refuses 'load without a file' "$missing <FILE>" load a
@@ -167,6 +168,20 @@ ends 'create refuses damaged totals' 4 \
   'kijolvar: other: is formatted already: remove it first if its totals may go'$'\n''hint: `kijolvar check FILE` says if it is sound' \
   '' create other
 same 'create keeps damaged totals' other kept
+# A link: its file is made, and the folder of that one synced, which is where a crash could lose it.
+mkdir far near
+ln -s ../far/linked.totals near/link.totals
+strace -f -y -e trace=fsync -o trace "$tool" create near/link.totals > out 2> err
+told 'create of a link' '0 ' "$? $(cat err)"
+told 'create of a link makes its file' "327680 ../far/linked.totals" "$(wc -c < far/linked.totals) $(readlink near/link.totals)"
+told 'create of a link syncs the folder of its file, and no other one' 'far linked.totals' \
+  "$(sed -n 's,.*<.*/\(.*\)>.*,\1,p' trace | sort -u | tr '\n' ' ' | sed 's/ $//')"
+rm far/linked.totals
+strace -o trace -e inject=readlink,readlinkat:error=EACCES "$tool" create near/link.totals > out 2> err
+told 'create of a link that is not followed: status' 4 $?
+told 'create of a link that is not followed: message' \
+  "kijolvar: near/link.totals: its folder can't be opened and synced: Permission denied (os error 13)"$'\n'"$hint_path" "$(cat err)"
+told 'create of a link that is not followed: nothing was written' 0 "$(wc -c < far/linked.totals)"
 ends 'create in no folder' 4 "kijolvar: none/a: $unopened: $none"$'\n'"$hint_path" '' create none/a
 
 # --- check
@@ -178,14 +193,27 @@ ends 'check counts' 0 '' 'sound: layout 1, sequence 1, records 3, files 2' check
 ends 'check of no file' 4 "kijolvar: none.totals: $unread: $none"$'\n'"$hint_path" '' check none.totals
 ends 'a path with a line feed' 4 "kijolvar: a\\nb: $unread: $none"$'\n'"$hint_path" '' check "$(printf 'a\nb')"
 head -c 327680 /dev/zero > zero.totals
-unformatted='no totals: not formatted'$'\n''to do: is it the right file? Restore a copy if it had totals; `kijolvar create FILE` makes new ones'
-ends 'check of bytes without totals' 1 '' "$unformatted" check zero.totals
+makes_new='to do: is it the right file? Restore a copy if it had totals; `kijolvar create FILE` makes new ones'
+move_away='for new totals move it away, then `kijolvar create FILE`'
+unformatted='no totals: not formatted'
+ends 'check of bytes without totals' 1 '' "$unformatted"$'\n'"$makes_new" check zero.totals
 ends 'the same, quiet' 1 '' '' check --quiet zero.totals
+ends 'check of other bytes' 1 '' \
+  "$unformatted, but its bytes aren't all 0"$'\n'"to do: is it the right file? Restore a copy if it had totals; $move_away" check letters
+ends 'the same, quiet' 1 '' '' check --quiet letters
+head -c 400000 /dev/zero > other
+put other 327680 01
+ends 'check of zeros with other bytes after them' 1 '' "$unformatted"$'\n'"$makes_new" check other
+ends 'create makes totals of them, as check says' 0 '' '' create other
+told 'and keeps the other bytes' 01 "$(od -A n -t x1 -j 327680 -N 1 other | tr -d ' ')"
 head -c 100000 till.totals > short.totals
-short='no totals: shorter than a totals file, which has 327680 bytes'$'\n''to do: is it the right file? If it was cut off, restore a copy, else `kijolvar salvage`'
-ends 'check of a short file' 1 '' "$short" check short.totals
+short='no totals: shorter than a totals file, which has 327680 bytes'
+ends 'check of a short file' 1 '' \
+  "$short"$'\n'"to do: is it the right file? If it was cut off, restore a copy, else \`kijolvar salvage\` it; $move_away" check short.totals
 : > empty.totals
-ends 'check of an empty file' 1 '' "$short" check empty.totals
+ends 'check of an empty file' 1 '' "$short"$'\n'"$makes_new" check empty.totals
+head -c 1000 /dev/zero > other
+ends 'check of a short file of zeros' 1 '' "$short"$'\n'"$makes_new" check other
 cp till.totals longer.totals
 printf 'more' >> longer.totals
 ends 'check of a longer file' 0 '' 'sound: layout 1, sequence 1, records 3, files 2' check longer.totals
@@ -388,6 +416,23 @@ hint_code='hint: give a number as 106, or a name as E_ILLEGAL'
 ends 'explain no code' 1 "kijolvar: no code is 999"$'\n'"$hint_code" '' explain 999
 ends 'explain nothing' 1 "kijolvar: no code is "$'\n'"$hint_code" '' explain ''
 ends 'explain a number with a zero before it' 1 "kijolvar: no code is 0106"$'\n'"$hint_code" '' explain 0106
+ends 'explain a result code and its extended code' 0 '' "E_EXTENDED 114, result code: the extended code says what is wrong
+to do: what the extended code says
+EPTR_REC_EMPTY 203, extended code: the receipt doesn't have enough paper
+to do: put in a new roll" explain 114 203
+cp out by_number
+ends 'explain them by their names' 0 '' "$(cat by_number)" explain E_EXTENDED EPTR_REC_EMPTY
+"$tool" explain 114 201 > out
+told 'explain an extended code with two meanings' 'E_EXTENDED ETOT_NOROOM EPTR_COVER_OPEN' \
+  "$(grep -o '^E[A-Z_]*' out | tr '\n' ' ' | sed 's/ $//')"
+"$tool" explain 114 ETOT_NOROOM > out
+told 'explain the one of them that is named' 'E_EXTENDED ETOT_NOROOM' "$(grep -o '^E[A-Z_]*' out | tr '\n' ' ' | sed 's/ $//')"
+hint_codes='hint: give a result code and its extended code, as 114 203; an extended code of 0 says nothing'
+ends 'explain a result code before none' 1 "kijolvar: no extended code is 0"$'\n'"$hint_codes" '' explain 111 0
+ends 'explain a code of another kind after it' 1 "kijolvar: no extended code is 12"$'\n'"$hint_codes" '' explain 114 12
+ends 'explain a status before an extended code' 1 "kijolvar: no result code is 12"$'\n'"$hint_codes" '' explain 12 203
+ends 'explain two words that are none' 1 "kijolvar: no result code is 999"$'\n'"$hint_codes" '' explain 999 999
+ends 'explain an empty extended code' 1 "kijolvar: no extended code is "$'\n'"$hint_codes" '' explain 114 ''
 # each code of the reference, with its number
 while IFS='|' read -r _ number name _; do
   number=$(echo $number) name=$(echo $name)
@@ -430,6 +475,16 @@ told 'backup: it is written, synced, linked, and its folder synced' 'pwrite64 fs
   "$(sed -n '/new.part/,$p' trace | grep -oE '(pwrite64|fsync|link|linkat|unlink|unlinkat)\(' | tr -d '(' |
     sed 's/linkat/link/; s/unlinkat/unlink/' | tr '\n' ' ' | sed 's/ $//')"
 told 'backup opens its source to be read alone' 1 "$(grep -c '"till.totals", O_RDONLY' trace)"
+rm -f new
+# Every first reading of two is changed as it arrives: the file seems to change each time.
+strace -o trace -P "$work/till.totals" -e inject=pread64:poke_exit=@arg2=ff:when=1+2 "$tool" backup till.totals new > out 2> err
+told 'backup of a file that changes each time: status' 4 $?
+told 'backup of a file that changes each time: message' \
+  'kijolvar: till.totals: changes each time it is read: try again, or end the program that writes to it'$'\n''hint: `backup` works beside a till that runs, if it doesn'"'"'t write all the time' \
+  "$(cat err)"
+told 'backup of a file that changes each time makes nothing' '' "$(ls new* 2> /dev/null)"
+strace -o trace -P "$work/till.totals" -e inject=pread64:poke_exit=@arg2=ff:when=1..9+2 "$tool" backup till.totals new > out 2> err
+told 'backup of a file that changes five times' '0 same' "$? $(cmp -s till.totals new && echo same)"
 rm -f new
 
 # --- restore
@@ -490,6 +545,11 @@ strace -o trace -P "$work/other.totals" -e inject=pread64:error=EIO "$tool" chec
 told 'check of a file that is not read: status' 4 $?
 told 'check of a file that is not read: message' \
   "kijolvar: other.totals: can't be read whole: check the device that it is on"$'\n''hint: copy it by dd if=FILE of=COPY bs=512 conv=noerror,sync, and salvage COPY, or restore an older copy' \
+  "$(cat err)"
+strace -o trace -P "$work/other.totals" -e inject=fsync:error=EINVAL "$tool" check other.totals > out 2> err
+told 'check of a file on a device without syncs: status' 4 $?
+told 'check of a file on a device without syncs: message' \
+  "kijolvar: other.totals: can't be synced: check the device that it is on"$'\n''hint: if the device is read-only, copy FILE to another one and take the copy; else check the device' \
   "$(cat err)"
 # README's way: dd reads the rest, and that is salvaged.
 strace -o trace -P "$work/other.totals" -e inject=read:error=EIO:when=200 \
@@ -637,7 +697,7 @@ done
 same 'the file is as it was after all that read' till.totals kept
 
 # --- an output that takes nothing
-for words in help version 'explain 106' 'dump till.totals' 'check till.totals' 'files till.totals' 'files --json till.totals' 'cat till.totals A'; do
+for words in help version 'explain 106' 'explain 114 203' 'dump till.totals' 'check till.totals' 'files till.totals' 'files --json till.totals' 'cat till.totals A'; do
   "$tool" $words > /dev/full 2> err
   told "$words on a full output: status" 5 $?
   told "$words on a full output: message" \

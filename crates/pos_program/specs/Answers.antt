@@ -1,10 +1,17 @@
 -- What is made of answers.
-use Rattle.std.specs.Prelude.{◌≡◌, ℕ, List, Result, Ok, Err, Vec, Bool, true, false}
+use Rattle.std.specs.Prelude.{◌≡◌, ℕ, List, Option, Some, None, Result, Ok, Err, String, Vec, Bool, true, false}
+use Rattle.std.specs.Prelude.{string_bytes}
 
 -- what reading bytes answered, with the bytes as a list
 abbrev pub bytes_of : {A E : Type 0} → Result (Vec ℕ A) E → Result (List ℕ) E
 bytes_of (Ok bytes) = Ok bytes.items
 bytes_of (Err cause) = Err cause
+
+-- what asking for a text answered, if there is one, with the text as a list
+abbrev pub text_in : {A E : Type 0} → Result (Option (String A)) E → Result (Option (List ℕ)) E
+text_in (Ok None) = Ok None
+text_in (Ok (Some text)) = Ok (Some (string_bytes text))
+text_in (Err cause) = Err cause
 
 -- what is answered is what was, but for a fault, which is told so
 abbrev pub Passes : {A C E : Type 0} → (C → E → Type 0) → Result A C → Result A E → Type 0

@@ -1,6 +1,6 @@
 -- How the disk of the totals in a file is opened (docs/reference/console.md, "The program").
 use Rattle.std.specs.Prelude.{◌≡◌, ◌∷◌, [], ℕ, List, Bool, true, false, max, min, nat_lt, Option, Some, Result, Ok}
-use Rattle.std.specs.Prelude.{◌⊎◌, ◌-◌, Err, length, replicate}
+use Rattle.std.specs.Prelude.{◌⊎◌, ◌-◌, Err, length, replicate, unwrap_or}
 use Rattle.std.specs.Bool.{MatchBool}
 use Rattle.std.specs.Fs.{new_options, with_create, with_read, with_write}
 use Rattle.std.specs.Path.{cur_dir, path_parent}
@@ -48,11 +48,21 @@ folder_or_here other = cur_dir
 abbrev pub folder_of : List ℕ → List ℕ
 folder_of path = folder_or_here (path_parent path)
 
--- what making the entry of a file stay comes to: its folder is synced
+-- what syncing a folder comes to
+abbrev pub SyncsAt : {S F : Type 0} → SystemGhosts S F → S → List ℕ → Result (Unit {0}) FileFault → Type 0
+SyncsAt system them folder result = (answer : Result (Unit {0}) Error) × system.syncs them folder answer
+    × Passes (λ cause why. why ≡ file.Folder cause) answer result
+
+-- what making the entry stay comes to of the file that a path is for, by where a link there leads
+abbrev pub SyncsOwn : {S F : Type 0} → SystemGhosts S F → S → List ℕ → Result (Option (List ℕ)) Error
+    → Result (Unit {0}) FileFault → Type 0
+SyncsOwn system them path (Ok target) result = SyncsAt system them (folder_of (unwrap_or target path)) result
+SyncsOwn system them path (Err cause) result = result ≡ Err (file.Folder cause)
+
+-- what making the entry of a file stay comes to: its folder is synced; for a link, that of the file it leads to
 abbrev pub SyncsFolder : {S F : Type 0} → SystemGhosts S F → S → List ℕ → Result (Unit {0}) FileFault → Type 0
 SyncsFolder system them path result =
-    (answer : Result (Unit {0}) Error) × system.syncs them (folder_of path) answer
-    × Passes (λ cause why. why ≡ file.Folder cause) answer result
+    (led : Result (Option (List ℕ)) Error) × system.leads them path led × SyncsOwn system them path led result
 
 -- why a file can't serve as a disk
 abbrev pub ReportsDisk : DiskFileFault → FileFault → Type 0

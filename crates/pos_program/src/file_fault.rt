@@ -15,6 +15,9 @@ pub enum FileFault {
     /// Another program has it open, or puts another file in its place.
     #[error("is in use: close the other program that has it open")]
     InUse,
+    /// It changed from each reading of `kijolvar backup` to the next.
+    #[error("changes each time it is read: try again, or end the program that writes to it")]
+    Unsteady,
     /// The system gives no lock on it.
     #[error("can't be locked: {0}")]
     Lock(io::Error),
@@ -30,7 +33,7 @@ pub enum FileFault {
     /// It was lengthened, and the device may not have it.
     #[error("can't be synced: {0}")]
     Sync(io::Error),
-    /// The device may not have what was written to it before.
+    /// The device may not have what was written to it before. An ISO has no syncs: copy the file from there.
     #[error("can't be synced: check the device that it is on")]
     NotSynced,
     /// Its bytes can't be read, or fewer than it is said to have.

@@ -1,8 +1,8 @@
 //! What the program asks of the file system.
-ghost use Rattle.std.specs.Prelude.{◌≡◌, [], Bool, IfOk, List, Result, ℕ, ⊤};
+ghost use Rattle.std.specs.Prelude.{◌≡◌, [], Bool, IfOk, List, Option, Result, ℕ, ⊤};
 ghost use Rattle.std.specs.declared.fs.options.OpenOptions.{OpenOptions as Options};
 ghost use Rattle.std.specs.declared.io.Error.{Error};
-ghost use Rattle.pos_program.specs.Answers.{bytes_of};
+ghost use Rattle.pos_program.specs.Answers.{bytes_of, text_in};
 
 use pos_file::{BlockFile, SystemFile};
 use std::fs::{File, OpenFile, OpenOptions};
@@ -27,6 +27,9 @@ pub trait FileSystem {
 
     /// What asking whether the file at a path is this open one may answer.
     ghost names: { Self → Self.File → List ℕ → Result Bool Error → Type 0 } = { λ _ _ _ _. ⊤ };
+
+    /// What asking where a link at a path leads may answer: the path of its file, or none if the path is no link's.
+    ghost leads: { Self → List ℕ → Result (Option (List ℕ)) Error → Type 0 } = { λ _ _ _. ⊤ };
 
     /// What syncing the folder at a path may answer.
     ghost syncs: { Self → List ℕ → Result (Unit {0}) Error → Type 0 } = { λ _ _ _. ⊤ };
@@ -56,6 +59,15 @@ pub trait FileSystem {
     /// The system's error, which says why it can't tell.
     fn is_at(&self, file: &Self::File, path: &str) -> io::Result<bool>
         ensures { names self.now file.now path.now result };
+
+    /// Returns the path of the file that the link at a path leads to. The folder in it is the one that the file is in.
+    /// Returns `None` if the path is no link's.
+    ///
+    /// # Errors
+    ///
+    /// The system's error, which says why it can't tell.
+    fn link_target(&self, path: &str) -> io::Result<Option<String>>
+        ensures { leads self.now path.now (text_in result) };
 
     /// Makes the entries of the folder at a path stay after a crash.
     ///
@@ -101,6 +113,13 @@ impl<R: Files<File = File> + AllocGlobal> FileSystem for R {
             Err(cause) if cause.kind() == io::ErrorKind::NotFound => Ok(false),
             Err(cause) => Err(cause),
         }
+    }
+
+    fn link_target(&self, path: &str) -> io::Result<Option<String>> {
+        if !fs::symlink_metadata(self, path)?.is_symlink() {
+            return Ok(None);
+        }
+        Ok(Some(self.canonicalize(self.alloc(), path)?.into_string()))
     }
 
     fn sync(&self, folder: &str) -> io::Result<()> {

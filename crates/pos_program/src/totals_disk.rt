@@ -3,7 +3,7 @@ ghost use Rattle.std.specs.Prelude.{◌≡◌, ◌≤◌, IfOk, false, length, L
 ghost use Rattle.pos_file.specs.Calls.{lock_call, share_call};
 ghost use Rattle.pos_image.specs.Layout.{disk_size};
 ghost use Rattle.pos_program.specs.Faults.{ReportsOpen};
-ghost use Rattle.pos_program.specs.TotalsDisks.{ChecksName, ClosesRefused, IsLongEnough, IsNewMirror, LengthensDisk, LocksTotals, MakesLong, MakesTotals, MirrorsDisk, MirrorsLong, OpensDisk, OpensFile, OpensTotals, SyncsFolder, ReportsDisk, ReportsMirror, folder_of, to_write};
+ghost use Rattle.pos_program.specs.TotalsDisks.{ChecksName, ClosesRefused, IsLongEnough, IsNewMirror, LengthensDisk, LocksTotals, MakesLong, MakesTotals, MirrorsDisk, MirrorsLong, OpensDisk, OpensFile, OpensTotals, SyncsAt, SyncsFolder, ReportsDisk, ReportsMirror, folder_of, to_write};
 ghost use Rattle.pos_program.specs.Locks.{ReportsUnlocked};
 ghost use Rattle.pos_mirror.specs.Mirror.{mirror_state};
 ghost use Rattle.pos_program.specs.MirroredFiles.{CutMayLeave, IsMirrored};
@@ -63,17 +63,32 @@ fn folder_of(path: &str) -> &str
     }
 }
 
-/// Makes the entry of a file in its folder stay after a crash.
+// Makes the entries of a folder stay after a crash.
+fn sync_at<S: FileSystem>(files: &S, folder: &str) -> Result<(), FileFault>
+    ensures { SyncsAt S.FileSystem files.now folder.now result }
+{
+    match files.sync(folder) {
+        Ok(()) => Ok(()),
+        Err(cause) => Err(FileFault::Folder(cause)),
+    }
+}
+
+/// Makes the entry of a file in its folder stay after a crash. If its path is a link's, that is the folder of the file
+/// that the link leads to.
 ///
 /// # Errors
 ///
-/// `Folder` if the folder can't be synced.
+/// `Folder` if the folder can't be synced, or the system can't tell which it is.
 pub fn sync_folder<S: FileSystem>(files: &S, path: &str) -> Result<(), FileFault>
     ensures { SyncsFolder S.FileSystem files.now path.now result }
 {
-    match files.sync(folder_of(path)) {
-        Ok(()) => Ok(()),
-        Err(cause) => Err(FileFault::Folder(cause)),
+    let target = match files.link_target(path) {
+        Ok(target) => target,
+        Err(cause) => return Err(FileFault::Folder(cause)),
+    };
+    match target {
+        Some(target) => sync_at(files, folder_of(target.as_str())),
+        None => sync_at(files, folder_of(path)),
     }
 }
 

@@ -54,10 +54,10 @@ finding_of (fault.Damaged at broken) = Damaged
 finding_of other = Nothing
 
 -- what is answered of bytes that are no sound totals, for this reason
-abbrev pub AnswersBroken : Question → SurveyFault → Finding → List ℕ → Type 0
-AnswersBroken (Check true) why finding text = (finding ≡ finding_of why) × (text ≡ [])
-AnswersBroken (Check false) why finding text = (finding ≡ finding_of why) × (text ≡ broken_text why)
-AnswersBroken other why finding text = ⊥
+abbrev pub AnswersBroken : Question → SurveyFault → List ℕ → Finding → List ℕ → Type 0
+AnswersBroken (Check true) why bytes finding text = (finding ≡ finding_of why) × (text ≡ [])
+AnswersBroken (Check false) why bytes finding text = (finding ≡ finding_of why) × (text ≡ broken_text why bytes)
+AnswersBroken other why bytes finding text = ⊥
 
 -- why a question about such bytes isn't answered
 abbrev pub RefusesBroken : Question → SurveyFault → AnswerFault → Type 0
@@ -75,7 +75,7 @@ pub record IsFound (question : Question) (bytes : List ℕ) (finding : Finding) 
   pub why : SurveyFault
   pub is_rule : why ≢ fault.NoMemory
   pub breaks : Breaks bytes why
-  pub answer : AnswersBroken question why finding text
+  pub answer : AnswersBroken question why bytes finding text
 
 -- what is answered to a question about bytes: what was found, and a text
 abbrev pub Answers : Question → List ℕ → Finding → List ℕ → Type 0

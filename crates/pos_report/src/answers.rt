@@ -104,14 +104,17 @@ fn answer_broken(
     alloc: Global,
     question: Question<'_>,
     fault: SurveyFault,
+    bytes: &[u8],
 ) -> Result<(Finding, Vec<u8>), AnswerFault>
     requires { fault ≢ NoMemory }
-    ensures ok { IfOk result (λ answer. AnswersBroken question.entry fault answer.0 answer.1.items) }
+    ensures ok { IfOk result (λ answer. AnswersBroken question.entry fault bytes.now answer.0 answer.1.items) }
     ensures refused { IfErr result (RefusesBroken question.entry fault) }
 {
     match question {
         Question::Check { quiet: true } => Ok((finding_of(fault), Vec::new(alloc))),
-        Question::Check { quiet: false } => Ok((finding_of(fault), broken_text(alloc, fault)?)),
+        Question::Check { quiet: false } => {
+            Ok((finding_of(fault), broken_text(alloc, fault, bytes)?))
+        }
         _ => Err(AnswerFault::Totals(fault)),
     }
 }
@@ -133,6 +136,6 @@ pub fn answer(
     match Survey::of(alloc, bytes) {
         Ok(survey) => Ok((Finding::Good, answer_sound(alloc, question, &survey)?)),
         Err(SurveyFault::NoMemory) => Err(AnswerFault::Totals(SurveyFault::NoMemory)),
-        Err(fault) => answer_broken(alloc, question, fault),
+        Err(fault) => answer_broken(alloc, question, fault, bytes),
     }
 }

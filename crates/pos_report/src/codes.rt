@@ -136,7 +136,7 @@ pub const CODES: [Code<'static>; 40] = [
         name: "E_EXTENDED",
         kind: RESULT,
         meaning: "the extended code says what is wrong",
-        action: "explain the extended code",
+        action: "what the extended code says",
     },
     Code {
         number: 201,

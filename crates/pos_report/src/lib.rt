@@ -1,7 +1,7 @@
 //! What a tool prints of totals files, and what codes mean. docs/reference/tool.md.
 //!
 //! [`answer`] answers a [`Question`] about the bytes of a totals file: a [`Finding`] and a text. [`explained`] is what
-//! codes mean, of which [`CODES`] are those of the standard.
+//! codes mean, of which [`CODES`] are those of the standard; [`explained_as`] is the same of one kind of code.
 //!
 //! The layer above relies on this: an answer is made of a survey of the bytes, so it says what a recovery would find in
 //! them, or which rule they break. JSON reads back as all that the survey has.
@@ -22,4 +22,4 @@ pub use dump::difference_text;
 pub use load::{LoadFault, load_totals};
 pub use question::{Finding, Question};
 pub use salvage::{Salvaged, salvage_totals};
-pub use texts::explained;
+pub use texts::{are_zero, explained, explained_as};

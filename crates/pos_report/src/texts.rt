@@ -1,7 +1,8 @@
 //! What a check and an explanation print.
 ghost use Rattle.std.specs.Prelude.{◌≡◌, ◌≢◌, ◌++◌, IfOk, OnOk, decimal, flat_map};
 ghost use Rattle.pos_survey.specs.declared.fault.SurveyFault.TheVariants.{NoMemory};
-ghost use Rattle.pos_report.specs.Texts.{broken_text, code_text, damage_text, explained, is_meant, layout_number, sound_text};
+ghost use Rattle.pos_report.specs.Texts.{are_zero, broken_text, code_text, damage_text, explained, explained_as, is_meant};
+ghost use Rattle.pos_report.specs.Texts.{is_meant_as, layout_number, short_text, sound_text, unformatted_text};
 
 use crate::codes::Code;
 use itoa::Buffer;
@@ -75,25 +76,56 @@ fn damage_text(alloc: Global, at: u64, rule: Rule) -> Result<Vec<u8>, AllocError
     Ok(text)
 }
 
+/// Returns whether bytes are all 0. Only a file with such bytes is made into totals in place.
+pub fn are_zero(bytes: &[u8]) -> bool
+    ensures { result ≡ are_zero bytes.now }
+{
+    bytes.iter().all(|byte| *byte == 0)
+}
+
+// What a check prints of fewer bytes than totals have.
+fn short_text(bytes: &[u8]) -> &'static str
+    ensures { result.now ≡ short_text (are_zero bytes.now) }
+{
+    if are_zero(bytes) {
+        return "no totals: shorter than a totals file, which has 327680 bytes\n\
+             to do: is it the right file? Restore a copy if it had totals; `kijolvar create FILE` makes new ones\n";
+    }
+    "no totals: shorter than a totals file, which has 327680 bytes\n\
+     to do: is it the right file? If it was cut off, restore a copy, else `kijolvar salvage` it; \
+     for new totals move it away, then `kijolvar create FILE`\n"
+}
+
+// What a check prints of bytes without totals.
+fn unformatted_text(bytes: &[u8]) -> &'static str
+    ensures { result.now ≡ unformatted_text (are_zero bytes.now) }
+{
+    if are_zero(bytes) {
+        return "no totals: not formatted\n\
+             to do: is it the right file? Restore a copy if it had totals; `kijolvar create FILE` makes new ones\n";
+    }
+    "no totals: not formatted, but its bytes aren't all 0\n\
+     to do: is it the right file? Restore a copy if it had totals; \
+     for new totals move it away, then `kijolvar create FILE`\n"
+}
+
 /// Returns what a check prints of bytes that are no totals, or damaged ones.
 ///
 /// # Errors
 ///
 /// [`AllocError`] if memory ran out.
-pub(crate) fn broken_text(alloc: Global, fault: SurveyFault) -> Result<Vec<u8>, AllocError>
+pub(crate) fn broken_text(
+    alloc: Global,
+    fault: SurveyFault,
+    bytes: &[u8],
+) -> Result<Vec<u8>, AllocError>
     requires { fault ≢ NoMemory }
-    ensures { IfOk result (λ text. text.items ≡ broken_text fault) }
+    ensures { IfOk result (λ text. text.items ≡ broken_text fault bytes.now) }
 {
     let words = match fault {
         SurveyFault::Damaged(at, rule) => return damage_text(alloc, at, rule),
-        SurveyFault::TooSmall => {
-            "no totals: shorter than a totals file, which has 327680 bytes\n\
-             to do: is it the right file? If it was cut off, restore a copy, else `kijolvar salvage`\n"
-        }
-        _ => {
-            "no totals: not formatted\n\
-             to do: is it the right file? Restore a copy if it had totals; `kijolvar create FILE` makes new ones\n"
-        }
+        SurveyFault::TooSmall => short_text(bytes),
+        _ => unformatted_text(bytes),
     };
     Vec::from_slice(alloc, words.as_bytes())
 }
@@ -107,6 +139,16 @@ fn is_meant(code: &Code<'_>, word: &str) -> bool
         return true;
     }
     word == buffer.format(code.number)
+}
+
+// Whether a word is the number or the name of a code of a kind.
+fn is_meant_as(code: &Code<'_>, kind: &str, word: &str) -> bool
+    ensures { result ≡ is_meant_as kind.now word.now code.now }
+{
+    if kind != code.kind {
+        return false;
+    }
+    is_meant(code, word)
 }
 
 // Puts what a code means at the end of a text.
@@ -142,6 +184,28 @@ pub fn explained(alloc: Global, codes: &[Code<'_>], word: &str) -> Result<Vec<u8
     let mut text = Vec::new(alloc);
     for code in codes {
         if is_meant(code, word) {
+            put_code(&mut text, code)?;
+        }
+    }
+    Ok(text)
+}
+
+/// Returns what all codes of a kind mean that have a number or a name.
+///
+/// # Errors
+///
+/// [`AllocError`] if memory ran out.
+pub fn explained_as(
+    alloc: Global,
+    codes: &[Code<'_>],
+    kind: &str,
+    word: &str,
+) -> Result<Vec<u8>, AllocError>
+    ensures { IfOk result (λ text. text.items ≡ flat_map (explained_as kind.now word.now) codes.now) }
+{
+    let mut text = Vec::new(alloc);
+    for code in codes {
+        if is_meant_as(code, kind, word) {
             put_code(&mut text, code)?;
         }
     }

@@ -50,7 +50,7 @@ module _ (app : App) (words : List Text) (same : app ≡ program_line) where
       → Chooses words result
   told error (Ok Help) kinds why = inr (rw why at (among error kinds (λ memory. cc)))
   told error (Ok Version) kinds why = inr (rw why at (among error kinds (λ memory. cc)))
-  told error (Ok (Explain code)) kinds why = absurd why
+  told error (Ok (Explain code extended)) kinds why = absurd why
   told error (Ok (Ask file question)) kinds why = absurd why
   told error (Ok (Create file)) kinds why = absurd why
   told error (Ok (Migrate file)) kinds why = absurd why

@@ -93,7 +93,8 @@ IsPrinting name = (name ≡ codes "version") ⊎ (name ≡ codes "explain") ⊎ 
 abbrev pub PrintsOf : Text → List Row → Task → Type 0
 PrintsOf name rows Help = ¬ (IsPrinting name)
 PrintsOf name rows Version = name ≡ codes "version"
-PrintsOf name rows (Explain code) = (name ≡ codes "explain") × (code.now ≡ word_in (codes "CODE") rows)
+PrintsOf name rows (Explain code extended) = (name ≡ codes "explain") × (code.now ≡ word_in (codes "CODE") rows)
+    × (option_map (λ word. word.now) extended ≡ first_of (codes "EXTENDED") rows)
 PrintsOf name rows (Completions shell) =
     (name ≡ codes "completions") × (shell.now ≡ word_in (codes "SHELL") rows)
 PrintsOf name rows Man = name ≡ codes "man"

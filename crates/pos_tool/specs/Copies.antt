@@ -71,7 +71,7 @@ IsUnread calls after other = ⊥
 -- what reading the bytes of a file that may be written meanwhile comes to
 abbrev pub ReadsSteady : {F : Type 0} → (F → List Call) → F → Result (List ℕ) FileFault → Type 0
 ReadsSteady calls after (Ok bytes) = IsSteady calls after bytes
-ReadsSteady calls after (Err file.InUse) = IsUnsteady calls after
+ReadsSteady calls after (Err file.Unsteady) = IsUnsteady calls after
 ReadsSteady calls after (Err why) = IsUnread calls after why
 
 -- what reading the bytes of an open file comes to, which wasn't asked anything yet, and was closed then

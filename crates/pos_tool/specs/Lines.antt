@@ -9,6 +9,10 @@ use Rattle.clap.specs.declared.builder.ArgAction.TheVariants.{Append, Set, SetTr
 abbrev pub place_rule : Text → Rule
 place_rule name = record (new_rule name) { required = true; action = Some Set }
 
+-- a word that may be there, by its place
+abbrev pub free_rule : Text → Rule
+free_rule name = record (new_rule name) { action = Some Set }
+
 -- an option --NAME
 abbrev pub flag_rule : Text → Rule
 flag_rule name = record (new_rule name) { long = Some name; action = Some SetTrue }
@@ -47,6 +51,10 @@ test_line = with_rule (with_rule (with_rule (with_rule (new_app (codes "test")) 
 abbrev pub place_line : Text → Text → App
 place_line command name = with_rule (new_app command) (place_rule name)
 
+-- explain CODE [EXTENDED]
+abbrev pub explain_line : App
+explain_line = with_rule (place_line (codes "explain") (codes "CODE")) (free_rule (codes "EXTENDED"))
+
 -- COMMAND FILE [--OPTION]
 abbrev pub flagged_line : Text → Text → App
 flagged_line command option = with_rule (place_line command (codes "FILE")) (flag_rule option)
@@ -72,7 +80,7 @@ top_line = with_subcommand (with_subcommand bare_line (new_app (codes "help")).t
 -- with the commands that only read, too
 abbrev pub reading_line : App
 reading_line = with_subcommand (with_subcommand (with_subcommand (with_subcommand (with_subcommand (with_subcommand
-    top_line (place_line (codes "explain") (codes "CODE")).top)
+    top_line explain_line.top)
     (flagged_line (codes "check") (codes "quiet")).top) (flagged_line (codes "files") (codes "json")).top)
     (flagged_two_line (codes "cat") (codes "FILE") (codes "NAME") (codes "hex")).top)
     (place_line (codes "dump") (codes "FILE")).top) (two_line (codes "diff") (codes "FILE") (codes "OTHER")).top

@@ -1,6 +1,5 @@
 -- What making a totals file comes to (docs/reference/tool.md, "create").
-use Rattle.std.specs.Prelude.{◌≡◌, ℕ, List, Bool, true, Result, Ok, Err, nat_eq}
-use Rattle.std.specs.List.{list_all}
+use Rattle.std.specs.Prelude.{◌≡◌, ℕ, List, true, Result, Ok, Err}
 use Rattle.std.specs.Bool.{MatchBool}
 use Rattle.pos_file.specs.declared.block_file.BlockFile.{Ghosts as FileGhosts}
 use Rattle.pos_file.specs.declared.file_disk.FileDisk.{FileDisk}
@@ -11,6 +10,7 @@ use Rattle.pos_program.specs.TotalsDisks.{LocksTotals, MirrorsDisk, MirrorsLong}
 use Rattle.pos_program.specs.declared.file_fault.FileFault.{FileFault}
 use Rattle.pos_program.specs.declared.file_fault.FileFault.TheVariants as file
 use Rattle.pos_program.specs.declared.file_system.FileSystem.{Ghosts as SystemGhosts}
+use Rattle.pos_report.specs.Texts.{are_zero}
 use Rattle.pos_report.specs.declared.question.Finding.{Finding}
 use Rattle.pos_survey.specs.declared.fault.SurveyFault.{SurveyFault}
 use Rattle.pos_survey.specs.declared.fault.SurveyFault.TheVariants as survey
@@ -18,10 +18,6 @@ use Rattle.pos_tool.specs.Copies.{ChecksSound}
 use Rattle.pos_tool.specs.Surveys.{EndsAt, EndsAtFile}
 use Rattle.pos_tool.specs.declared.fault.Fault.{Fault}
 use Rattle.pos_tool.specs.declared.fault.Fault.TheVariants as fault
-
--- whether bytes are all 0
-abbrev pub are_zero : List ℕ → Bool
-are_zero bytes = list_all (λ byte. nat_eq byte 0) bytes
 
 -- the file at a path, which may be made, is locked for this program alone, and then as many bytes of it are read as
 -- totals have, or all of a shorter one

@@ -1,6 +1,7 @@
 -- What the program does for its words, and how it ends (docs/reference/tool.md).
 use Rattle.std.specs.Prelude.{◌≡◌, ◌≢◌, ℕ, List, [], Option, Some, None, Result, Ok, Err, Vec, bytes_eq, codes}
-use Rattle.std.specs.Prelude.{◌&&◌, Bool, flat_map, if◌then◌else◌, map}
+use Rattle.std.specs.Prelude.{◌&&◌, ◌++◌, Bool, flat_map, if◌then◌else◌, map}
+use Rattle.std.specs.Borrow.{Bor}
 use Rattle.pos_disk.specs.Memory.{Memory}
 use Rattle.pos_disk.specs.declared.device.Disk.{Ghosts as DiskGhosts}
 use Rattle.pos_file.specs.declared.block_file.BlockFile.{Ghosts as FileGhosts}
@@ -22,7 +23,7 @@ use Rattle.pos_shell.specs.Outputs.{Output, Streams}
 use Rattle.pos_tool.specs.Scripts.{EndsRun}
 use Rattle.pos_tool.specs.Surveys.{EndsAt, Prints, PrintsFile}
 use Rattle.pos_tool.specs.Trials.{EndsTest}
-use Rattle.pos_report.specs.Texts.{explained}
+use Rattle.pos_report.specs.Texts.{explained, explained_as}
 use Rattle.pos_report.specs.declared.codes.Code.{Code}
 use Rattle.pos_tool.specs.declared.commands.Task.{Task}
 use Rattle.pos_tool.specs.declared.commands.Task.TheVariants.{Help, Version, Explain, Ask, Create, Migrate, Backup}
@@ -43,6 +44,29 @@ Explains known word old new (Err (fault.NoCode code)) =
 Explains known word old new (Err fault.NoMemory) = new ≡ old
 Explains known word old new result =
     (flat_map (explained word) known ≢ []) × Prints (flat_map (explained word) known) old new result
+
+-- what the result codes mean that have a number or a name, and what the extended codes do
+abbrev pub result_text : List Code → List ℕ → List ℕ
+result_text known word = flat_map (explained_as (codes "result code") word) known
+
+abbrev pub extended_text : List Code → List ℕ → List ℕ
+extended_text known word = flat_map (explained_as (codes "extended code") word) known
+
+-- what a result code means is printed, and then the extended code after it; nothing if one of the words is none's
+abbrev pub ExplainsBoth : List Code → List ℕ → List ℕ → Output → Output → Result Finding Fault → Type 0
+ExplainsBoth known word extended old new (Err (fault.NoResultCode code)) =
+    (code.now ≡ word) × (result_text known word ≡ []) × (new ≡ old)
+ExplainsBoth known word extended old new (Err (fault.NoExtendedCode code)) = (code.now ≡ extended)
+    × (result_text known word ≢ []) × (extended_text known extended ≡ []) × (new ≡ old)
+ExplainsBoth known word extended old new (Err fault.NoMemory) = new ≡ old
+ExplainsBoth known word extended old new result = (result_text known word ≢ [])
+    × (extended_text known extended ≢ [])
+    × Prints (result_text known word ++ extended_text known extended) old new result
+
+-- what a code means is printed, alone or with the extended code after it
+abbrev pub ExplainsAsked : List Code → List ℕ → Option (Bor (List ℕ)) → Output → Output → Result Finding Fault → Type 0
+ExplainsAsked known word None old new result = Explains known word old new result
+ExplainsAsked known word (Some extended) old new result = ExplainsBoth known word extended.now old new result
 
 -- it moves the totals in the file at a path to layout 2
 abbrev pub EndsMove : {F B : Type 0} → Ghosts F B → FileGhosts B → F → List ℕ → Result Finding Fault → Type 0
@@ -75,8 +99,8 @@ Does files below mirrors memories them system folder under it pages terminals He
     Prints pages.help.now old new result
 Does files below mirrors memories them system folder under it pages terminals Version old new result =
     Prints pages.version_line.now old new result
-Does files below mirrors memories them system folder under it pages terminals (Explain code) old new result =
-    Explains pages.codes.now code.now old new result
+Does files below mirrors memories them system folder under it pages terminals (Explain code extended) old new
+    result = ExplainsAsked pages.codes.now code.now extended old new result
 Does files below mirrors memories them system folder under it pages terminals (Ask file question) old new result =
     PrintsFile files below them file.now question old new result
 Does files below mirrors memories them system folder under it pages terminals (Create file) old new result =
@@ -106,6 +130,10 @@ Does files below mirrors memories them system folder under it pages terminals Ma
 -- whether input and output are terminals
 abbrev pub are_both : Terminals → Bool
 are_both terminals = terminals.input && terminals.output
+
+-- whether a person who types sees the errors
+abbrev pub is_watched : Terminals → Bool
+is_watched terminals = terminals.input && terminals.errors
 
 -- what it does for any task; but for a run that is typed it reads nothing from its input
 abbrev pub DoesTask : {F B S G : Type 0} → Ghosts F B → FileGhosts B → DiskGhosts (Mirror (FileDisk B))

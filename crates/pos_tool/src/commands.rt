@@ -19,10 +19,12 @@ pub enum Task<'a> {
     Help,
     /// `version`, `--version` or `-V`: to print the version.
     Version,
-    /// `explain CODE`: to print what a code means.
+    /// `explain CODE [EXTENDED]`: to print what a code means, and the extended code after it.
     Explain {
         /// The code's number or name.
         code: &'a str,
+        /// The extended code's number or name, if one is given.
+        extended: Option<&'a str>,
     },
     /// `check FILE`, `files FILE`, `dump FILE` and `cat FILE NAME`: to answer a question about a totals file.
     Ask {
@@ -143,7 +145,7 @@ fn is_given(found: &ArgMatches<'_>, option: &str) -> bool
     word_in(found, option) == "true"
 }
 
-// The word after an option in the matches of a command, if it was given.
+// The word after an option in the matches of a command, or at a place that may be empty, if it was given.
 fn option_in<'a>(found: &ArgMatches<'a>, option: &str) -> Option<&'a str>
     ensures { option_map (λ word. word.now) result ≡ first_of option.now (rows_of (found_of found.now)) }
 {
@@ -266,7 +268,8 @@ fn printing_of<'a>(command: &str, found: &ArgMatches<'a>) -> Task<'a>
     }
     if command == "explain" {
         let code = word_in(found, "CODE");
-        return Task::Explain { code };
+        let extended = option_in(found, "EXTENDED");
+        return Task::Explain { code, extended };
     }
     if command == "completions" {
         let shell = word_in(found, "SHELL");

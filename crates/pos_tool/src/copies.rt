@@ -70,7 +70,7 @@ fn read_steady<F: BlockFile>(alloc: Global, file: &mut F) -> Result<Vec<u8>, Fil
     }
     match same {
         Some(bytes) => Ok(bytes),
-        None => Err(FileFault::InUse),
+        None => Err(FileFault::Unsteady),
     }
 }
 

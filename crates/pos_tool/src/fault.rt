@@ -73,6 +73,16 @@ pub enum Fault<'a> {
         /// The word.
         code: &'a str,
     },
+    /// No result code has this number or name, before an extended code.
+    NoResultCode {
+        /// The word.
+        code: &'a str,
+    },
+    /// No extended code has this number or name.
+    NoExtendedCode {
+        /// The word.
+        code: &'a str,
+    },
     /// No completions are there for a shell.
     NoShell {
         /// The shell.
@@ -225,6 +235,7 @@ impl Fault<'_> {
             Fault::Load { cause, .. } => load_status(cause),
             Fault::Taken { .. } => 4,
             Fault::NoFile { .. } | Fault::NoCode { .. } | Fault::NoShell { .. } => 1,
+            Fault::NoResultCode { .. } | Fault::NoExtendedCode { .. } => 1,
             Fault::NoScripts { .. } => 1,
             Fault::NoColour { .. } => 3,
             Fault::Run(fault) => run_status(fault),
@@ -271,6 +282,8 @@ fn hint_of_words(fault: &WordsFault) -> &'static str {
 fn hint_of_file(cause: &FileFault) -> &'static str {
     match cause {
         FileFault::InUse => "a till that runs locks its totals file: stop it first",
+        FileFault::Unsteady =>
+            "`backup` works beside a till that runs, if it doesn't write all the time",
         FileFault::Open(_) | FileFault::Unreadable(_) | FileFault::Folder(_) => {
             "check the path, and who may read and write it"
         }
@@ -284,7 +297,7 @@ fn hint_of_file(cause: &FileFault) -> &'static str {
         FileFault::Formatted => "`kijolvar check FILE` says if it is sound",
         FileFault::Moved => "nothing is left to do",
         FileFault::NotSynced =>
-            "check the device; if it can't be written, copy the file from it first",
+            "if the device is read-only, copy FILE to another one and take the copy; else check the device",
         FileFault::NotRead => {
             "copy it by dd if=FILE of=COPY bs=512 conv=noerror,sync, and salvage COPY, or restore an older copy"
         }
@@ -367,6 +380,9 @@ impl Fault<'_> {
             Fault::Load { .. } => "`kijolvar dump FILE` prints such a text",
             Fault::NoFile { .. } => "`kijolvar files FILE` lists the files in it",
             Fault::NoCode { .. } => "give a number as 106, or a name as E_ILLEGAL",
+            Fault::NoResultCode { .. } | Fault::NoExtendedCode { .. } => {
+                "give a result code and its extended code, as 114 203; an extended code of 0 says nothing"
+            }
             Fault::NoShell { .. } => "there are some for bash, zsh and fish",
             Fault::NoColour { .. } => "there are auto, always and never",
             Fault::Run(fault) => hint_of_run(fault),
@@ -451,6 +467,8 @@ impl Fault<'_> {
             Fault::Load { path, cause } => write!(line, "{path}: {cause}"),
             Fault::NoFile { path, name } => write!(line, "{path}: no file has the name {name}"),
             Fault::NoCode { code } => write!(line, "no code is {code}"),
+            Fault::NoResultCode { code } => write!(line, "no result code is {code}"),
+            Fault::NoExtendedCode { code } => write!(line, "no extended code is {code}"),
             Fault::NoShell { shell } => write!(line, "no completions for {shell}"),
             Fault::NoColour { word } => write!(line, "no choice of colour is {word}"),
             Fault::Run(fault) => tell_run(fault, line),

@@ -50,7 +50,7 @@ usage: kijolvar COMMAND ..
   test PATH .. [--profile P] [--junit FILE] [--color auto|always|never]
                            run each script, and each that is in a folder, and print how its answers
                            differ from SCRIPT.stdout; --junit makes a report, too
-  explain CODE             what a code means, and what to do: 106, E_ILLEGAL
+  explain CODE [EXTENDED]  what a code means, and what to do: 106, E_ILLEGAL, 114 203
   completions SHELL        print what completes the words of bash, zsh or fish
   man                      print the man page
   version                  print the version

@@ -1,9 +1,9 @@
 //! The program's command line, as `clap` takes it.
 ghost use Rattle.std.specs.Prelude.{◌≡◌};
 ghost use Rattle.pos_program.specs.CommandLines.{IsLine, IsWord};
-ghost use Rattle.pos_tool.specs.Lines.{flag_rule, flagged_line, flagged_two_line, making_line, place_line, place_rule};
-ghost use Rattle.pos_tool.specs.Lines.{places_rule, program_line, reading_line, run_line, some_places_rule, test_line};
-ghost use Rattle.pos_tool.specs.Lines.{top_line, two_line, valued_rule};
+ghost use Rattle.pos_tool.specs.Lines.{explain_line, flag_rule, flagged_line, flagged_two_line, free_rule, making_line};
+ghost use Rattle.pos_tool.specs.Lines.{place_line, place_rule, places_rule, program_line, reading_line, run_line};
+ghost use Rattle.pos_tool.specs.Lines.{some_places_rule, test_line, top_line, two_line, valued_rule};
 
 use clap::{Arg, ArgAction, Command};
 use pos_program::{CommandLine, begin_line, with_command, with_word};
@@ -14,6 +14,13 @@ fn place<'a>(alloc: Global, name: &'a str) -> Arg<'a>
     ensures { IsWord result (place_rule name.entry.now) }
 {
     Arg::new(alloc, name).required(true).action(ArgAction::Set)
+}
+
+// A word that may be there, by its place.
+fn free_place<'a>(alloc: Global, name: &'a str) -> Arg<'a>
+    ensures { IsWord result (free_rule name.entry.now) }
+{
+    Arg::new(alloc, name).action(ArgAction::Set)
 }
 
 // An option `--NAME`.
@@ -73,6 +80,16 @@ fn place_line<'a>(alloc: Global, name: &'a str, word: &'a str) -> CommandLine<'a
     with_word(begin_line(alloc, name), place(alloc, word))
 }
 
+// The command line of `explain`.
+fn explain_line<'a>(alloc: Global) -> CommandLine<'a>
+    ensures { IsLine result explain_line }
+{
+    with_word(
+        place_line(alloc, "explain", "CODE"),
+        free_place(alloc, "EXTENDED"),
+    )
+}
+
 // The command line of a command with a file after it, and an option.
 fn flagged_line<'a>(alloc: Global, name: &'a str, option: &'a str) -> CommandLine<'a>
     ensures { IsLine result (flagged_line name.entry.now option.entry.now) }
@@ -115,10 +132,7 @@ fn top_line<'a>(alloc: Global, version: &'a str) -> CommandLine<'a>
 fn reading_line<'a>(alloc: Global, version: &'a str) -> CommandLine<'a>
     ensures { IsLine result reading_line }
 {
-    let explains = with_command(
-        top_line(alloc, version),
-        place_line(alloc, "explain", "CODE"),
-    );
+    let explains = with_command(top_line(alloc, version), explain_line(alloc));
     let checks = with_command(explains, flagged_line(alloc, "check", "quiet"));
     let lists = with_command(checks, flagged_line(alloc, "files", "json"));
     let prints = with_command(lists, flagged_two_line(alloc, "cat", "FILE", "NAME", "hex"));

@@ -35,6 +35,7 @@ fn main(rt: HostRuntime) -> ExitCode {
     let terminals = Terminals {
         input: rt.stdin().is_terminal(),
         output: rt.stdout().is_terminal(),
+        errors: rt.stderr().is_terminal(),
     };
     let mut reader = ReaderSource::new(rt.stdin());
     let mut writer = WriterSink::new(rt.stdout());
@@ -45,7 +46,7 @@ fn main(rt: HostRuntime) -> ExitCode {
         &mut reader,
         terminals,
         &mut writer,
-        &mut Meter::new(&rt, rt.stderr().is_terminal()),
+        &mut Meter::new(&rt, terminals.errors),
         &Pages {
             help: HELP,
             version: VERSION,

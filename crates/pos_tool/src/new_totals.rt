@@ -1,6 +1,6 @@
 //! Making totals files.
 ghost use Rattle.std.specs.Prelude.{◌≡◌, IfOk, false};
-ghost use Rattle.pos_tool.specs.NewTotals.{Creates, CreatesOver, FormatsLong, LocksFile, RefusesBytes, are_zero};
+ghost use Rattle.pos_tool.specs.NewTotals.{Creates, CreatesOver, FormatsLong, LocksFile, RefusesBytes};
 
 use crate::copies::check_sound;
 use crate::fault::{Fault, at_file};
@@ -9,16 +9,9 @@ use pos_program::{
     FileFault, FileSystem, TotalsDisk, close_totals, format_totals, lock_totals, mirrored,
     mirrored_long,
 };
-use pos_report::Finding;
+use pos_report::{Finding, are_zero};
 use pos_survey::SurveyFault;
 use std::alloc::Global;
-
-// Whether bytes are all 0.
-fn are_zero(bytes: &[u8]) -> bool
-    ensures { result ≡ are_zero bytes.now }
-{
-    bytes.iter().all(|byte| *byte == 0)
-}
 
 // Locks the file at a path, which is made if it isn't there, and reads what is in it.
 fn lock_file<S: FileSystem + AllocGlobal>(

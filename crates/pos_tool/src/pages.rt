@@ -155,8 +155,8 @@ it then replaces FILE by a report in JUnit's XML. With
 what it prints has colours always, never, or, by auto, at a terminal.
 .SH OTHERS
 .TP
-.BI explain " CODE"
-Prints what a code means, by its number or name, and what to do.
+.BI explain " CODE " [EXTENDED]
+Prints what a code means, by its number or name, and what to do. After a result code its extended code may be given.
 .TP
 .BI completions " SHELL"
 Prints what completes the words of bash, zsh or fish.

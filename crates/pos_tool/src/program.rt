@@ -3,8 +3,8 @@ ghost use Rattle.std.specs.Prelude.{◌≡◌, map};
 ghost use Rattle.std.specs.Process.{exit_status};
 ghost use Rattle.pos_tool.specs.Faults.{status_of};
 ghost use Rattle.pos_shell.specs.Outputs.{output_of, streams_of};
-ghost use Rattle.pos_tool.specs.Program.{Completes, DoesAsAsked, DoesTask, Explains, Performs};
-ghost use Rattle.pos_tool.specs.Program.{are_both, fault_of_unread};
+ghost use Rattle.pos_tool.specs.Program.{Completes, DoesAsAsked, DoesTask, Explains, ExplainsAsked, ExplainsBoth};
+ghost use Rattle.pos_tool.specs.Program.{Performs, are_both, fault_of_unread, is_watched};
 
 use crate::answers::{print, print_file, write_difference};
 use crate::commands::{Task, choice};
@@ -16,7 +16,7 @@ use crate::scripts::{run_paths, try_paths};
 use pos_disk::{Disk, MemDisk};
 use pos_file::BlockFile;
 use pos_program::{ChoiceFault, FileSystem, NamedFiles, TotalsDisk, migrate_file};
-use pos_report::{Code, Finding, explained};
+use pos_report::{Code, Finding, explained, explained_as};
 use pos_shell::ProgressReport;
 use pos_streams::{Sink, Source};
 use std::alloc::Global;
@@ -54,6 +54,8 @@ pub struct Terminals {
     pub input: bool,
     /// Its output is one.
     pub output: bool,
+    /// Its errors are one.
+    pub errors: bool,
 }
 
 impl Terminals {
@@ -63,10 +65,17 @@ impl Terminals {
     {
         self.input && self.output
     }
+
+    // Whether a person who types sees the errors.
+    fn is_watched(self) -> bool
+        ensures { result ≡ is_watched self }
+    {
+        self.input && self.errors
+    }
 }
 
 // Prints what a code means.
-fn explain<'a, W: Sink>(
+fn explain_one<'a, W: Sink>(
     alloc: Global,
     writer: &mut W,
     codes: &[Code<'_>],
@@ -81,6 +90,52 @@ fn explain<'a, W: Sink>(
         return Err(Fault::NoCode { code });
     }
     print(writer, &text)
+}
+
+// Prints what a result code means, and the extended code after it.
+fn explain_both<'a, W: Sink>(
+    alloc: Global,
+    writer: &mut W,
+    codes: &[Code<'_>],
+    code: &'a str,
+    extended: &'a str,
+) -> Result<Finding, Fault<'a>>
+    ensures { ExplainsBoth codes.now code.entry.now extended.entry.now (output_of W.Sink writer.old)
+        (output_of W.Sink writer.new) result }
+{
+    let Ok(mut text) = explained_as(alloc, codes, "result code", code) else {
+        return Err(Fault::NoMemory);
+    };
+    if text.is_empty() {
+        return Err(Fault::NoResultCode { code });
+    }
+    let Ok(more) = explained_as(alloc, codes, "extended code", extended) else {
+        return Err(Fault::NoMemory);
+    };
+    if more.is_empty() {
+        return Err(Fault::NoExtendedCode { code: extended });
+    }
+    let Ok(()) = text.extend_from_slice(&more) else {
+        return Err(Fault::NoMemory);
+    };
+    print(writer, &text)
+}
+
+// Prints what a code means, alone or with the extended code after it.
+fn explain<'a, W: Sink>(
+    alloc: Global,
+    writer: &mut W,
+    codes: &[Code<'_>],
+    code: &'a str,
+    extended: Option<&'a str>,
+) -> Result<Finding, Fault<'a>>
+    ensures { ExplainsAsked codes.now code.entry.now extended.entry (output_of W.Sink writer.old)
+        (output_of W.Sink writer.new) result }
+{
+    match extended {
+        Some(extended) => explain_both(alloc, writer, codes, code, extended),
+        None => explain_one(alloc, writer, codes, code),
+    }
 }
 
 // Prints what completes the words of a shell.
@@ -107,7 +162,7 @@ fn complete<'a, W: Sink>(
 fn perform_task<
     'a,
     F: NamedFiles,
-    S: FileSystem + Folder + AllocGlobal,
+    S: FileSystem + Folder + Eprint + AllocGlobal,
     R: Source,
     W: Sink,
     P: ProgressReport,
@@ -129,7 +184,7 @@ fn perform_task<
     match task {
         Task::Help => print(writer, pages.help.as_bytes()),
         Task::Version => print(writer, pages.version_line.as_bytes()),
-        Task::Explain { code } => explain(alloc, writer, pages.codes, code),
+        Task::Explain { code, extended } => explain(alloc, writer, pages.codes, code, extended),
         Task::Ask { file, question } => print_file(alloc, files, writer, file, question),
         Task::Create { file } => create(system, file),
         Task::Migrate { file } => at_file(file, migrate_file(alloc, files, file)),
@@ -152,6 +207,7 @@ fn perform_task<
             system,
             reader,
             terminals.are_both(),
+            terminals.is_watched(),
             writer,
             pages.codes,
             pages.lines_help,
@@ -185,7 +241,7 @@ fn perform_task<
 fn perform_words<
     'a,
     F: NamedFiles,
-    S: FileSystem + Folder + AllocGlobal,
+    S: FileSystem + Folder + Eprint + AllocGlobal,
     T: AsStr,
     R: Source,
     W: Sink,

@@ -2,7 +2,7 @@
 ghost use Rattle.std.specs.Prelude.{◌≡◌, IfOk};
 ghost use Rattle.pos_shell.specs.Outputs.{output_of, streams_of};
 ghost use Rattle.pos_tool.specs.Texts.{texts};
-ghost use Rattle.pos_tool.specs.Scripts.{EndsRun, RunsAsked, form_of, is_typed, run_finding};
+ghost use Rattle.pos_tool.specs.Scripts.{EndsRun, RunsAsked, form_of, is_awaited, is_typed, run_finding};
 ghost use Rattle.pos_tool.specs.Trials.{Chooses, EndsReport, EndsTest, MakesReport, PrintsTrials, WritesTrials};
 ghost use Rattle.pos_tool.specs.Trials.{TestsOver, TestsPainted, TestsProfiled, tally_text, trial_finding};
 
@@ -21,6 +21,7 @@ use pos_shell::{
 };
 use pos_streams::{Sink, Source};
 use std::alloc::{AllocError, Global};
+use std::io::Eprint;
 
 // What is answered of a run, to the program.
 fn at_run<'a>(answer: Result<(), RunFault<'a>>) -> Result<Finding, Fault<'a>>
@@ -48,6 +49,23 @@ fn is_typed(scripts: &[&str], json: bool, is_terminal: bool) -> bool
     ensures { result ≡ is_typed scripts.now json is_terminal }
 {
     is_terminal && !json && scripts.len() == 1 && scripts[0] == "-"
+}
+
+// Whether a person who types lines waits for them to be run: a terminal is read to its end as a script, and the person
+// sees the errors.
+fn is_awaited(scripts: &[&str], typed: bool, is_watched: bool) -> bool
+    ensures { result ≡ is_awaited scripts.now typed is_watched }
+{
+    is_watched && !typed && scripts.iter().any(|path| *path == "-")
+}
+
+// Tells a person who types lines when they are run, among the errors: no prompt asks for them.
+fn tell_waiting<E: Eprint>(errors: &E, awaited: bool) {
+    if awaited {
+        let _ = errors.eprintln(format_args!(
+            "kijolvar: reads lines up to Ctrl-D, and then runs them"
+        ));
+    }
 }
 
 // Runs what is typed, or the scripts at paths, and tells what each line is answered.
@@ -82,16 +100,24 @@ fn run_lines<'a, F: NamedFiles, S: FileSystem + AllocGlobal, R: Source, W: Sink>
 }
 
 /// Runs the scripts at paths, and prints what each line is answered. Where input and output are terminals it runs what
-/// is typed, if no script is named. docs/reference/tool.md, "run".
+/// is typed, if no script is named. If a person types a script that is read to its end, it notes so among the errors.
+/// docs/reference/tool.md, "run".
 ///
 /// # Errors
 ///
 /// `Run`, with the first file that can't serve or why the run stopped.
-pub(crate) fn run_paths<'a, F: NamedFiles, S: FileSystem + AllocGlobal, R: Source, W: Sink>(
+pub(crate) fn run_paths<
+    'a,
+    F: NamedFiles,
+    S: FileSystem + Eprint + AllocGlobal,
+    R: Source,
+    W: Sink,
+>(
     files: &F,
     system: &S,
     reader: &mut R,
     is_terminal: bool,
+    is_watched: bool,
     writer: &mut W,
     codes: &[Code<'_>],
     help: &str,
@@ -106,6 +132,7 @@ pub(crate) fn run_paths<'a, F: NamedFiles, S: FileSystem + AllocGlobal, R: Sourc
         (streams_of R.Source reader.new W.Sink writer.new) result }
 {
     let typed = is_typed(scripts, json, is_terminal);
+    tell_waiting(system, is_awaited(scripts, typed, is_watched));
     let answer = run_lines(
         files, system, reader, writer, codes, help, scripts, profile, totals, json, typed,
     );
