@@ -28,6 +28,9 @@ pub trait FileSystem {
     /// What asking whether the file at a path is this open one may answer.
     ghost names: { Self → Self.File → List ℕ → Result Bool Error → Type 0 } = { λ _ _ _ _. ⊤ };
 
+    /// What putting a file in the place of this open one may answer, by the paths of the two.
+    ghost renames_over: { Self → Self.File → List ℕ → List ℕ → Result (Unit {0}) Error → Type 0 } = { λ _ _ _ _ _. ⊤ };
+
     /// What asking where a link at a path leads may answer: the path of its file, or none if the path is no link's.
     ghost leads: { Self → List ℕ → Result (Option (List ℕ)) Error → Type 0 } = { λ _ _ _. ⊤ };
 
@@ -59,6 +62,15 @@ pub trait FileSystem {
     /// The system's error, which says why it can't tell.
     fn is_at(&self, file: &Self::File, path: &str) -> io::Result<bool>
         ensures { names self.now file.now path.now result };
+
+    /// Gives the file at a path the name of an open one, which loses that name. The open one's lock, if it has one, lasts
+    /// until it is closed, so that no other program that locks the name before it uses it comes between.
+    ///
+    /// # Errors
+    ///
+    /// The system's error, which says why the file can't get that name.
+    fn rename_over(&self, held: &Self::File, from: &str, to: &str) -> io::Result<()>
+        ensures { renames_over self.now held.now from.now to.now result };
 
     /// Returns the path of the file that the link at a path leads to. The folder in it is the one that the file is in.
     /// Returns `None` if the path is no link's.
@@ -113,6 +125,10 @@ impl<R: Files<File = File> + AllocGlobal> FileSystem for R {
             Err(cause) if cause.kind() == io::ErrorKind::NotFound => Ok(false),
             Err(cause) => Err(cause),
         }
+    }
+
+    fn rename_over(&self, _held: &SystemFile, from: &str, to: &str) -> io::Result<()> {
+        fs::rename(self, from, to)
     }
 
     fn link_target(&self, path: &str) -> io::Result<Option<String>> {

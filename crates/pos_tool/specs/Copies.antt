@@ -34,50 +34,55 @@ front_read bytes = read_call 0 bytes (Some disk_size)
 abbrev pub ReadsFront : {F : Type 0} → (F → List Call) → F → F → List ℕ → Type 0
 ReadsFront calls old new bytes = Asks calls old new (front_read bytes ∷ []) × (length bytes ≡ disk_size)
 
--- the last two calls of a file are readings of its first bytes, and gave these
-abbrev pub LastGave : {F : Type 0} → (F → List Call) → F → List ℕ → List ℕ → Type 0
-LastGave calls file one other = (before : List Call) × (calls file ≡ before ++ front_read one ∷ front_read other ∷ [])
+-- two readings of the first bytes of a file, one right after the other, which gave these
+abbrev pub turn_of : List ℕ × List ℕ → List Call
+turn_of gave = front_read gave.0 ∷ front_read gave.1 ∷ []
 
--- the last two readings of a file gave the same bytes, as many as totals have
-abbrev pub IsSteady : {F : Type 0} → (F → List Call) → F → List ℕ → Type 0
-IsSteady calls file bytes = LastGave calls file bytes bytes × (length bytes ≡ disk_size)
-
--- the last two readings of a file gave different bytes
-abbrev pub IsUnsteady : {F : Type 0} → (F → List Call) → F → Type 0
-IsUnsteady calls file = (one : List ℕ) × (other : List ℕ) × LastGave calls file one other × (one ≢ other)
+-- so many times two readings of the first bytes of a file, which never gave the same
+pub record AreTurns (asked : List Call) (count : ℕ) : Type 0 where
+  pub gave : List (List ℕ × List ℕ)
+  pub asked : asked ≡ flat_map turn_of gave
+  pub differ : All (λ turn. turn.0 ≢ turn.1) gave
+  pub count : length gave ≡ count
 
 -- bytes that were given, or not, as a list
 abbrev pub lent : {A : Type 0} → Option (Vec ℕ A) → Option (List ℕ)
 lent None = None
 lent (Some bytes) = Some bytes.items
 
--- a file was read twice: these are the bytes if both readings gave the same
-abbrev pub ReadsTwice : {F : Type 0} → (F → List Call) → F → Option (List ℕ) → Type 0
-ReadsTwice calls file (Some bytes) = IsSteady calls file bytes
-ReadsTwice calls file None = IsUnsteady calls file
+-- a file was read twice: these are the bytes if both readings gave the same, as many as totals have
+abbrev pub ReadsTwice : {F : Type 0} → (F → List Call) → F → F → Option (List ℕ) → Type 0
+ReadsTwice calls old new (Some bytes) = Asks calls old new (turn_of (bytes, bytes)) × (length bytes ≡ disk_size)
+ReadsTwice calls old new None =
+    (one : List ℕ) × (other : List ℕ) × (one ≢ other) × Asks calls old new (turn_of (one, other))
 
--- the last call of a file was a reading of its first bytes, with this answer
-abbrev pub LastRead : {F : Type 0} → (F → List Call) → F → Option ℕ → Type 0
-LastRead calls after answer =
-    (before : List Call) × (bytes : List ℕ) × (calls after ≡ before ++ read_call 0 bytes answer ∷ [])
+-- why the bytes of a file aren't read, by its calls before and after: want of memory, or its last call
+abbrev pub IsUnread : List Call → List Call → FileFault → Type 0
+IsUnread old new file.NoMemory = new ≡ old
+IsUnread old new file.Short = (bytes : List ℕ) × (count : ℕ) × (count ≢ disk_size)
+    × (new ≡ old ++ read_call 0 bytes (Some count) ∷ [])
+IsUnread old new file.NotRead = (bytes : List ℕ) × (new ≡ old ++ read_call 0 bytes None ∷ [])
+IsUnread old new other = ⊥
 
--- why the bytes of a file aren't read: want of memory, or its last call
-abbrev pub IsUnread : {F : Type 0} → (F → List Call) → F → FileFault → Type 0
-IsUnread calls after file.NoMemory = ⊤
-IsUnread calls after file.Short = (count : ℕ) × (count ≢ disk_size) × LastRead calls after (Some count)
-IsUnread calls after file.NotRead = LastRead calls after None
-IsUnread calls after other = ⊥
+-- why they aren't read twice: neither time, or not once more
+abbrev pub IsUnreadTwice : List Call → List Call → FileFault → Type 0
+IsUnreadTwice old new why =
+    IsUnread old new why ⊎ ((bytes : List ℕ) × IsUnread (old ++ front_read bytes ∷ []) new why)
 
--- what reading the bytes of a file that may be written meanwhile comes to
-abbrev pub ReadsSteady : {F : Type 0} → (F → List Call) → F → Result (List ℕ) FileFault → Type 0
-ReadsSteady calls after (Ok bytes) = IsSteady calls after bytes
-ReadsSteady calls after (Err file.Unsteady) = IsUnsteady calls after
-ReadsSteady calls after (Err why) = IsUnread calls after why
+-- What reading the bytes of a file that may be written meanwhile comes to: it is read twice until both readings give the
+-- same, at most 1,000 times.
+abbrev pub ReadsSteady : {F : Type 0} → (F → List Call) → F → F → Result (List ℕ) FileFault → Type 0
+ReadsSteady calls old new (Ok bytes) = (before : List Call) × (count : ℕ) × AreTurns before count × (count < 1_000)
+    × Asks calls old new (before ++ turn_of (bytes, bytes)) × (length bytes ≡ disk_size)
+ReadsSteady calls old new (Err why) =
+    ((why ≡ file.Unsteady) × ((asked : List Call) × AreTurns asked 1_000 × Asks calls old new asked))
+    ⊎ ((before : List Call) × (count : ℕ) × AreTurns before count × (count < 1_000)
+    × IsUnreadTwice (calls old ++ before) (calls new) why)
 
 -- what reading the bytes of an open file comes to, which wasn't asked anything yet, and was closed then
 abbrev pub ReadsOpened : {F : Type 0} → FileGhosts F → F → Result (List ℕ) FileFault → Type 0
 ReadsOpened {F} below opened result =
-    (below.calls opened ≡ []) × ((after : F) × ReadsSteady below.calls after result × below.closed after)
+    (below.calls opened ≡ []) × ((after : F) × ReadsSteady below.calls opened after result × below.closed after)
 
 -- what reading the totals file at a path comes to, which a till may be writing: it is opened to be read alone
 abbrev pub TakesSnapshot : {S F : Type 0} → SystemGhosts S F → FileGhosts F → S → List ℕ
@@ -120,12 +125,12 @@ abbrev pub CopiesBytes : List ℕ → (List ℕ → Result Finding Fault → Typ
 CopiesBytes from Copies bytes result =
     (sound : Result (Unit {0}) SurveyFault) × ChecksSound bytes sound × CopiesSound from (Copies bytes) sound result
 
--- a file with these bytes takes the place of the one at a path, which was opened and locked for this program alone, and
--- was closed without a further call
+-- a file with these bytes takes the place of the one at a path, which was opened and locked for this program alone, was
+-- open when it lost its name, and was closed without a further call
 abbrev pub PutsOver : {S F : Type 0} → SystemGhosts S F → FolderGhosts S → FileGhosts F → S → List ℕ → List ℕ
     → Result (FileDisk F) FileFault → Result Finding Fault → Type 0
 PutsOver system folder below them path bytes (Ok held) result =
-    (answer : Result (Unit {0}) WholeFault) × Replaces system folder below them path bytes answer
+    (answer : Result (Unit {0}) WholeFault) × Replaces system folder below them held.file path bytes answer
     × EndsCopy path answer result × below.closed held.file
 PutsOver system folder below them path bytes (Err cause) result = EndsAtFile path cause result
 

@@ -91,6 +91,13 @@ RenamesPart system folder them part path result =
     (renamed : Result (Unit {0}) Error) × folder.renames them part path renamed
     × Follows fault.Link (Settles system them path result) renamed result
 
+-- what putting a whole file in the place of an open one comes to
+abbrev pub RenamesOver : {S F : Type 0} → SystemGhosts S F → S → F → List ℕ → List ℕ → Result (Unit {0}) WholeFault
+    → Type 0
+RenamesOver system them held part path result =
+    (renamed : Result (Unit {0}) Error) × system.renames_over them held part path renamed
+    × Follows fault.Link (Settles system them path result) renamed result
+
 -- what checking comes to that a name is free or a file's
 abbrev pub ChecksFile : {S : Type 0} → FolderGhosts S → S → List ℕ → Result (Unit {0}) WholeFault → Type 0
 ChecksFile folder them path result =
@@ -121,26 +128,26 @@ PutsReport system folder below them path bytes result = (result ≡ Err fault.No
     (Continues (WritesPart system below them (path ++ codes ".part") false bytes)
     (RenamesPart system folder them (path ++ codes ".part") path result) result) result) result
 
--- what keeping a file under a second name, and putting another one in its place, with its owner and mode, comes to
-abbrev pub SetsAside : {S F : Type 0} → SystemGhosts S F → FolderGhosts S → S → List ℕ → List ℕ → List ℕ
+-- what keeping an open file under a second name, and putting another one in its place, with its owner and mode, comes to
+abbrev pub SetsAside : {S F : Type 0} → SystemGhosts S F → FolderGhosts S → S → F → List ℕ → List ℕ → List ℕ
     → Result (Unit {0}) WholeFault → Type 0
-SetsAside system folder them part path old result =
+SetsAside system folder them held part path old result =
     (linked : Result (Unit {0}) Error) × folder.links them path old linked
     × Follows fault.Aside ((copied : Result (Unit {0}) Error) × folder.copies_rights them old part copied
-    × Follows fault.Rights (RenamesPart system folder them part path result) copied result) linked result
+    × Follows fault.Rights (RenamesOver system them held part path result) copied result) linked result
 
--- What putting a file with these bytes in place of the one at a path comes to: its name may be taken, they are written
--- to a private file beside it, the old file gets a second name and the new one its owner and mode, and the new one
--- takes its place.
-abbrev pub PutsInstead : {S F : Type 0} → SystemGhosts S F → FolderGhosts S → FileGhosts F → S → List ℕ → List ℕ
+-- What putting a file with these bytes in place of the open one at a path comes to: its name may be taken, they are
+-- written to a private file beside it, the old file gets a second name and the new one its owner and mode, and the new
+-- one takes its place.
+abbrev pub PutsInstead : {S F : Type 0} → SystemGhosts S F → FolderGhosts S → FileGhosts F → S → F → List ℕ → List ℕ
     → List ℕ → List ℕ → Result (Unit {0}) WholeFault → Type 0
-PutsInstead system folder below them part path old bytes result = Continues (ChecksFile folder them path)
-    (Continues (WritesPart system below them part true bytes) (SetsAside system folder them part path old result)
-    result) result
+PutsInstead system folder below them held part path old bytes result = Continues (ChecksFile folder them path)
+    (Continues (WritesPart system below them part true bytes)
+    (SetsAside system folder them held part path old result) result) result
 
 -- likewise, with the names that the files beside it get; or there is no memory for them
-abbrev pub Replaces : {S F : Type 0} → SystemGhosts S F → FolderGhosts S → FileGhosts F → S → List ℕ → List ℕ
+abbrev pub Replaces : {S F : Type 0} → SystemGhosts S F → FolderGhosts S → FileGhosts F → S → F → List ℕ → List ℕ
     → Result (Unit {0}) WholeFault → Type 0
-Replaces system folder below them path bytes result =
+Replaces system folder below them held path bytes result =
     (result ≡ Err fault.NoMemory)
-    ⊎ PutsInstead system folder below them (path ++ codes ".part") path (path ++ codes ".old") bytes result
+    ⊎ PutsInstead system folder below them held (path ++ codes ".part") path (path ++ codes ".old") bytes result

@@ -1,8 +1,8 @@
 //! Copies of totals files.
 ghost use Rattle.std.specs.Prelude.{IfErr, IfOk};
 ghost use Rattle.pos_program.specs.Answers.{bytes_of};
-ghost use Rattle.pos_tool.specs.Copies.{BacksUp, ChecksSound, EndsCopy, IsUnread, PutsBack, ReadsFront, ReadsSteady};
-ghost use Rattle.pos_tool.specs.Copies.{ReadsTwice, Restores, CopiesTo, TakesSnapshot, lent};
+ghost use Rattle.pos_tool.specs.Copies.{BacksUp, ChecksSound, CopiesTo, EndsCopy, IsUnread, IsUnreadTwice, PutsBack};
+ghost use Rattle.pos_tool.specs.Copies.{ReadsFront, ReadsSteady, ReadsTwice, Restores, TakesSnapshot, lent};
 ghost use Rattle.pos_tool.specs.NewFiles.{Loads, LoadsText, MakesLoad, MakesSalvage, PutsSalvaged, Salvages};
 ghost use Rattle.pos_tool.specs.NewFiles.{SalvagesBytes};
 ghost use Rattle.pos_tool.specs.Surveys.{EndsAtFile};
@@ -24,13 +24,13 @@ use std::io;
 // How many bytes a totals file has that are looked at.
 const LENGTH: usize = 327_680;
 
-// How often a file is read again that changes from one reading to the next.
-const READINGS: u32 = 1_000;
+// How often a file is read twice that changes from one reading to the next.
+const TURNS: usize = 1_000;
 
 // Reads the bytes of a totals file, by one read.
 fn read_front<F: BlockFile>(alloc: Global, file: &mut F) -> Result<Vec<u8>, FileFault>
     ensures ok { IfOk result (λ bytes. ReadsFront F.calls file.old file.new bytes.items) }
-    ensures err { IfErr result (IsUnread F.calls file.new) }
+    ensures err { IfErr result (IsUnread (F.calls file.old) (F.calls file.new)) }
 {
     let Ok(mut bytes) = vec![in alloc; 0; LENGTH] else {
         return Err(FileFault::NoMemory);
@@ -46,8 +46,8 @@ fn read_front<F: BlockFile>(alloc: Global, file: &mut F) -> Result<Vec<u8>, File
 
 // Reads the bytes of a totals file twice, and gives them if both readings gave the same.
 fn read_twice<F: BlockFile>(alloc: Global, file: &mut F) -> Result<Option<Vec<u8>>, FileFault>
-    ensures ok { IfOk result (λ same. ReadsTwice F.calls file.new (lent same)) }
-    ensures err { IfErr result (IsUnread F.calls file.new) }
+    ensures ok { IfOk result (λ same. ReadsTwice F.calls file.old file.new (lent same)) }
+    ensures err { IfErr result (IsUnreadTwice (F.calls file.old) (F.calls file.new)) }
 {
     let first = read_front(alloc, file)?;
     let second = read_front(alloc, file)?;
@@ -59,19 +59,14 @@ fn read_twice<F: BlockFile>(alloc: Global, file: &mut F) -> Result<Option<Vec<u8
 
 // Reads the bytes of a totals file until two readings, one right after the other, give the same.
 fn read_steady<F: BlockFile>(alloc: Global, file: &mut F) -> Result<Vec<u8>, FileFault>
-    ensures { ReadsSteady F.calls file.new (bytes_of result) }
+    ensures { ReadsSteady F.calls file.old file.new (bytes_of result) }
 {
-    let mut same = read_twice(alloc, file)?;
-    for _turn in 1..READINGS {
-        if same.is_some() {
-            break;
+    for _ in 0..TURNS {
+        if let Some(bytes) = read_twice(alloc, file)? {
+            return Ok(bytes);
         }
-        same = read_twice(alloc, file)?;
     }
-    match same {
-        Some(bytes) => Ok(bytes),
-        None => Err(FileFault::Unsteady),
-    }
+    Err(FileFault::Unsteady)
 }
 
 // The bytes of the totals file at a path, which a till may be writing.
@@ -124,7 +119,7 @@ fn put<'a, S: FileSystem + Folder + AllocGlobal>(
     }
     match lock_totals(system, path, false) {
         Ok(held) => {
-            let answer = replace(system.alloc(), system, path, bytes);
+            let answer = replace(system.alloc(), system, held.file(), path, bytes);
             held.close();
             at_copy(path, answer)
         }

@@ -1,7 +1,8 @@
 //! Files that appear whole or not at all.
 ghost use Rattle.std.specs.Prelude.{◌≡◌, ◌++◌, IfOk, string_bytes};
-ghost use Rattle.pos_tool.specs.Whole.{ChecksFile, ChecksReport, LinksPart, Puts, PutsInstead, PutsReport, RenamesPart};
-ghost use Rattle.pos_tool.specs.Whole.{Replaces, SetsAside, Settles, WritesPart, WritesWhole, is_report, to_make};
+ghost use Rattle.pos_tool.specs.Whole.{ChecksFile, ChecksReport, LinksPart, Puts, PutsInstead, PutsReport, RenamesOver};
+ghost use Rattle.pos_tool.specs.Whole.{RenamesPart, Replaces, SetsAside, Settles, WritesPart, WritesWhole, is_report};
+ghost use Rattle.pos_tool.specs.Whole.{to_make};
 
 use crate::folder::Folder;
 use pos_file::BlockFile;
@@ -219,15 +220,32 @@ pub(crate) fn put_report<S: FileSystem + Folder>(
     rename_part(system, &part, path)
 }
 
-// Keeps a file under a second name, and then puts another one in its place, with its owner and mode. If that fails, it
-// loses the second name.
+// Puts a whole file in the place of an open one.
+fn rename_over<S: FileSystem + Folder>(
+    system: &S,
+    held: &S::File,
+    part: &str,
+    path: &str,
+) -> Result<(), WholeFault>
+    ensures { RenamesOver S.FileSystem system.now held.now part.now path.now result }
+{
+    if let Err(cause) = system.rename_over(held, part, path) {
+        let _ = system.remove(part);
+        return Err(WholeFault::Link(cause));
+    }
+    settle(system, path)
+}
+
+// Keeps an open file under a second name, and then puts another one in its place, with its owner and mode. If that
+// fails, it loses the second name.
 fn set_aside<S: FileSystem + Folder>(
     system: &S,
+    held: &S::File,
     part: &str,
     path: &str,
     old: &str,
 ) -> Result<(), WholeFault>
-    ensures { SetsAside S.FileSystem S.Folder system.now part.now path.now old.now result }
+    ensures { SetsAside S.FileSystem S.Folder system.now held.now part.now path.now old.now result }
 {
     if let Err(cause) = system.link(path, old) {
         let _ = system.remove(part);
@@ -238,7 +256,7 @@ fn set_aside<S: FileSystem + Folder>(
         let _ = system.remove(old);
         return Err(WholeFault::Rights(cause));
     }
-    match rename_part(system, part, path) {
+    match rename_over(system, held, part, path) {
         Err(WholeFault::Link(cause)) => {
             let _ = system.remove(old);
             Err(WholeFault::Link(cause))
@@ -247,25 +265,26 @@ fn set_aside<S: FileSystem + Folder>(
     }
 }
 
-// Puts a file with these bytes in place of the one at a path, by these names beside it: one for what is made, and one
-// for what it replaces.
+// Puts a file with these bytes in place of the open one at a path, by these names beside it: one for what is made, and
+// one for what it replaces.
 fn put_instead<S: FileSystem + Folder>(
     system: &S,
+    held: &S::File,
     part: &str,
     path: &str,
     old: &str,
     bytes: &[u8],
 ) -> Result<(), WholeFault>
-    ensures { PutsInstead S.FileSystem S.Folder ⟦<S::File as BlockFile>⟧ system.now part.now path.now old.now
-        bytes.now result }
+    ensures { PutsInstead S.FileSystem S.Folder ⟦<S::File as BlockFile>⟧ system.now held.now part.now path.now
+        old.now bytes.now result }
 {
     check_file(system, path)?;
     write_part(system, part, true, bytes)?;
-    set_aside(system, part, path, old)
+    set_aside(system, held, part, path, old)
 }
 
-/// Puts a file with these bytes in place of the one at a path, which is kept beside it with `.old` at its end. It has
-/// the old one's owner and mode. Whatever happens, the whole old file or the whole new one is at the path.
+/// Puts a file with these bytes in place of the open one at a path, which is kept beside it with `.old` at its end. It
+/// has the old one's owner and mode. Whatever happens, the whole old file or the whole new one is at the path.
 ///
 /// # Errors
 ///
@@ -273,12 +292,13 @@ fn put_instead<S: FileSystem + Folder>(
 pub(crate) fn replace<S: FileSystem + Folder>(
     alloc: Global,
     system: &S,
+    held: &S::File,
     path: &str,
     bytes: &[u8],
 ) -> Result<(), WholeFault>
-    ensures { Replaces S.FileSystem S.Folder ⟦<S::File as BlockFile>⟧ system.now path.now bytes.now result }
+    ensures { Replaces S.FileSystem S.Folder ⟦<S::File as BlockFile>⟧ system.now held.now path.now bytes.now result }
 {
     let part = beside(alloc, path, ".part")?;
     let old = beside(alloc, path, ".old")?;
-    put_instead(system, &part, path, &old, bytes)
+    put_instead(system, held, &part, path, &old, bytes)
 }
