@@ -1,6 +1,6 @@
 -- What copying totals files comes to (docs/reference/tool.md, "backup" and "restore").
-use Rattle.std.specs.Prelude.{◌≡◌, ◌≢◌, ◌++◌, ◌∷◌, [], ℕ, List, length, Bool, true, false, Option, Some, None, ⊤}
-use Rattle.std.specs.Prelude.{Result, Ok, Err, Vec}
+use Rattle.std.specs.Prelude.{◌≡◌, ◌≢◌, ◌++◌, ◌∷◌, [], ℕ, List, length, Bool, true, false, Option, Some, None}
+use Rattle.std.specs.Prelude.{All, Err, Ok, Result, Vec, flat_map, ◌<◌, ◌⊎◌}
 use Rattle.pos_file.specs.Calls.{Call, read_call}
 use Rattle.pos_file.specs.Disks.{Asks}
 use Rattle.pos_file.specs.declared.block_file.BlockFile.{Ghosts as FileGhosts}
