@@ -41,9 +41,9 @@ turn_of gave = front_read gave.0 ∷ front_read gave.1 ∷ []
 -- so many times two readings of the first bytes of a file, which never gave the same
 pub record AreTurns (asked : List Call) (count : ℕ) : Type 0 where
   pub gave : List (List ℕ × List ℕ)
-  pub asked : asked ≡ flat_map turn_of gave
+  pub made : asked ≡ flat_map turn_of gave
   pub differ : All (λ turn. turn.0 ≢ turn.1) gave
-  pub count : length gave ≡ count
+  pub as_often : length gave ≡ count
 
 -- bytes that were given, or not, as a list
 abbrev pub lent : {A : Type 0} → Option (Vec ℕ A) → Option (List ℕ)

@@ -1,5 +1,5 @@
-use Rattle.pos_tool.specs.Copies.{ReadsTwice, lent}
+use Rattle.pos_tool.proofs.CopyLemmas.{HasTurns}
 use Rattle.pos_tool.proofs.copies.read_steady.Given as goal
 
-abbrev pub invariant-loop-turn : goal.invariant-loop-turn
-invariant-loop-turn g l = ReadsTwice g.F.BlockFile.calls l.file (lent l.same)
+abbrev pub invariant-loop : goal.invariant-loop
+invariant-loop g l = HasTurns g.F.BlockFile.calls l.fn.file l.file l.counter
