@@ -63,8 +63,8 @@ pub trait FileSystem {
     fn is_at(&self, file: &Self::File, path: &str) -> io::Result<bool>
         ensures { names self.now file.now path.now result };
 
-    /// Gives the file at a path the name of an open one, which loses that name. The open one's lock, if it has one, lasts
-    /// until it is closed, so that no other program that locks the name before it uses it comes between.
+    /// Gives the file at a path the name of an open one, which loses that name. The open one stays open, and keeps its
+    /// lock.
     ///
     /// # Errors
     ///

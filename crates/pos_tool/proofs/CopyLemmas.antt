@@ -47,4 +47,5 @@ module _ {F : Type 0} (calls : F → List Call) (old mid new : F) (count : ℕ) 
   -- and then the bytes aren't read
   pub unread : count < 1_000 → (why : FileFault) → IsUnreadTwice (calls mid) (calls new) why
       → ReadsSteady calls old new (Err why)
-  unread few why is = inr (turns.0, count, turns.1, few, subst (λ first. IsUnreadTwice first (calls new) why) turns.2 is)
+  unread few why is =
+      inr (turns.0, count, turns.1, few, subst (λ first. IsUnreadTwice first (calls new) why) turns.2 is)

@@ -69,8 +69,8 @@ abbrev pub IsUnreadTwice : List Call → List Call → FileFault → Type 0
 IsUnreadTwice old new why =
     IsUnread old new why ⊎ ((bytes : List ℕ) × IsUnread (old ++ front_read bytes ∷ []) new why)
 
--- What reading the bytes of a file that may be written meanwhile comes to: it is read twice until both readings give the
--- same, at most 1,000 times.
+-- What reading the bytes of a file that may be written meanwhile comes to: it is read twice until both readings give
+-- the same, at most 1,000 times.
 abbrev pub ReadsSteady : {F : Type 0} → (F → List Call) → F → F → Result (List ℕ) FileFault → Type 0
 ReadsSteady calls old new (Ok bytes) = (before : List Call) × (count : ℕ) × AreTurns before count × (count < 1_000)
     × Asks calls old new (before ++ turn_of (bytes, bytes)) × (length bytes ≡ disk_size)

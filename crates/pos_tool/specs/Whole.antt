@@ -128,7 +128,7 @@ PutsReport system folder below them path bytes result = (result ≡ Err fault.No
     (Continues (WritesPart system below them (path ++ codes ".part") false bytes)
     (RenamesPart system folder them (path ++ codes ".part") path result) result) result) result
 
--- what keeping an open file under a second name, and putting another one in its place, with its owner and mode, comes to
+-- what keeping an open file under a second name, and putting another one in its place, with its rights, comes to
 abbrev pub SetsAside : {S F : Type 0} → SystemGhosts S F → FolderGhosts S → S → F → List ℕ → List ℕ → List ℕ
     → Result (Unit {0}) WholeFault → Type 0
 SetsAside system folder them held part path old result =
