@@ -48,21 +48,22 @@ folder_or_here other = cur_dir
 abbrev pub folder_of : List ℕ → List ℕ
 folder_of path = folder_or_here (path_parent path)
 
--- what syncing a folder comes to
-abbrev pub SyncsAt : {S F : Type 0} → SystemGhosts S F → S → List ℕ → Result (Unit {0}) FileFault → Type 0
-SyncsAt system them folder result = (answer : Result (Unit {0}) Error) × system.syncs them folder answer
+-- what syncing a folder comes to, while this file in it is open
+abbrev pub SyncsAt : {S F : Type 0} → SystemGhosts S F → S → F → List ℕ → Result (Unit {0}) FileFault → Type 0
+SyncsAt system them opened folder result = (answer : Result (Unit {0}) Error) × system.syncs them opened folder answer
     × Passes (λ cause why. why ≡ file.Folder cause) answer result
 
 -- what making the entry stay comes to of the file that a path is for, by where a link there leads
-abbrev pub SyncsOwn : {S F : Type 0} → SystemGhosts S F → S → List ℕ → Result (Option (List ℕ)) Error
+abbrev pub SyncsOwn : {S F : Type 0} → SystemGhosts S F → S → F → List ℕ → Result (Option (List ℕ)) Error
     → Result (Unit {0}) FileFault → Type 0
-SyncsOwn system them path (Ok target) result = SyncsAt system them (folder_of (unwrap_or target path)) result
-SyncsOwn system them path (Err cause) result = result ≡ Err (file.Folder cause)
+SyncsOwn system them opened path (Ok target) result =
+    SyncsAt system them opened (folder_of (unwrap_or target path)) result
+SyncsOwn system them opened path (Err cause) result = result ≡ Err (file.Folder cause)
 
--- what making the entry of a file stay comes to: its folder is synced; for a link, that of the file it leads to
-abbrev pub SyncsFolder : {S F : Type 0} → SystemGhosts S F → S → List ℕ → Result (Unit {0}) FileFault → Type 0
-SyncsFolder system them path result =
-    (led : Result (Option (List ℕ)) Error) × system.leads them path led × SyncsOwn system them path led result
+-- what making the entry of an open file stay comes to: its folder is synced; for a link, that of the file it leads to
+abbrev pub SyncsFolder : {S F : Type 0} → SystemGhosts S F → S → F → List ℕ → Result (Unit {0}) FileFault → Type 0
+SyncsFolder system them opened path result = (led : Result (Option (List ℕ)) Error)
+    × system.leads them path led × SyncsOwn system them opened path led result
 
 -- why a file can't serve as a disk
 abbrev pub ReportsDisk : DiskFileFault → FileFault → Type 0
@@ -120,12 +121,12 @@ abbrev pub AnswersOrCloses : {F B : Type 0} → FileGhosts F → FileDisk F → 
 AnswersOrCloses below disk Answers (Ok u) result = Answers result
 AnswersOrCloses below disk Answers (Err why) result = (result ≡ Err why) × below.closed disk.file
 
--- a shorter disk is lengthened to the length of one of totals, after its folder was synced
+-- a shorter disk is lengthened to the length of one of totals; its folder was synced while it was as short as before
 abbrev pub MakesLong : {S F : Type 0} → SystemGhosts S F → FileGhosts F → S → List ℕ → FileDisk F
     → Result (FileDisk F) FileFault → Type 0
 MakesLong system below them path old result =
     MatchBool (nat_lt old.size disk_size)
-    ((synced : Result (Unit {0}) FileFault) × SyncsFolder system them path synced
+    ((synced : Result (Unit {0}) FileFault) × SyncsFolder system them old.file path synced
     × AnswersOrCloses below old (LengthensDisk below old) synced result)
     (result ≡ Ok old)
 

@@ -28,14 +28,11 @@ pub trait FileSystem {
     /// What asking whether the file at a path is this open one may answer.
     ghost names: { Self → Self.File → List ℕ → Result Bool Error → Type 0 } = { λ _ _ _ _. ⊤ };
 
-    /// What putting a file in the place of this open one may answer, by the paths of the two.
-    ghost renames_over: { Self → Self.File → List ℕ → List ℕ → Result (Unit {0}) Error → Type 0 } = { λ _ _ _ _ _. ⊤ };
-
     /// What asking where a link at a path leads may answer: the path of its file, or none if the path is no link's.
     ghost leads: { Self → List ℕ → Result (Option (List ℕ)) Error → Type 0 } = { λ _ _ _. ⊤ };
 
-    /// What syncing the folder at a path may answer.
-    ghost syncs: { Self → List ℕ → Result (Unit {0}) Error → Type 0 } = { λ _ _ _. ⊤ };
+    /// What syncing the folder at a path may answer, for an open file in it.
+    ghost syncs: { Self → Self.File → List ℕ → Result (Unit {0}) Error → Type 0 } = { λ _ _ _ _. ⊤ };
 
     /// Returns the bytes of the file at a path.
     ///
@@ -63,15 +60,6 @@ pub trait FileSystem {
     fn is_at(&self, file: &Self::File, path: &str) -> io::Result<bool>
         ensures { names self.now file.now path.now result };
 
-    /// Gives the file at a path the name of an open one, which loses that name. The open one stays open, and keeps its
-    /// lock.
-    ///
-    /// # Errors
-    ///
-    /// The system's error, which says why the file can't get that name.
-    fn rename_over(&self, held: &Self::File, from: &str, to: &str) -> io::Result<()>
-        ensures { renames_over self.now held.now from.now to.now result };
-
     /// Returns the path of the file that the link at a path leads to. The folder in it is the one that the file is in.
     /// Returns `None` if the path is no link's.
     ///
@@ -81,13 +69,14 @@ pub trait FileSystem {
     fn link_target(&self, path: &str) -> io::Result<Option<String>>
         ensures { leads self.now path.now (text_in result) };
 
-    /// Makes the entries of the folder at a path stay after a crash.
+    /// Makes the entries of the folder at a path stay after a crash, that of an open file among them. The file says with
+    /// which of its calls made this is done: contracts have that a file's folder is synced before the file grows.
     ///
     /// # Errors
     ///
     /// The system's error, which says why the folder can't be opened or synced.
-    fn sync(&self, folder: &str) -> io::Result<()>
-        ensures { syncs self.now folder.now result };
+    fn sync(&self, file: &Self::File, folder: &str) -> io::Result<()>
+        ensures { syncs self.now file.now folder.now result };
 }
 
 // Refuses what is there and is no file: to open a pipe waits for another program. Opening tells of what isn't there.
@@ -127,10 +116,6 @@ impl<R: Files<File = File> + AllocGlobal> FileSystem for R {
         }
     }
 
-    fn rename_over(&self, _held: &SystemFile, from: &str, to: &str) -> io::Result<()> {
-        fs::rename(self, from, to)
-    }
-
     fn link_target(&self, path: &str) -> io::Result<Option<String>> {
         if !fs::symlink_metadata(self, path)?.is_symlink() {
             return Ok(None);
@@ -138,7 +123,7 @@ impl<R: Files<File = File> + AllocGlobal> FileSystem for R {
         Ok(Some(self.canonicalize(self.alloc(), path)?.into_string()))
     }
 
-    fn sync(&self, folder: &str) -> io::Result<()> {
+    fn sync(&self, _file: &SystemFile, folder: &str) -> io::Result<()> {
         File::open(self, folder)?.sync_all()
     }
 }

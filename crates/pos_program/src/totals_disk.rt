@@ -63,32 +63,32 @@ fn folder_of(path: &str) -> &str
     }
 }
 
-// Makes the entries of a folder stay after a crash.
-fn sync_at<S: FileSystem>(files: &S, folder: &str) -> Result<(), FileFault>
-    ensures { SyncsAt S.FileSystem files.now folder.now result }
+// Makes the entries of a folder stay after a crash, that of an open file among them.
+fn sync_at<S: FileSystem>(files: &S, file: &S::File, folder: &str) -> Result<(), FileFault>
+    ensures { SyncsAt S.FileSystem files.now file.now folder.now result }
 {
-    match files.sync(folder) {
+    match files.sync(file, folder) {
         Ok(()) => Ok(()),
         Err(cause) => Err(FileFault::Folder(cause)),
     }
 }
 
-/// Makes the entry of a file in its folder stay after a crash. If its path is a link's, that is the folder of the file
-/// that the link leads to.
+/// Makes the entry of an open file in its folder stay after a crash. If its path is a link's, that is the folder of the
+/// file that the link leads to.
 ///
 /// # Errors
 ///
 /// `Folder` if the folder can't be synced, or the system can't tell which it is.
-pub fn sync_folder<S: FileSystem>(files: &S, path: &str) -> Result<(), FileFault>
-    ensures { SyncsFolder S.FileSystem files.now path.now result }
+pub fn sync_folder<S: FileSystem>(files: &S, file: &S::File, path: &str) -> Result<(), FileFault>
+    ensures { SyncsFolder S.FileSystem files.now file.now path.now result }
 {
     let target = match files.link_target(path) {
         Ok(target) => target,
         Err(cause) => return Err(FileFault::Folder(cause)),
     };
     match target {
-        Some(target) => sync_at(files, folder_of(target.as_str())),
-        None => sync_at(files, folder_of(path)),
+        Some(target) => sync_at(files, file, folder_of(target.as_str())),
+        None => sync_at(files, file, folder_of(path)),
     }
 }
 
@@ -278,7 +278,7 @@ fn long_enough<S: FileSystem + AllocGlobal>(
     if disk.len() >= LENGTH {
         return Ok(disk);
     }
-    match sync_folder(files, path) {
+    match sync_folder(files, disk.file(), path) {
         Ok(()) => lengthened(files.alloc(), disk),
         Err(fault) => {
             disk.close();
