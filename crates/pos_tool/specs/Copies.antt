@@ -108,72 +108,70 @@ EndsUnsound path cause (Err (fault.Totals at why)) = (at.now ≡ path) × (why �
 EndsUnsound path cause other = ⊥
 
 -- a file with these bytes is made at a path where none is
-abbrev pub PutsNew : {S F : Type 0} → SystemGhosts S F → FolderGhosts S → FileGhosts F → S → List ℕ → List ℕ
+abbrev pub PutsNew : {S F : Type 0} → SystemGhosts S F → FolderGhosts S → FileGhosts F → S → S → List ℕ → List ℕ
     → Result Finding Fault → Type 0
-PutsNew system folder below them path bytes result =
-    (answer : Result (Unit {0}) WholeFault) × Puts system folder below them path bytes answer
+PutsNew system folder below them later path bytes result =
+    (answer : Result (Unit {0}) WholeFault) × Puts system folder below them later path bytes answer
     × EndsCopy path answer result
 
 -- what becomes of the bytes of the totals file at a path, by whether they are sound
-abbrev pub CopiesSound : List ℕ → (Result Finding Fault → Type 0) → Result (Unit {0}) SurveyFault
-    → Result Finding Fault → Type 0
-CopiesSound from Copies (Ok u) result = Copies result
-CopiesSound from Copies (Err cause) result = EndsUnsound from cause result
-
--- what becomes of them: they are copied if they are sound
-abbrev pub CopiesBytes : List ℕ → (List ℕ → Result Finding Fault → Type 0) → List ℕ → Result Finding Fault → Type 0
-CopiesBytes from Copies bytes result =
-    (sound : Result (Unit {0}) SurveyFault) × ChecksSound bytes sound × CopiesSound from (Copies bytes) sound result
+abbrev pub CopiesSound : List ℕ → Type 0 → Type 0 → Result (Unit {0}) SurveyFault → Result Finding Fault → Type 0
+CopiesSound from copies keeps (Ok u) result = copies
+CopiesSound from copies keeps (Err cause) result = EndsUnsound from cause result × keeps
 
 -- a file with these bytes takes the place of the one at a path, which was opened and locked for this program alone, was
 -- open when it lost its name, and was closed without a further call
-abbrev pub PutsOver : {S F : Type 0} → SystemGhosts S F → FolderGhosts S → FileGhosts F → S → List ℕ → List ℕ
+abbrev pub PutsOver : {S F : Type 0} → SystemGhosts S F → FolderGhosts S → FileGhosts F → S → S → List ℕ → List ℕ
     → Result (FileDisk F) FileFault → Result Finding Fault → Type 0
-PutsOver system folder below them path bytes (Ok held) result =
-    (answer : Result (Unit {0}) WholeFault) × Replaces system folder below them held.file path bytes answer
+PutsOver system folder below them later path bytes (Ok held) result =
+    (answer : Result (Unit {0}) WholeFault) × Replaces system folder below them later held.file path bytes answer
     × EndsCopy path answer result × below.closed held.file
-PutsOver system folder below them path bytes (Err cause) result = EndsAtFile path cause result
+PutsOver system folder below them later path bytes (Err cause) result =
+    EndsAtFile path cause result × (later ≡ them)
 
 -- a file with these bytes is put at a path
-abbrev pub PutsBack : {S F : Type 0} → SystemGhosts S F → FolderGhosts S → FileGhosts F → S → List ℕ → List ℕ
+abbrev pub PutsBack : {S F : Type 0} → SystemGhosts S F → FolderGhosts S → FileGhosts F → S → S → List ℕ → List ℕ
     → Bool → Result Finding Fault → Type 0
-PutsBack system folder below them path bytes false result = PutsNew system folder below them path bytes result
-PutsBack {F = F} system folder below them path bytes true result =
+PutsBack system folder below them later path bytes false result =
+    PutsNew system folder below them later path bytes result
+PutsBack {F = F} system folder below them later path bytes true result =
     (held : Result (FileDisk F) FileFault) × LocksTotals system below them false path held
-    × PutsOver system folder below them path bytes held result
+    × PutsOver system folder below them later path bytes held result
 
 -- what putting the bytes of the totals file at one path to another comes to: they are sound, and the file has them
-abbrev pub CopiesTo : {S F : Type 0} → SystemGhosts S F → FolderGhosts S → FileGhosts F → S → List ℕ → List ℕ
+abbrev pub CopiesTo : {S F : Type 0} → SystemGhosts S F → FolderGhosts S → FileGhosts F → S → S → List ℕ → List ℕ
     → Bool → List ℕ → Result Finding Fault → Type 0
-CopiesTo system folder below them from to replaces bytes result =
-    CopiesBytes from (λ bytes. PutsBack system folder below them to bytes replaces) bytes result
+CopiesTo system folder below them later from to replaces bytes result =
+    (sound : Result (Unit {0}) SurveyFault) × ChecksSound bytes sound
+    × CopiesSound from (PutsBack system folder below them later to bytes replaces result) (later ≡ them) sound result
 
 -- what becomes of the bytes of a totals file, if they could be read
-abbrev pub CopiesTaken : {S F : Type 0} → SystemGhosts S F → FolderGhosts S → FileGhosts F → S → List ℕ → List ℕ
+abbrev pub CopiesTaken : {S F : Type 0} → SystemGhosts S F → FolderGhosts S → FileGhosts F → S → S → List ℕ → List ℕ
     → Result (List ℕ) FileFault → Result Finding Fault → Type 0
-CopiesTaken system folder below them from to (Ok bytes) result =
-    CopiesTo system folder below them from to false bytes result
-CopiesTaken system folder below them from to (Err cause) result = EndsAtFile from cause result
+CopiesTaken system folder below them later from to (Ok bytes) result =
+    CopiesTo system folder below them later from to false bytes result
+CopiesTaken system folder below them later from to (Err cause) result = EndsAtFile from cause result × (later ≡ them)
 
 -- What a backup comes to: the bytes that two readings of the source gave, one right after the other, are those of sound
 -- totals, and a new file has them.
-abbrev pub BacksUp : {S F : Type 0} → SystemGhosts S F → FolderGhosts S → FileGhosts F → S → List ℕ → List ℕ
+abbrev pub BacksUp : {S F : Type 0} → SystemGhosts S F → FolderGhosts S → FileGhosts F → S → S → List ℕ → List ℕ
     → Result Finding Fault → Type 0
-BacksUp system folder below them from to result =
+BacksUp system folder below them later from to result =
     (taken : Result (List ℕ) FileFault) × TakesSnapshot system below them from taken
-    × CopiesTaken system folder below them from to taken result
+    × CopiesTaken system folder below them later from to taken result
 
 -- what becomes of totals that were only read, and whose file was closed then
-abbrev pub RestoresRead : {S F : Type 0} → SystemGhosts S F → FolderGhosts S → FileGhosts F → S → List ℕ → List ℕ
+abbrev pub RestoresRead : {S F : Type 0} → SystemGhosts S F → FolderGhosts S → FileGhosts F → S → S → List ℕ → List ℕ
     → Bool → Result (Mirror (FileDisk F)) FileFault → Result Finding Fault → Type 0
-RestoresRead system folder below them from to replaces (Ok totals) result =
+RestoresRead system folder below them later from to replaces (Ok totals) result =
     AreRead below.calls totals × below.closed totals.below.file
-    × CopiesTo system folder below them from to replaces totals.memory.present.reading result
-RestoresRead system folder below them from to replaces (Err cause) result = EndsAtFile from cause result
+    × CopiesTo system folder below them later from to replaces totals.memory.present.reading result
+RestoresRead system folder below them later from to replaces (Err cause) result =
+    EndsAtFile from cause result × (later ≡ them)
 
 -- What putting a copy back comes to: the bytes that were read of it are those of sound totals, and the file has them.
-abbrev pub Restores : {S F : Type 0} → SystemGhosts S F → FolderGhosts S → FileGhosts F → S → List ℕ → List ℕ
+abbrev pub Restores : {S F : Type 0} → SystemGhosts S F → FolderGhosts S → FileGhosts F → S → S → List ℕ → List ℕ
     → Bool → Result Finding Fault → Type 0
-Restores {F = F} system folder below them from to replaces result =
+Restores {F = F} system folder below them later from to replaces result =
     (opened : Result (Mirror (FileDisk F)) FileFault) × ReadsTotals system below them from opened
-    × RestoresRead system folder below them from to replaces opened result
+    × RestoresRead system folder below them later from to replaces opened result

@@ -34,41 +34,42 @@ MakesSalvage bytes (Ok made) = IsSalvaged bytes made.bytes.items made.lost.items
 MakesSalvage bytes (Err cause) = IsUnsalvaged bytes cause
 
 -- a file is made with the bytes that were salvaged, and what was lost is printed
-abbrev pub PutsSalvaged : {S F : Type 0} → SystemGhosts S F → FolderGhosts S → FileGhosts F → S → List ℕ → Salvaged
+abbrev pub PutsSalvaged : {S F : Type 0} → SystemGhosts S F → FolderGhosts S → FileGhosts F → S → S → List ℕ → Salvaged
     → Output → Output → Result Finding Fault → Type 0
-PutsSalvaged system folder below them to made old new result =
-    (answer : Result (Unit {0}) WholeFault) × Puts system folder below them to made.bytes.items answer
+PutsSalvaged system folder below them later to made old new result =
+    (answer : Result (Unit {0}) WholeFault) × Puts system folder below them later to made.bytes.items answer
     × PrintsLost to made.lost.items answer old new result
 
 -- what becomes of what was salvaged, or of damaged bytes of which nothing can be had
-abbrev pub PutsMade : {S F : Type 0} → SystemGhosts S F → FolderGhosts S → FileGhosts F → S → List ℕ → List ℕ
+abbrev pub PutsMade : {S F : Type 0} → SystemGhosts S F → FolderGhosts S → FileGhosts F → S → S → List ℕ → List ℕ
     → Result Salvaged SurveyFault → Output → Output → Result Finding Fault → Type 0
-PutsMade system folder below them from to (Ok made) old new result =
-    PutsSalvaged system folder below them to made old new result
-PutsMade system folder below them from to (Err cause) old new result = EndsUnsound from cause result × (new ≡ old)
+PutsMade system folder below them later from to (Ok made) old new result =
+    PutsSalvaged system folder below them later to made old new result
+PutsMade system folder below them later from to (Err cause) old new result =
+    EndsUnsound from cause result × (new ≡ old) × (later ≡ them)
 
 -- what is made of damaged bytes: a file with the bytes that were salvaged
-abbrev pub SalvagesBytes : {S F : Type 0} → SystemGhosts S F → FolderGhosts S → FileGhosts F → S → List ℕ → List ℕ
+abbrev pub SalvagesBytes : {S F : Type 0} → SystemGhosts S F → FolderGhosts S → FileGhosts F → S → S → List ℕ → List ℕ
     → List ℕ → Output → Output → Result Finding Fault → Type 0
-SalvagesBytes system folder below them from to bytes old new result =
+SalvagesBytes system folder below them later from to bytes old new result =
     (made : Result Salvaged SurveyFault) × MakesSalvage bytes made
-    × PutsMade system folder below them from to made old new result
+    × PutsMade system folder below them later from to made old new result
 
 -- what is made of damaged totals that were only read, whose file was closed then; or why they can't be read
-abbrev pub SalvagesOpened : {S F : Type 0} → SystemGhosts S F → FolderGhosts S → FileGhosts F → S → List ℕ → List ℕ
+abbrev pub SalvagesOpened : {S F : Type 0} → SystemGhosts S F → FolderGhosts S → FileGhosts F → S → S → List ℕ → List ℕ
     → Result (Mirror (FileDisk F)) FileFault → Output → Output → Result Finding Fault → Type 0
-SalvagesOpened system folder below them from to (Ok totals) old new result =
+SalvagesOpened system folder below them later from to (Ok totals) old new result =
     AreRead below.calls totals × below.closed totals.below.file
-    × SalvagesBytes system folder below them from to totals.memory.present.reading old new result
-SalvagesOpened system folder below them from to (Err cause) old new result =
-    EndsAtFile from cause result × (new ≡ old)
+    × SalvagesBytes system folder below them later from to totals.memory.present.reading old new result
+SalvagesOpened system folder below them later from to (Err cause) old new result =
+    EndsAtFile from cause result × (new ≡ old) × (later ≡ them)
 
 -- What salvaging the totals file at a path comes to.
-abbrev pub Salvages : {S F : Type 0} → SystemGhosts S F → FolderGhosts S → FileGhosts F → S → List ℕ → List ℕ
+abbrev pub Salvages : {S F : Type 0} → SystemGhosts S F → FolderGhosts S → FileGhosts F → S → S → List ℕ → List ℕ
     → Output → Output → Result Finding Fault → Type 0
-Salvages {F = F} system folder below them from to old new result =
+Salvages {F = F} system folder below them later from to old new result =
     (opened : Result (Mirror (FileDisk F)) FileFault) × ReadsTotals system below them from opened
-    × SalvagesOpened system folder below them from to opened old new result
+    × SalvagesOpened system folder below them later from to opened old new result
 
 -- what is answered of the text at a path that isn't loaded
 abbrev pub EndsUnloaded : List ℕ → LoadFault → Result Finding Fault → Type 0
@@ -81,27 +82,30 @@ MakesLoad text (Ok bytes) = IsLoaded text bytes
 MakesLoad text (Err cause) = ⊤
 
 -- what becomes of bytes that were made of the text at a path, or of one of which none were made
-abbrev pub PutsLoaded : {S F : Type 0} → SystemGhosts S F → FolderGhosts S → FileGhosts F → S → List ℕ → List ℕ
+abbrev pub PutsLoaded : {S F : Type 0} → SystemGhosts S F → FolderGhosts S → FileGhosts F → S → S → List ℕ → List ℕ
     → Result (List ℕ) LoadFault → Result Finding Fault → Type 0
-PutsLoaded system folder below them from to (Ok bytes) result = PutsNew system folder below them to bytes result
-PutsLoaded system folder below them from to (Err cause) result = EndsUnloaded from cause result
+PutsLoaded system folder below them later from to (Ok bytes) result =
+    PutsNew system folder below them later to bytes result
+PutsLoaded system folder below them later from to (Err cause) result = EndsUnloaded from cause result × (later ≡ them)
 
 -- what is made of a text: a file with bytes of which it is a dump
-abbrev pub LoadsText : {S F : Type 0} → SystemGhosts S F → FolderGhosts S → FileGhosts F → S → List ℕ → List ℕ
+abbrev pub LoadsText : {S F : Type 0} → SystemGhosts S F → FolderGhosts S → FileGhosts F → S → S → List ℕ → List ℕ
     → List ℕ → Result Finding Fault → Type 0
-LoadsText system folder below them from to text result =
-    (made : Result (List ℕ) LoadFault) × MakesLoad text made × PutsLoaded system folder below them from to made result
+LoadsText system folder below them later from to text result =
+    (made : Result (List ℕ) LoadFault) × MakesLoad text made
+    × PutsLoaded system folder below them later from to made result
 
 -- what is made of the text at a path, or why it can't be read
-abbrev pub LoadsRead : {S F : Type 0} → SystemGhosts S F → FolderGhosts S → FileGhosts F → S → List ℕ → List ℕ
+abbrev pub LoadsRead : {S F : Type 0} → SystemGhosts S F → FolderGhosts S → FileGhosts F → S → S → List ℕ → List ℕ
     → Result (List ℕ) Error → Result Finding Fault → Type 0
-LoadsRead system folder below them from to (Ok text) result =
-    LoadsText system folder below them from to text result
-LoadsRead system folder below them from to (Err cause) result = EndsAtFile from (file.Unreadable cause) result
+LoadsRead system folder below them later from to (Ok text) result =
+    LoadsText system folder below them later from to text result
+LoadsRead system folder below them later from to (Err cause) result =
+    EndsAtFile from (file.Unreadable cause) result × (later ≡ them)
 
 -- What loading the text at a path comes to.
-abbrev pub Loads : {S F : Type 0} → SystemGhosts S F → FolderGhosts S → FileGhosts F → S → List ℕ → List ℕ
+abbrev pub Loads : {S F : Type 0} → SystemGhosts S F → FolderGhosts S → FileGhosts F → S → S → List ℕ → List ℕ
     → Result Finding Fault → Type 0
-Loads system folder below them from to result =
+Loads system folder below them later from to result =
     (answer : Result (List ℕ) Error) × system.reads them from answer
-    × LoadsRead system folder below them from to answer result
+    × LoadsRead system folder below them later from to answer result

@@ -93,39 +93,39 @@ Completes pages shell old new result = PrintsPage shell (page_of pages shell) ol
 
 -- what it does for a task that reads no lines, over these files and pages, by how its output stood before, and after
 abbrev pub Does : {F B S G : Type 0} → Ghosts F B → FileGhosts B → DiskGhosts (Mirror (FileDisk B))
-    → DiskGhosts Memory → F → SystemGhosts S G → FolderGhosts S → FileGhosts G → S → Pages → Terminals → Task → Output
-    → Output → Result Finding Fault → Type 0
-Does files below mirrors memories them system folder under it pages terminals Help old new result =
-    Prints pages.help.now old new result
-Does files below mirrors memories them system folder under it pages terminals Version old new result =
-    Prints pages.version_line.now old new result
-Does files below mirrors memories them system folder under it pages terminals (Explain code extended) old new
-    result = ExplainsAsked pages.codes.now code.now extended old new result
-Does files below mirrors memories them system folder under it pages terminals (Ask file question) old new result =
-    PrintsFile files below them file.now question old new result
-Does files below mirrors memories them system folder under it pages terminals (Create file) old new result =
-    Creates system under it file.now result × (new ≡ old)
-Does files below mirrors memories them system folder under it pages terminals (Migrate file) old new result =
-    EndsMove files below them file.now result × (new ≡ old)
-Does files below mirrors memories them system folder under it pages terminals (Backup file to) old new result =
-    BacksUp system folder under it file.now to.now result × (new ≡ old)
-Does files below mirrors memories them system folder under it pages terminals (Restore from file replaces) old new
-    result = Restores system folder under it from.now file.now replaces result × (new ≡ old)
-Does files below mirrors memories them system folder under it pages terminals (Diff file other) old new result =
-    WritesDifference files below them file.now other.now old new result
-Does files below mirrors memories them system folder under it pages terminals (Load text file) old new result =
-    Loads system folder under it text.now file.now result × (new ≡ old)
-Does files below mirrors memories them system folder under it pages terminals (Salvage file to) old new result =
-    Salvages system folder under it file.now to.now old new result
-Does files below mirrors memories them system folder under it pages terminals (Run scripts profile totals json) old new
-    result = ⊥
-Does files below mirrors memories them system folder under it pages terminals (Test paths profile junit colour) old new
-    result = EndsTest files them system folder under it memories terminals.output paths.items profile junit colour
-    old new result
-Does files below mirrors memories them system folder under it pages terminals (Completions shell) old new result =
-    Completes pages shell.now old new result
-Does files below mirrors memories them system folder under it pages terminals Man old new result =
-    Prints pages.man.now old new result
+    → DiskGhosts Memory → F → SystemGhosts S G → FolderGhosts S → FileGhosts G → S → S → Pages → Terminals → Task
+    → Output → Output → Result Finding Fault → Type 0
+Does files below mirrors memories them system folder under it later pages terminals Help old new result =
+    Prints pages.help.now old new result × (later ≡ it)
+Does files below mirrors memories them system folder under it later pages terminals Version old new result =
+    Prints pages.version_line.now old new result × (later ≡ it)
+Does files below mirrors memories them system folder under it later pages terminals (Explain code extended) old new
+    result = ExplainsAsked pages.codes.now code.now extended old new result × (later ≡ it)
+Does files below mirrors memories them system folder under it later pages terminals (Ask file question) old new
+    result = PrintsFile files below them file.now question old new result × (later ≡ it)
+Does files below mirrors memories them system folder under it later pages terminals (Create file) old new result =
+    Creates system under it file.now result × (new ≡ old) × (later ≡ it)
+Does files below mirrors memories them system folder under it later pages terminals (Migrate file) old new result =
+    EndsMove files below them file.now result × (new ≡ old) × (later ≡ it)
+Does files below mirrors memories them system folder under it later pages terminals (Backup file to) old new result =
+    BacksUp system folder under it later file.now to.now result × (new ≡ old)
+Does files below mirrors memories them system folder under it later pages terminals (Restore from file replaces) old
+    new result = Restores system folder under it later from.now file.now replaces result × (new ≡ old)
+Does files below mirrors memories them system folder under it later pages terminals (Diff file other) old new result =
+    WritesDifference files below them file.now other.now old new result × (later ≡ it)
+Does files below mirrors memories them system folder under it later pages terminals (Load text file) old new result =
+    Loads system folder under it later text.now file.now result × (new ≡ old)
+Does files below mirrors memories them system folder under it later pages terminals (Salvage file to) old new result =
+    Salvages system folder under it later file.now to.now old new result
+Does files below mirrors memories them system folder under it later pages terminals (Run scripts profile totals json)
+    old new result = ⊥
+Does files below mirrors memories them system folder under it later pages terminals (Test paths profile junit colour)
+    old new result = EndsTest files them system folder under it later memories terminals.output paths.items profile
+    junit colour old new result
+Does files below mirrors memories them system folder under it later pages terminals (Completions shell) old new result =
+    Completes pages shell.now old new result × (later ≡ it)
+Does files below mirrors memories them system folder under it later pages terminals Man old new result =
+    Prints pages.man.now old new result × (later ≡ it)
 
 -- whether input and output are terminals
 abbrev pub are_both : Terminals → Bool
@@ -137,29 +137,30 @@ is_watched terminals = terminals.input && terminals.errors
 
 -- what it does for any task; but for a run that is typed it reads nothing from its input
 abbrev pub DoesTask : {F B S G : Type 0} → Ghosts F B → FileGhosts B → DiskGhosts (Mirror (FileDisk B))
-    → DiskGhosts Memory → F → SystemGhosts S G → FolderGhosts S → FileGhosts G → S → Pages → Terminals → Task → Streams
-    → Streams → Result Finding Fault → Type 0
-DoesTask files below mirrors memories them system folder under it pages terminals (Run scripts profile totals json)
-    old new result = EndsRun files below mirrors memories them system it pages.codes pages.lines_help scripts.items
-    profile totals json (are_both terminals) old new result
-DoesTask files below mirrors memories them system folder under it pages terminals task old new result =
-    (new.taken ≡ old.taken)
-    × Does files below mirrors memories them system folder under it pages terminals task old.output new.output result
+    → DiskGhosts Memory → F → SystemGhosts S G → FolderGhosts S → FileGhosts G → S → S → Pages → Terminals → Task
+    → Streams → Streams → Result Finding Fault → Type 0
+DoesTask files below mirrors memories them system folder under it later pages terminals
+    (Run scripts profile totals json) old new result = EndsRun files below mirrors memories them system it pages.codes
+    pages.lines_help scripts.items profile totals json (are_both terminals) old new result × (later ≡ it)
+DoesTask files below mirrors memories them system folder under it later pages terminals task old new result =
+    (new.taken ≡ old.taken) × Does files below mirrors memories them system folder under it later pages terminals task
+    old.output new.output result
 
 -- what it does for what the words ask for: nothing where they ask for nothing
-abbrev pub DoesChosen : (Task → Streams → Streams → Result Finding Fault → Type 0) → Result Task WordsFault → Streams
-    → Streams → Result Finding Fault → Type 0
-DoesChosen DoesIt (Ok task) old new result = DoesIt task old new result
-DoesChosen DoesIt (Err why) old new result = (result ≡ Err (fault.Words why)) × (new ≡ old)
+abbrev pub DoesChosen : {S : Type 0} → (Task → Type 0) → Result Task WordsFault → S → S → Streams → Streams
+    → Result Finding Fault → Type 0
+DoesChosen DoesIt (Ok task) it later old new result = DoesIt task
+DoesChosen DoesIt (Err why) it later old new result =
+    (result ≡ Err (fault.Words why)) × (new ≡ old) × (later ≡ it)
 
 -- what it does for words
 abbrev pub DoesAsAsked : {F B S G : Type 0} → Ghosts F B → FileGhosts B → DiskGhosts (Mirror (FileDisk B))
-    → DiskGhosts Memory → F → SystemGhosts S G → FolderGhosts S → FileGhosts G → S → Pages → Terminals → List (List ℕ)
-    → Streams → Streams → Result Finding Fault → Type 0
-DoesAsAsked files below mirrors memories them system folder under it pages terminals words old new result =
+    → DiskGhosts Memory → F → SystemGhosts S G → FolderGhosts S → FileGhosts G → S → S → Pages → Terminals
+    → List (List ℕ) → Streams → Streams → Result Finding Fault → Type 0
+DoesAsAsked files below mirrors memories them system folder under it later pages terminals words old new result =
     (chosen : Result Task WordsFault) × Chooses words chosen
-    × DoesChosen (DoesTask files below mirrors memories them system folder under it pages terminals) chosen old new
-    result
+    × DoesChosen (λ task. DoesTask files below mirrors memories them system folder under it later pages terminals task
+    old new result) chosen it later old new result
 
 -- why words that couldn't be read ask for nothing
 abbrev pub fault_of_unread : ChoiceFault → WordsFault
@@ -167,19 +168,19 @@ fault_of_unread unread.NoMemory = words.NoMemory
 fault_of_unread other = words.NotUtf8
 
 -- what it does for words that were read, or not
-abbrev pub DoesAsRead : {T A : Type 0} → (List (List ℕ) → Streams → Streams → Result Finding Fault → Type 0)
-    → (T → List ℕ) → Result (Vec T A) ChoiceFault → Streams → Streams → Result Finding Fault → Type 0
-DoesAsRead DoesWords text (Ok words) old new result = DoesWords (map text words.items) old new result
-DoesAsRead DoesWords text (Err why) old new result =
-    (result ≡ Err (fault.Words (fault_of_unread why))) × (new ≡ old)
+abbrev pub DoesAsRead : {S T A : Type 0} → (List (List ℕ) → Type 0) → (T → List ℕ) → Result (Vec T A) ChoiceFault → S
+    → S → Streams → Streams → Result Finding Fault → Type 0
+DoesAsRead DoesWords text (Ok words) it later old new result = DoesWords (map text words.items)
+DoesAsRead DoesWords text (Err why) it later old new result =
+    (result ≡ Err (fault.Words (fault_of_unread why))) × (new ≡ old) × (later ≡ it)
 
--- The whole program, by its words, its files, the file system that they are in, its pages, which of its streams are
--- terminals, how its input and its output stood before and after, and the status that it ends with.
+-- The whole program, by its words, its files, the file system that they are in, before and after, its pages, which of
+-- its streams are terminals, how its input and its output stood before and after, and the status that it ends with.
 pub record Performs {F B S G T A : Type 0} (files : Ghosts F B) (below : FileGhosts B)
     (mirrors : DiskGhosts (Mirror (FileDisk B))) (memories : DiskGhosts Memory) (them : F) (system : SystemGhosts S G)
-    (folder : FolderGhosts S) (under : FileGhosts G) (it : S) (pages : Pages) (terminals : Terminals)
+    (folder : FolderGhosts S) (under : FileGhosts G) (it later : S) (pages : Pages) (terminals : Terminals)
     (text : T → List ℕ) (words : Result (Vec T A) ChoiceFault) (old new : Streams) (ended : ℕ) : Type 0 where
   pub outcome : Result Finding Fault
-  pub done : DoesAsRead (DoesAsAsked files below mirrors memories them system folder under it pages terminals) text
-      words old new outcome
+  pub done : DoesAsRead (λ asked. DoesAsAsked files below mirrors memories them system folder under it later pages
+      terminals asked old new outcome) text words it later old new outcome
   pub ends : ended ≡ status_of outcome

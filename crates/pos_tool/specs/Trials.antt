@@ -58,79 +58,85 @@ EndsReport path finding (Err cause) (Err (fault.Whole at why)) = (at.now ≡ pat
 EndsReport path finding (Err cause) other = ⊥
 
 -- the report of scripts that were tried is made at a path, whole, or there was no memory
-abbrev pub MakesReport : {S G : Type 0} → SystemGhosts S G → FolderGhosts S → FileGhosts G → S → List ℕ → List Trial
-    → Finding → Result Finding Fault → Type 0
-MakesReport system folder under it path trials finding result = (result ≡ Err fault.NoMemory)
-    ⊎ ((answer : Result (Unit {0}) WholeFault) × PutsReport system folder under it path (junit trials) answer
+abbrev pub MakesReport : {S G : Type 0} → SystemGhosts S G → FolderGhosts S → FileGhosts G → S → S → List ℕ
+    → List Trial → Finding → Result Finding Fault → Type 0
+MakesReport system folder under it later path trials finding result =
+    ((result ≡ Err fault.NoMemory) × (later ≡ it))
+    ⊎ ((answer : Result (Unit {0}) WholeFault) × PutsReport system folder under it later path (junit trials) answer
     × EndsReport path finding answer result)
 
 -- what follows what was printed: the report, if a path for one is given
-abbrev pub Reports : {S G : Type 0} → SystemGhosts S G → FolderGhosts S → FileGhosts G → S → Option (Bor (List ℕ))
-    → List Trial → Result Finding Fault → Result Finding Fault → Type 0
-Reports system folder under it (Some path) trials (Ok finding) result =
-    MakesReport system folder under it path.now trials finding result
-Reports system folder under it path trials printed result = result ≡ printed
+abbrev pub Reports : {S G : Type 0} → SystemGhosts S G → FolderGhosts S → FileGhosts G → S → S
+    → Option (Bor (List ℕ)) → List Trial → Result Finding Fault → Result Finding Fault → Type 0
+Reports system folder under it later (Some path) trials (Ok finding) result =
+    MakesReport system folder under it later path.now trials finding result
+Reports system folder under it later path trials printed result = (result ≡ printed) × (later ≡ it)
 
 -- what trying scripts found is printed, and then a report of it is made
-abbrev pub WritesTrials : {S G : Type 0} → SystemGhosts S G → FolderGhosts S → FileGhosts G → S → Bool
+abbrev pub WritesTrials : {S G : Type 0} → SystemGhosts S G → FolderGhosts S → FileGhosts G → S → S → Bool
     → Option (Bor (List ℕ)) → List Trial → Output → Output → Result Finding Fault → Type 0
-WritesTrials system folder under it is_painted report trials old new result = (printed : Result Finding Fault)
-    × PrintsTrials is_painted trials old new printed × Reports system folder under it report trials printed result
+WritesTrials system folder under it later is_painted report trials old new result = (printed : Result Finding Fault)
+    × PrintsTrials is_painted trials old new printed
+    × Reports system folder under it later report trials printed result
 
 -- likewise, or a script can't be tried, and nothing is printed
-abbrev pub PrintsTried : {S G : Type 0} → SystemGhosts S G → FolderGhosts S → FileGhosts G → S → Bool
+abbrev pub PrintsTried : {S G : Type 0} → SystemGhosts S G → FolderGhosts S → FileGhosts G → S → S → Bool
     → Option (Bor (List ℕ)) → Result (List Trial) TrialFault → Output → Output → Result Finding Fault → Type 0
-PrintsTried system folder under it is_painted report (Ok trials) old new result =
-    WritesTrials system folder under it is_painted report trials old new result
-PrintsTried system folder under it is_painted report (Err why) old new result =
-    (result ≡ Err (fault.Trial why)) × (new ≡ old)
+PrintsTried system folder under it later is_painted report (Ok trials) old new result =
+    WritesTrials system folder under it later is_painted report trials old new result
+PrintsTried system folder under it later is_painted report (Err why) old new result =
+    (result ≡ Err (fault.Trial why)) × (new ≡ old) × (later ≡ it)
 
 -- the scripts at paths are tried over a profile, and what was found is told
-abbrev pub TestsOver : {S G : Type 0} → SystemGhosts S G → FolderGhosts S → FileGhosts G → S → DiskGhosts Memory
-    → Contents → List (List ℕ) → Bool → Option (Bor (List ℕ)) → Output → Output → Result Finding Fault → Type 0
-TestsOver system folder under it memories contents paths is_painted report old new result =
-    (tried : Result (List Trial) TrialFault) × TriesEach system it memories contents paths tried
-    × PrintsTried system folder under it is_painted report tried old new result
-
--- likewise, of what finding the scripts gave
-abbrev pub TestsFound : (List (List ℕ) → Type 0) → Result (List (List ℕ)) Fault → Output → Output
+abbrev pub TestsOver : {S G : Type 0} → SystemGhosts S G → FolderGhosts S → FileGhosts G → S → S
+    → DiskGhosts Memory → Contents → List (List ℕ) → Bool → Option (Bor (List ℕ)) → Output → Output
     → Result Finding Fault → Type 0
-TestsFound Tests (Ok found) old new result = Tests found
-TestsFound Tests (Err why) old new result = (result ≡ Err why) × (new ≡ old)
+TestsOver system folder under it later memories contents paths is_painted report old new result =
+    (tried : Result (List Trial) TrialFault) × TriesEach system it memories contents paths tried
+    × PrintsTried system folder under it later is_painted report tried old new result
+
+-- nothing is done, for this reason
+abbrev pub Refuses : {S : Type 0} → Fault → S → S → Output → Output → Result Finding Fault → Type 0
+Refuses why it later old new result = (result ≡ Err why) × (new ≡ old) × (later ≡ it)
+
+-- what is done with the scripts that were found, or with none for this fault
+abbrev pub TestsFound : (List (List ℕ) → Type 0) → (Fault → Type 0) → Result (List (List ℕ)) Fault → Type 0
+TestsFound Tests Refused (Ok found) = Tests found
+TestsFound Tests Refused (Err why) = Refused why
 
 -- the scripts that paths stand for are tried over a profile, and what was found is told
-abbrev pub TestsProfiled : {S G : Type 0} → SystemGhosts S G → FolderGhosts S → FileGhosts G → S
+abbrev pub TestsProfiled : {S G : Type 0} → SystemGhosts S G → FolderGhosts S → FileGhosts G → S → S
     → DiskGhosts Memory → Contents → List (Bor (List ℕ)) → Bool → Option (Bor (List ℕ)) → Output → Output
     → Result Finding Fault → Type 0
-TestsProfiled system folder under it memories contents paths is_painted report old new result =
+TestsProfiled system folder under it later memories contents paths is_painted report old new result =
     (found : Result (List (List ℕ)) Fault) × FindsScripts folder it paths found
-    × TestsFound (λ all. TestsOver system folder under it memories contents all is_painted report old new result) found
-    old new result
+    × TestsFound (λ all. TestsOver system folder under it later memories contents all is_painted report old new result)
+    (λ why. Refuses why it later old new result) found
 
 -- likewise, over what reading the profile gave
-abbrev pub TestsGiven : (Contents → Type 0) → Result Contents RunFault → Output → Output → Result Finding Fault → Type 0
-TestsGiven Tests (Ok contents) old new result = Tests contents
-TestsGiven Tests (Err why) old new result = (result ≡ Err (fault.Run why)) × (new ≡ old)
+abbrev pub TestsGiven : (Contents → Type 0) → (Fault → Type 0) → Result Contents RunFault → Type 0
+TestsGiven Tests Refused (Ok contents) = Tests contents
+TestsGiven Tests Refused (Err why) = Refused (fault.Run why)
 
 -- likewise, over the profile at a path, or the built-in one
 abbrev pub TestsPainted : {F B S G : Type 0} → Ghosts F B → F → SystemGhosts S G → FolderGhosts S → FileGhosts G
-    → S → DiskGhosts Memory → List (Bor (List ℕ)) → Option (Bor (List ℕ)) → Bool → Option (Bor (List ℕ)) → Output
-    → Output → Result Finding Fault → Type 0
-TestsPainted files them system folder under it memories paths profile is_painted report old new result =
+    → S → S → DiskGhosts Memory → List (Bor (List ℕ)) → Option (Bor (List ℕ)) → Bool → Option (Bor (List ℕ))
+    → Output → Output → Result Finding Fault → Type 0
+TestsPainted files them system folder under it later memories paths profile is_painted report old new result =
     (given : Result Contents RunFault) × GivesProfile files them profile given
-    × TestsGiven (λ contents. TestsProfiled system folder under it memories contents paths is_painted report old new
-    result) given old new result
+    × TestsGiven (λ contents. TestsProfiled system folder under it later memories contents paths is_painted report old
+    new result) (λ why. Refuses why it later old new result) given
 
 -- likewise, by whether what is printed is painted
-abbrev pub TestsChosen : (Bool → Type 0) → Result Bool Fault → Output → Output → Result Finding Fault → Type 0
-TestsChosen Tests (Ok is_painted) old new result = Tests is_painted
-TestsChosen Tests (Err why) old new result = (result ≡ Err why) × (new ≡ old)
+abbrev pub TestsChosen : (Bool → Type 0) → (Fault → Type 0) → Result Bool Fault → Type 0
+TestsChosen Tests Refused (Ok is_painted) = Tests is_painted
+TestsChosen Tests Refused (Err why) = Refused why
 
 -- What trying the scripts that paths stand for comes to.
-abbrev pub EndsTest : {F B S G : Type 0} → Ghosts F B → F → SystemGhosts S G → FolderGhosts S → FileGhosts G → S
+abbrev pub EndsTest : {F B S G : Type 0} → Ghosts F B → F → SystemGhosts S G → FolderGhosts S → FileGhosts G → S → S
     → DiskGhosts Memory → Bool → List (Bor (List ℕ)) → Option (Bor (List ℕ)) → Option (Bor (List ℕ))
     → Option (Bor (List ℕ)) → Output → Output → Result Finding Fault → Type 0
-EndsTest files them system folder under it memories is_terminal paths profile report colour old new result =
+EndsTest files them system folder under it later memories is_terminal paths profile report colour old new result =
     (chosen : Result Bool Fault) × Chooses colour is_terminal chosen
-    × TestsChosen (λ is_painted. TestsPainted files them system folder under it memories paths profile is_painted report
-    old new result) chosen old new result
+    × TestsChosen (λ is_painted. TestsPainted files them system folder under it later memories paths profile is_painted
+    report old new result) (λ why. Refuses why it later old new result) chosen

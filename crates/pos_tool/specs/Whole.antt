@@ -31,72 +31,93 @@ WritesWhole calls old new bytes (Err why) = (why ≡ fault.Unwritten)
     × Asks calls old new (write_call 0 bytes moved ∷ []))
     ⊎ Asks calls old new (write_call 0 bytes (Some (length bytes)) ∷ sync_call None ∷ []))
 
--- what making a new file with these bytes comes to, if this is what opening it answered; it was closed then
-abbrev pub WritesOpened : {F : Type 0} → FileGhosts F → Result F Error → List ℕ → Result (Unit {0}) WholeFault
-    → Type 0
-WritesOpened {F} below (Ok file) bytes result =
-    (below.calls file ≡ []) × ((after : F) × WritesWhole below.calls file after bytes result × below.closed after)
-WritesOpened below (Err cause) bytes result = result ≡ Err (fault.Part cause)
+-- a name is taken away, whatever that answers
+abbrev pub Removes : {S : Type 0} → FolderGhosts S → S → S → List ℕ → Type 0
+Removes folder them later path = (removed : Result (Unit {0}) Error) × folder.removes them later path removed
 
--- what making a new file with these bytes comes to, which may be private
-abbrev pub WritesPart : {S F : Type 0} → SystemGhosts S F → FileGhosts F → S → List ℕ → Bool → List ℕ
-    → Result (Unit {0}) WholeFault → Type 0
-WritesPart {F = F} system below them part is_private bytes result =
+-- what becomes of a new file that bytes were written to: it stays open, or it is closed and removed
+abbrev pub KeepsWritten : {S F : Type 0} → FolderGhosts S → FileGhosts F → S → S → List ℕ → F
+    → Result (Unit {0}) WholeFault → Result F WholeFault → Type 0
+KeepsWritten folder below them later part written (Ok u) result = (result ≡ Ok written) × (later ≡ them)
+KeepsWritten folder below them later part written (Err why) result =
+    (result ≡ Err why) × below.closed written × Removes folder them later part
+
+-- what making a new file with these bytes comes to, if this is what opening it answered
+abbrev pub WritesOpened : {S F : Type 0} → FolderGhosts S → FileGhosts F → S → S → List ℕ → Result F Error → List ℕ
+    → Result F WholeFault → Type 0
+WritesOpened {F = F} folder below them later part (Ok opened) bytes result = (below.calls opened ≡ [])
+    × ((written : F) × (answer : Result (Unit {0}) WholeFault) × WritesWhole below.calls opened written bytes answer
+    × KeepsWritten folder below them later part written answer result)
+WritesOpened folder below them later part (Err cause) bytes result =
+    (result ≡ Err (fault.Part cause)) × (later ≡ them)
+
+-- what making a new file with these bytes comes to, which may be private, and is left open
+abbrev pub WritesPart : {S F : Type 0} → SystemGhosts S F → FolderGhosts S → FileGhosts F → S → S → List ℕ → Bool
+    → List ℕ → Result F WholeFault → Type 0
+WritesPart {F = F} system folder below them later part is_private bytes result =
     (opened : Result F Error) × system.opens them to_make is_private part opened
-    × WritesOpened below opened bytes result
+    × WritesOpened folder below them later part opened bytes result
 
--- what making the name of a file stay comes to
-abbrev pub Settles : {S F : Type 0} → SystemGhosts S F → S → List ℕ → Result (Unit {0}) WholeFault → Type 0
-Settles system them path result =
-    (synced : Result (Unit {0}) FileFault) × SyncsFolder system them path synced
+-- what making the name of an open file stay comes to
+abbrev pub Settles : {S F : Type 0} → SystemGhosts S F → S → F → List ℕ → Result (Unit {0}) WholeFault → Type 0
+Settles system them opened path result =
+    (synced : Result (Unit {0}) FileFault) × SyncsFolder system them opened path synced
     × Passes (λ cause why. why ≡ fault.Unsynced cause) synced result
 
--- what follows an answer: at Ok this, and else the fault that it is told as
-abbrev pub Follows : (Error → WholeFault) → Type 0 → Result (Unit {0}) Error → Result (Unit {0}) WholeFault → Type 0
-Follows report next (Ok u) result = next
-Follows report next (Err cause) result = result ≡ Err (report cause)
+-- what follows an answer: at Ok this; else the fault that it is told as, and this is undone
+abbrev pub Follows : (Error → WholeFault) → Type 0 → Type 0 → Result (Unit {0}) Error → Result (Unit {0}) WholeFault
+    → Type 0
+Follows report next undone (Ok u) result = next
+Follows report next undone (Err cause) result = (result ≡ Err (report cause)) × undone
 
--- what giving a whole file its name, and taking away the first one, comes to
-abbrev pub LinksPart : {S F : Type 0} → SystemGhosts S F → FolderGhosts S → S → List ℕ → List ℕ
+-- what giving an open file that is whole its name, and taking away the first one, comes to; its folder is synced then
+abbrev pub LinksPart : {S F : Type 0} → SystemGhosts S F → FolderGhosts S → FileGhosts F → S → S → F → List ℕ → List ℕ
     → Result (Unit {0}) WholeFault → Type 0
-LinksPart system folder them part path result =
-    (linked : Result (Unit {0}) Error) × folder.links them part path linked
-    × Follows fault.Link ((removed : Result (Unit {0}) Error) × folder.removes them part removed
-    × Follows fault.Left (Settles system them path result) removed result) linked result
+LinksPart {S} system folder below them later written part path result =
+    (linked : Result (Unit {0}) Error) × (named : S)
+    × folder.links them named (below.calls written) part path linked
+    × Follows fault.Link ((removed : Result (Unit {0}) Error) × folder.removes named later part removed
+    × Follows fault.Left (Settles system later written path result) ⊤ removed result)
+    (Removes folder named later part) linked result
 
--- what comes next, after a step that did what it should
-abbrev pub Then : Result (Unit {0}) WholeFault → Type 0 → Result (Unit {0}) WholeFault → Type 0
-Then (Ok u) next result = next
-Then (Err why) next result = result ≡ Err why
+-- what comes next, after a step that did what it should; after another one nothing does
+abbrev pub Then : {S : Type 0} → S → S → Result (Unit {0}) WholeFault → Type 0 → Result (Unit {0}) WholeFault → Type 0
+Then them later (Ok u) next result = next
+Then them later (Err why) next result = (result ≡ Err why) × (later ≡ them)
 
--- what is made of a file beside another one: its fault, or what comes next
-abbrev pub Continues : (Result (Unit {0}) WholeFault → Type 0) → Type 0 → Result (Unit {0}) WholeFault → Type 0
-Continues Writes next result =
-    (written : Result (Unit {0}) WholeFault) × Writes written
-    × Then written next result
+-- what is made of a new file that was written, or not; it is closed in the end
+abbrev pub UsesWritten : {S F : Type 0} → FileGhosts F → S → S → (F → Type 0) → Result F WholeFault
+    → Result (Unit {0}) WholeFault → Type 0
+UsesWritten below them later Uses (Ok written) result = Uses written × below.closed written
+UsesWritten below them later Uses (Err why) result = (result ≡ Err why) × (later ≡ them)
+
+-- what is made of a new file beside another one, with these bytes, and from which state of the folders on
+abbrev pub UsesPart : {S F : Type 0} → SystemGhosts S F → FolderGhosts S → FileGhosts F → S → S → List ℕ → Bool
+    → List ℕ → (S → F → Type 0) → Result (Unit {0}) WholeFault → Type 0
+UsesPart {S} {F} system folder below them later part is_private bytes Uses result =
+    (answer : Result F WholeFault) × (made : S) × WritesPart system folder below them made part is_private bytes answer
+    × UsesWritten below made later (Uses made) answer result
+
+-- nothing is done for want of memory
+abbrev pub LacksMemory : {S : Type 0} → S → S → Result (Unit {0}) WholeFault → Type 0
+LacksMemory them later result = (result ≡ Err fault.NoMemory) × (later ≡ them)
 
 -- What making a file with these bytes at a path comes to: want of memory; or they are written to a private file beside
--- it, and that gets its name.
-abbrev pub Puts : {S F : Type 0} → SystemGhosts S F → FolderGhosts S → FileGhosts F → S → List ℕ → List ℕ
+-- it and synced, and then it gets its name, and its folder is synced.
+abbrev pub Puts : {S F : Type 0} → SystemGhosts S F → FolderGhosts S → FileGhosts F → S → S → List ℕ → List ℕ
     → Result (Unit {0}) WholeFault → Type 0
-Puts system folder below them path bytes result =
-    (result ≡ Err fault.NoMemory)
-    ⊎ Continues (WritesPart system below them (path ++ codes ".part") true bytes)
-    (LinksPart system folder them (path ++ codes ".part") path result) result
+Puts system folder below them later path bytes result = LacksMemory them later result
+    ⊎ UsesPart system folder below them later (path ++ codes ".part") true bytes
+    (λ made written. LinksPart system folder below made later written (path ++ codes ".part") path result) result
 
--- what putting a whole file in the place of what has its name comes to
-abbrev pub RenamesPart : {S F : Type 0} → SystemGhosts S F → FolderGhosts S → S → List ℕ → List ℕ
-    → Result (Unit {0}) WholeFault → Type 0
-RenamesPart system folder them part path result =
-    (renamed : Result (Unit {0}) Error) × folder.renames them part path renamed
-    × Follows fault.Link (Settles system them path result) renamed result
-
--- what putting a whole file in the place of an open one comes to
-abbrev pub RenamesOver : {S F : Type 0} → SystemGhosts S F → S → F → List ℕ → List ℕ → Result (Unit {0}) WholeFault
-    → Type 0
-RenamesOver system them held part path result =
-    (renamed : Result (Unit {0}) Error) × system.renames_over them held part path renamed
-    × Follows fault.Link (Settles system them path result) renamed result
+-- what putting an open file that is whole in the place of what has its name comes to
+abbrev pub RenamesPart : {S F : Type 0} → SystemGhosts S F → FolderGhosts S → FileGhosts F → S → S → F → List ℕ
+    → List ℕ → Result (Unit {0}) WholeFault → Type 0
+RenamesPart {S} system folder below them later written part path result =
+    (renamed : Result (Unit {0}) Error) × (named : S)
+    × folder.renames them named (below.calls written) part path renamed
+    × Follows fault.Link (Settles system named written path result × (later ≡ named)) (Removes folder named later part)
+    renamed result
 
 -- what checking comes to that a name is free or a file's
 abbrev pub ChecksFile : {S : Type 0} → FolderGhosts S → S → List ℕ → Result (Unit {0}) WholeFault → Type 0
@@ -120,34 +141,66 @@ ChecksReport system them path result =
     (answer : Result (List ℕ) Error) × system.reads them path answer × AdmitsReport answer result
 
 -- What making a report with these bytes at a path comes to, in place of one that may be there: want of memory; or its
--- name may be taken, it is written to the file beside it, and that gets its name.
-abbrev pub PutsReport : {S F : Type 0} → SystemGhosts S F → FolderGhosts S → FileGhosts F → S → List ℕ → List ℕ
+-- name may be taken, it is written to the file beside it and synced, and that gets its name.
+abbrev pub PutsReport : {S F : Type 0} → SystemGhosts S F → FolderGhosts S → FileGhosts F → S → S → List ℕ → List ℕ
     → Result (Unit {0}) WholeFault → Type 0
-PutsReport system folder below them path bytes result = (result ≡ Err fault.NoMemory)
-    ⊎ Continues (ChecksFile folder them path) (Continues (ChecksReport system them path)
-    (Continues (WritesPart system below them (path ++ codes ".part") false bytes)
-    (RenamesPart system folder them (path ++ codes ".part") path result) result) result) result
+PutsReport system folder below them later path bytes result = LacksMemory them later result
+    ⊎ ((free : Result (Unit {0}) WholeFault) × ChecksFile folder them path free × Then them later free
+    ((old : Result (Unit {0}) WholeFault) × ChecksReport system them path old × Then them later old
+    (UsesPart system folder below them later (path ++ codes ".part") false bytes
+    (λ made written. RenamesPart system folder below made later written (path ++ codes ".part") path result) result)
+    result) result)
+
+-- what putting an open file that is whole in the place of another open one comes to
+abbrev pub ReplacesOpen : {S F : Type 0} → SystemGhosts S F → FolderGhosts S → FileGhosts F → S → S → F → F → List ℕ
+    → List ℕ → Result (Unit {0}) WholeFault → Type 0
+ReplacesOpen {S} system folder below them later written held part path result =
+    (replaced : Result (Unit {0}) Error) × (named : S)
+    × folder.replaces them named (below.calls written) (below.calls held) part path replaced
+    × Follows fault.Link (Settles system named written path result × (later ≡ named)) (Removes folder named later part)
+    replaced result
+
+-- what becomes of the second name of an open file: it loses it if no other one could take its place
+abbrev pub EndsAside : {S : Type 0} → FolderGhosts S → S → S → List ℕ → Result (Unit {0}) WholeFault
+    → Result (Unit {0}) WholeFault → Type 0
+EndsAside folder them later old (Err (fault.Link cause)) result =
+    (result ≡ Err (fault.Link cause)) × Removes folder them later old
+EndsAside folder them later old answer result = (result ≡ answer) × (later ≡ them)
+
+-- what putting another file in the place of an open one that has a second name comes to
+abbrev pub TakesPlace : {S F : Type 0} → SystemGhosts S F → FolderGhosts S → FileGhosts F → S → S → F → F → List ℕ
+    → List ℕ → List ℕ → Result (Unit {0}) WholeFault → Type 0
+TakesPlace {S} system folder below them later written held part path old result =
+    (answer : Result (Unit {0}) WholeFault) × (over : S)
+    × ReplacesOpen system folder below them over written held part path answer
+    × EndsAside folder over later old answer result
+
+-- two names are taken away, one after the other
+abbrev pub RemovesBoth : {S : Type 0} → FolderGhosts S → S → S → List ℕ → List ℕ → Type 0
+RemovesBoth {S} folder them later one other = (mid : S) × Removes folder them mid one × Removes folder mid later other
 
 -- what keeping an open file under a second name, and putting another one in its place, with its rights, comes to
-abbrev pub SetsAside : {S F : Type 0} → SystemGhosts S F → FolderGhosts S → S → F → List ℕ → List ℕ → List ℕ
-    → Result (Unit {0}) WholeFault → Type 0
-SetsAside system folder them held part path old result =
-    (linked : Result (Unit {0}) Error) × folder.links them path old linked
-    × Follows fault.Aside ((copied : Result (Unit {0}) Error) × folder.copies_rights them old part copied
-    × Follows fault.Rights (RenamesOver system them held part path result) copied result) linked result
+abbrev pub SetsAside : {S F : Type 0} → SystemGhosts S F → FolderGhosts S → FileGhosts F → S → S → F → F → List ℕ
+    → List ℕ → List ℕ → Result (Unit {0}) WholeFault → Type 0
+SetsAside {S} system folder below them later written held part path old result =
+    (linked : Result (Unit {0}) Error) × (named : S) × folder.links them named (below.calls held) path old linked
+    × Follows fault.Aside ((copied : Result (Unit {0}) Error) × (alike : S)
+    × folder.copies_rights named alike old part copied
+    × Follows fault.Rights (TakesPlace system folder below alike later written held part path old result)
+    (RemovesBoth folder alike later part old) copied result) (Removes folder named later part) linked result
 
 -- What putting a file with these bytes in place of the open one at a path comes to: its name may be taken, they are
--- written to a private file beside it, the old file gets a second name and the new one its owner and mode, and the new
--- one takes its place.
-abbrev pub PutsInstead : {S F : Type 0} → SystemGhosts S F → FolderGhosts S → FileGhosts F → S → F → List ℕ → List ℕ
-    → List ℕ → List ℕ → Result (Unit {0}) WholeFault → Type 0
-PutsInstead system folder below them held part path old bytes result = Continues (ChecksFile folder them path)
-    (Continues (WritesPart system below them part true bytes)
-    (SetsAside system folder them held part path old result) result) result
+-- written to a private file beside it and synced, the old file gets a second name and the new one its owner and mode,
+-- and the new one takes its place.
+abbrev pub PutsInstead : {S F : Type 0} → SystemGhosts S F → FolderGhosts S → FileGhosts F → S → S → F → List ℕ
+    → List ℕ → List ℕ → List ℕ → Result (Unit {0}) WholeFault → Type 0
+PutsInstead system folder below them later held part path old bytes result =
+    (free : Result (Unit {0}) WholeFault) × ChecksFile folder them path free × Then them later free
+    (UsesPart system folder below them later part true bytes
+    (λ made written. SetsAside system folder below made later written held part path old result) result) result
 
 -- likewise, with the names that the files beside it get; or there is no memory for them
-abbrev pub Replaces : {S F : Type 0} → SystemGhosts S F → FolderGhosts S → FileGhosts F → S → F → List ℕ → List ℕ
+abbrev pub Replaces : {S F : Type 0} → SystemGhosts S F → FolderGhosts S → FileGhosts F → S → S → F → List ℕ → List ℕ
     → Result (Unit {0}) WholeFault → Type 0
-Replaces system folder below them held path bytes result =
-    (result ≡ Err fault.NoMemory)
-    ⊎ PutsInstead system folder below them held (path ++ codes ".part") path (path ++ codes ".old") bytes result
+Replaces system folder below them later held path bytes result = LacksMemory them later result
+    ⊎ PutsInstead system folder below them later held (path ++ codes ".part") path (path ++ codes ".old") bytes result

@@ -106,20 +106,21 @@ fn at_copy<'a>(path: &'a str, answer: Result<(), WholeFault>) -> Result<Finding,
 // Puts a file with these bytes at a path: where none is, or in place of one that no program has open. Nothing of that
 // one is read, so that a file on a damaged disk gives way too.
 fn put<'a, S: FileSystem + Folder + AllocGlobal>(
-    system: &S,
+    system: &mut S,
     path: &'a str,
     bytes: &[u8],
     replaces: bool,
 ) -> Result<Finding, Fault<'a>>
-    ensures { PutsBack S.FileSystem S.Folder ⟦<S::File as BlockFile>⟧ system.now path.entry.now bytes.now replaces
-        result }
+    ensures { PutsBack S.FileSystem S.Folder ⟦<S::File as BlockFile>⟧ system.old system.new path.entry.now bytes.now
+        replaces result }
 {
+    let alloc = system.alloc();
     if !replaces {
-        return at_copy(path, put_new(system.alloc(), system, path, bytes));
+        return at_copy(path, put_new(alloc, system, path, bytes));
     }
     match lock_totals(system, path, false) {
         Ok(held) => {
-            let answer = replace(system.alloc(), system, held.file(), path, bytes);
+            let answer = replace(alloc, system, held.file(), path, bytes);
             held.close();
             at_copy(path, answer)
         }
@@ -129,13 +130,13 @@ fn put<'a, S: FileSystem + Folder + AllocGlobal>(
 
 // Puts the bytes of the totals file at one path to another path, if they are sound.
 fn copy_bytes<'a, S: FileSystem + Folder + AllocGlobal>(
-    system: &S,
+    system: &mut S,
     from: &'a str,
     bytes: &[u8],
     to: &'a str,
     replaces: bool,
 ) -> Result<Finding, Fault<'a>>
-    ensures { CopiesTo S.FileSystem S.Folder ⟦<S::File as BlockFile>⟧ system.now from.entry.now to.entry.now
+    ensures { CopiesTo S.FileSystem S.Folder ⟦<S::File as BlockFile>⟧ system.old system.new from.entry.now to.entry.now
         replaces bytes.now result }
 {
     match check_sound(system.alloc(), bytes) {
@@ -152,11 +153,11 @@ fn copy_bytes<'a, S: FileSystem + Folder + AllocGlobal>(
 /// `File` if it can't be read, or changed from each reading to the next; `Totals` if it isn't sound; `Whole` if the
 /// copy can't be made, or a file is there.
 pub(crate) fn back_up<'a, S: FileSystem + Folder + AllocGlobal>(
-    system: &S,
+    system: &mut S,
     from: &'a str,
     to: &'a str,
 ) -> Result<Finding, Fault<'a>>
-    ensures { BacksUp S.FileSystem S.Folder ⟦<S::File as BlockFile>⟧ system.now from.entry.now to.entry.now
+    ensures { BacksUp S.FileSystem S.Folder ⟦<S::File as BlockFile>⟧ system.old system.new from.entry.now to.entry.now
         result }
 {
     match take_snapshot(system, from) {
@@ -173,12 +174,12 @@ pub(crate) fn back_up<'a, S: FileSystem + Folder + AllocGlobal>(
 /// `File` if one of them can't be read or is in use; `Totals` if the copy isn't sound; `Whole` if the file can't be
 /// made, or one is there.
 pub(crate) fn restore<'a, S: FileSystem + Folder + AllocGlobal>(
-    system: &S,
+    system: &mut S,
     from: &'a str,
     to: &'a str,
     replaces: bool,
 ) -> Result<Finding, Fault<'a>>
-    ensures { Restores S.FileSystem S.Folder ⟦<S::File as BlockFile>⟧ system.now from.entry.now to.entry.now
+    ensures { Restores S.FileSystem S.Folder ⟦<S::File as BlockFile>⟧ system.old system.new from.entry.now to.entry.now
         replaces result }
 {
     match read_totals(system, from) {
@@ -203,15 +204,16 @@ fn make_salvage(alloc: Global, bytes: &[u8]) -> Result<Salvaged, SurveyFault>
 
 // Makes a file of what was salvaged, and prints what was lost.
 fn put_salvaged<'a, S: FileSystem + Folder + AllocGlobal, W: Sink>(
-    system: &S,
+    system: &mut S,
     writer: &mut W,
     made: &Salvaged,
     to: &'a str,
 ) -> Result<Finding, Fault<'a>>
-    ensures { PutsSalvaged S.FileSystem S.Folder ⟦<S::File as BlockFile>⟧ system.now to.entry.now made.now
+    ensures { PutsSalvaged S.FileSystem S.Folder ⟦<S::File as BlockFile>⟧ system.old system.new to.entry.now made.now
         (output_of W.Sink writer.old) (output_of W.Sink writer.new) result }
 {
-    match put_new(system.alloc(), system, to, &made.bytes) {
+    let alloc = system.alloc();
+    match put_new(alloc, system, to, &made.bytes) {
         Ok(()) => print(writer, &made.lost),
         Err(cause) => Err(Fault::Whole { path: to, cause }),
     }
@@ -219,14 +221,14 @@ fn put_salvaged<'a, S: FileSystem + Folder + AllocGlobal, W: Sink>(
 
 // Makes sound totals of the bytes of damaged ones at a path.
 fn salvage_bytes<'a, S: FileSystem + Folder + AllocGlobal, W: Sink>(
-    system: &S,
+    system: &mut S,
     writer: &mut W,
     from: &'a str,
     bytes: &[u8],
     to: &'a str,
 ) -> Result<Finding, Fault<'a>>
-    ensures { SalvagesBytes S.FileSystem S.Folder ⟦<S::File as BlockFile>⟧ system.now from.entry.now to.entry.now
-        bytes.now (output_of W.Sink writer.old) (output_of W.Sink writer.new) result }
+    ensures { SalvagesBytes S.FileSystem S.Folder ⟦<S::File as BlockFile>⟧ system.old system.new from.entry.now
+        to.entry.now bytes.now (output_of W.Sink writer.old) (output_of W.Sink writer.new) result }
 {
     match make_salvage(system.alloc(), bytes) {
         Ok(made) => put_salvaged(system, writer, &made, to),
@@ -242,12 +244,12 @@ fn salvage_bytes<'a, S: FileSystem + Folder + AllocGlobal, W: Sink>(
 /// `File` if the damaged file can't be read or is in use; `Totals` if nothing can be had of it; `Whole` if the new file
 /// can't be made, or one is there; `Write` if the new file is there, but what was lost can't be written.
 pub(crate) fn salvage<'a, S: FileSystem + Folder + AllocGlobal, W: Sink>(
-    system: &S,
+    system: &mut S,
     writer: &mut W,
     from: &'a str,
     to: &'a str,
 ) -> Result<Finding, Fault<'a>>
-    ensures { Salvages S.FileSystem S.Folder ⟦<S::File as BlockFile>⟧ system.now from.entry.now to.entry.now
+    ensures { Salvages S.FileSystem S.Folder ⟦<S::File as BlockFile>⟧ system.old system.new from.entry.now to.entry.now
         (output_of W.Sink writer.old) (output_of W.Sink writer.new) result }
 {
     match read_totals(system, from) {
@@ -272,16 +274,19 @@ fn make_load(alloc: Global, text: &[u8]) -> Result<Vec<u8>, LoadFault>
 
 // Makes a totals file of the dump at a path, which has this text.
 fn load_text<'a, S: FileSystem + Folder + AllocGlobal>(
-    system: &S,
+    system: &mut S,
     from: &'a str,
     text: &[u8],
     to: &'a str,
 ) -> Result<Finding, Fault<'a>>
-    ensures { LoadsText S.FileSystem S.Folder ⟦<S::File as BlockFile>⟧ system.now from.entry.now to.entry.now
+    ensures { LoadsText S.FileSystem S.Folder ⟦<S::File as BlockFile>⟧ system.old system.new from.entry.now to.entry.now
         text.now result }
 {
     match make_load(system.alloc(), text) {
-        Ok(bytes) => at_copy(to, put_new(system.alloc(), system, to, &bytes)),
+        Ok(bytes) => {
+            let alloc = system.alloc();
+            at_copy(to, put_new(alloc, system, to, &bytes))
+        }
         Err(cause) => Err(Fault::Load { path: from, cause }),
     }
 }
@@ -300,11 +305,12 @@ fn unread<'a>(path: &'a str, cause: io::Error) -> Result<Finding, Fault<'a>>
 ///
 /// `File` if the dump can't be read; `Load` if it is none; `Whole` if the file can't be made, or one is there.
 pub(crate) fn load<'a, S: FileSystem + Folder + AllocGlobal>(
-    system: &S,
+    system: &mut S,
     from: &'a str,
     to: &'a str,
 ) -> Result<Finding, Fault<'a>>
-    ensures { Loads S.FileSystem S.Folder ⟦<S::File as BlockFile>⟧ system.now from.entry.now to.entry.now result }
+    ensures { Loads S.FileSystem S.Folder ⟦<S::File as BlockFile>⟧ system.old system.new from.entry.now to.entry.now
+        result }
 {
     match system.read(from) {
         Ok(text) => load_text(system, from, &text, to),

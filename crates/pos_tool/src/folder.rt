@@ -1,26 +1,36 @@
 //! What the program asks of folders.
 ghost use Rattle.std.specs.Prelude.{Bool, List, Option, Result, ℕ, ⊤};
 ghost use Rattle.std.specs.declared.io.Error.{Error};
+ghost use Rattle.pos_file.specs.Calls.{Call};
 ghost use Rattle.pos_tool.specs.Texts.{names_in};
 
+use pos_file::BlockFile;
 use std::os::unix::fs::{MetadataExt, chown};
 use std::rt::Files;
 use std::{fs, io};
 
-/// The folders of a file system, and the names in them. Contracts of functions over it say what is made of what it
-/// answers; what it answers itself is for each such type to say. Of the system's own no contract can say anything.
+/// The folders of a file system, and the names in them. Each call that changes a name leads from one state to the next,
+/// so that contracts of functions over a folder say in which order such calls are made, and that no others are. They
+/// say what is made of what a folder answers; what it answers itself is for each such type to say. Of the system's own
+/// no contract can say anything.
 pub trait Folder {
-    /// What giving a file a second name may answer.
-    ghost links: { Self → List ℕ → List ℕ → Result (Unit {0}) Error → Type 0 } = { λ _ _ _ _. ⊤ };
+    /// What giving a file a second name may answer, and lead to, by the calls that the file was asked before.
+    ghost links: { Self → Self → List Call → List ℕ → List ℕ → Result (Unit {0}) Error → Type 0 } =
+        { λ _ _ _ _ _ _. ⊤ };
 
-    /// What giving a file another name may answer.
-    ghost renames: { Self → List ℕ → List ℕ → Result (Unit {0}) Error → Type 0 } = { λ _ _ _ _. ⊤ };
+    /// What giving a file another name may answer, and lead to, by the calls that the file was asked before.
+    ghost renames: { Self → Self → List Call → List ℕ → List ℕ → Result (Unit {0}) Error → Type 0 } =
+        { λ _ _ _ _ _ _. ⊤ };
 
-    /// What taking a name away may answer.
-    ghost removes: { Self → List ℕ → Result (Unit {0}) Error → Type 0 } = { λ _ _ _. ⊤ };
+    /// What giving a file the name of an open one may answer, and lead to, by the calls that the two were asked before.
+    ghost replaces: { Self → Self → List Call → List Call → List ℕ → List ℕ → Result (Unit {0}) Error → Type 0 } =
+        { λ _ _ _ _ _ _ _. ⊤ };
 
-    /// What giving a file the owner and the mode of another one may answer.
-    ghost copies_rights: { Self → List ℕ → List ℕ → Result (Unit {0}) Error → Type 0 } = { λ _ _ _ _. ⊤ };
+    /// What taking a name away may answer, and lead to.
+    ghost removes: { Self → Self → List ℕ → Result (Unit {0}) Error → Type 0 } = { λ _ _ _ _. ⊤ };
+
+    /// What giving a file the owner and the mode of another one may answer, and lead to.
+    ghost copies_rights: { Self → Self → List ℕ → List ℕ → Result (Unit {0}) Error → Type 0 } = { λ _ _ _ _ _. ⊤ };
 
     /// What asking whether a name is free or a file's may answer.
     ghost admits: { Self → List ℕ → Result Bool Error → Type 0 } = { λ _ _ _. ⊤ };
@@ -28,37 +38,45 @@ pub trait Folder {
     /// What listing a folder may answer: the names in it, or none if the path is no folder's.
     ghost lists: { Self → List ℕ → Result (Option (List (List ℕ))) Error → Type 0 } = { λ _ _ _. ⊤ };
 
-    /// Gives the file at a path a second name, which isn't in use.
+    /// Gives an open file, which is at a path, a second name, which isn't in use.
     ///
     /// # Errors
     ///
     /// What the system says, also if the name is in use.
-    fn link(&self, from: &str, to: &str) -> io::Result<()>
-        ensures { links self.now from.now to.now result };
+    fn link<F: BlockFile>(&mut self, file: &F, from: &str, to: &str) -> io::Result<()>
+        ensures { links self.old self.new (F.calls file.now) from.now to.now result };
 
-    /// Gives the file at a path another name, in place of a file that has it.
+    /// Gives an open file, which is at a path, another name, in place of a file that has it.
     ///
     /// # Errors
     ///
     /// What the system says.
-    fn rename(&self, from: &str, to: &str) -> io::Result<()>
-        ensures { renames self.now from.now to.now result };
+    fn rename<F: BlockFile>(&mut self, file: &F, from: &str, to: &str) -> io::Result<()>
+        ensures { renames self.old self.new (F.calls file.now) from.now to.now result };
+
+    /// Gives an open file, which is at a path, the name of another open one, `held`, which loses it, but stays open.
+    ///
+    /// # Errors
+    ///
+    /// What the system says.
+    fn replace<F: BlockFile>(&mut self, file: &F, held: &F, from: &str, to: &str) -> io::Result<()>
+        ensures { replaces self.old self.new (F.calls file.now) (F.calls held.now) from.now to.now result };
 
     /// Takes a name away, and the file if it was its last one.
     ///
     /// # Errors
     ///
     /// What the system says.
-    fn remove(&self, path: &str) -> io::Result<()>
-        ensures { removes self.now path.now result };
+    fn remove(&mut self, path: &str) -> io::Result<()>
+        ensures { removes self.old self.new path.now result };
 
     /// Gives the file at `to` the owner, the group and the mode of the one at `from`.
     ///
     /// # Errors
     ///
     /// What the system says, as if the owner is another one than who runs the program, and that isn't root.
-    fn copy_rights(&self, from: &str, to: &str) -> io::Result<()>
-        ensures { copies_rights self.now from.now to.now result };
+    fn copy_rights(&mut self, from: &str, to: &str) -> io::Result<()>
+        ensures { copies_rights self.old self.new from.now to.now result };
 
     /// Returns whether a name is free, or that of a file: not of a link, a folder, a pipe or a device.
     ///
@@ -78,19 +96,29 @@ pub trait Folder {
 }
 
 impl<R: Files + AllocGlobal + Clone + Drop> Folder for R {
-    fn link(&self, from: &str, to: &str) -> io::Result<()> {
+    fn link<F: BlockFile>(&mut self, _file: &F, from: &str, to: &str) -> io::Result<()> {
         fs::hard_link(self, from, to)
     }
 
-    fn rename(&self, from: &str, to: &str) -> io::Result<()> {
+    fn rename<F: BlockFile>(&mut self, _file: &F, from: &str, to: &str) -> io::Result<()> {
         fs::rename(self, from, to)
     }
 
-    fn remove(&self, path: &str) -> io::Result<()> {
+    fn replace<F: BlockFile>(
+        &mut self,
+        _file: &F,
+        _held: &F,
+        from: &str,
+        to: &str,
+    ) -> io::Result<()> {
+        fs::rename(self, from, to)
+    }
+
+    fn remove(&mut self, path: &str) -> io::Result<()> {
         fs::remove_file(self, path)
     }
 
-    fn copy_rights(&self, from: &str, to: &str) -> io::Result<()> {
+    fn copy_rights(&mut self, from: &str, to: &str) -> io::Result<()> {
         let wanted = fs::metadata(self, from)?;
         let found = fs::metadata(self, to)?;
         if found.uid() != wanted.uid() || found.gid() != wanted.gid() {

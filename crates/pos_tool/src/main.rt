@@ -40,9 +40,10 @@ fn main(rt: HostRuntime) -> ExitCode {
     let mut reader = ReaderSource::new(rt.stdin());
     let mut writer = WriterSink::new(rt.stdout());
     let words = read_words(&rt);
+    let mut system = rt.clone();
     perform(
         &SystemFiles::of(&rt),
-        &rt,
+        &mut system,
         &mut reader,
         terminals,
         &mut writer,

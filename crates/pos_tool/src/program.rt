@@ -168,7 +168,7 @@ fn perform_task<
     P: ProgressReport,
 >(
     files: &F,
-    system: &S,
+    system: &mut S,
     reader: &mut R,
     terminals: Terminals,
     writer: &mut W,
@@ -177,7 +177,7 @@ fn perform_task<
     task: Task<'a>,
 ) -> Result<Finding, Fault<'a>>
     ensures { DoesTask F.NamedFiles ⟦<F::File as BlockFile>⟧ ⟦<TotalsDisk<F::File> as Disk>⟧ ⟦<MemDisk as Disk>⟧
-        files.now S.FileSystem S.Folder ⟦<S::File as BlockFile>⟧ system.now pages.now terminals task.entry
+        files.now S.FileSystem S.Folder ⟦<S::File as BlockFile>⟧ system.old system.new pages.now terminals task.entry
         (streams_of R.Source reader.old W.Sink writer.old) (streams_of R.Source reader.new W.Sink writer.new) result }
 {
     let alloc = system.alloc();
@@ -248,7 +248,7 @@ fn perform_words<
     P: ProgressReport,
 >(
     files: &F,
-    system: &S,
+    system: &mut S,
     reader: &mut R,
     terminals: Terminals,
     writer: &mut W,
@@ -258,7 +258,8 @@ fn perform_words<
 ) -> Result<Finding, Fault<'a>>
     ensures { DoesAsAsked F.NamedFiles ⟦<F::File as BlockFile>⟧ ⟦<TotalsDisk<F::File> as Disk>⟧ ⟦<MemDisk as Disk>⟧
         files.now
-        S.FileSystem S.Folder ⟦<S::File as BlockFile>⟧ system.now pages.now terminals (map T.text words.entry.now)
+        S.FileSystem S.Folder ⟦<S::File as BlockFile>⟧ system.old system.new pages.now terminals
+        (map T.text words.entry.now)
         (streams_of R.Source reader.old W.Sink writer.old) (streams_of R.Source reader.new W.Sink writer.new) result }
 {
     match choice(system.alloc(), words, pages.version) {
@@ -302,7 +303,7 @@ pub fn perform<
     P: ProgressReport,
 >(
     files: &F,
-    system: &S,
+    system: &mut S,
     reader: &mut R,
     terminals: Terminals,
     writer: &mut W,
@@ -311,7 +312,7 @@ pub fn perform<
     words: Result<Vec<T>, ChoiceFault>,
 ) -> ExitCode
     ensures { Performs F.NamedFiles ⟦<F::File as BlockFile>⟧ ⟦<TotalsDisk<F::File> as Disk>⟧ ⟦<MemDisk as Disk>⟧
-        files.now S.FileSystem S.Folder ⟦<S::File as BlockFile>⟧ system.now pages.now terminals T.text words
+        files.now S.FileSystem S.Folder ⟦<S::File as BlockFile>⟧ system.old system.new pages.now terminals T.text words
         (streams_of R.Source reader.old W.Sink writer.old) (streams_of R.Source reader.new W.Sink writer.new)
         (exit_status result) }
 {

@@ -213,33 +213,30 @@ fn at_report<'a>(
 
 // Makes the report of scripts that were tried at a path.
 fn make_report<'a, S: FileSystem + Folder + AllocGlobal>(
-    system: &S,
+    system: &mut S,
     path: &'a str,
     trials: &[Trial<'_>],
     finding: Finding,
 ) -> Result<Finding, Fault<'a>>
-    ensures { MakesReport S.FileSystem S.Folder ⟦<S::File as BlockFile>⟧ system.now path.entry.now trials.now
-        finding result }
+    ensures { MakesReport S.FileSystem S.Folder ⟦<S::File as BlockFile>⟧ system.old system.new path.entry.now
+        trials.now finding result }
 {
-    let Ok(text) = junit(system.alloc(), trials) else {
+    let alloc = system.alloc();
+    let Ok(text) = junit(alloc, trials) else {
         return Err(Fault::NoMemory);
     };
-    at_report(
-        path,
-        finding,
-        put_report(system.alloc(), system, path, &text),
-    )
+    at_report(path, finding, put_report(alloc, system, path, &text))
 }
 
 // Prints what trying scripts found, and then makes a report of it, if a path for one is given.
 fn write_trials<'a, S: FileSystem + Folder + AllocGlobal, W: Sink>(
-    system: &S,
+    system: &mut S,
     writer: &mut W,
     trials: &[Trial<'_>],
     is_painted: bool,
     report: Option<&'a str>,
 ) -> Result<Finding, Fault<'a>>
-    ensures { WritesTrials S.FileSystem S.Folder ⟦<S::File as BlockFile>⟧ system.now is_painted report.entry
+    ensures { WritesTrials S.FileSystem S.Folder ⟦<S::File as BlockFile>⟧ system.old system.new is_painted report.entry
         trials.now (output_of W.Sink writer.old) (output_of W.Sink writer.new) result }
 {
     let finding = match print_trials(system.alloc(), writer, trials, is_painted) {
@@ -254,7 +251,7 @@ fn write_trials<'a, S: FileSystem + Folder + AllocGlobal, W: Sink>(
 
 // Tries the scripts at paths over a profile, and tells what was found.
 fn try_over<'a, S: FileSystem + Folder + AllocGlobal, W: Sink, P: ProgressReport>(
-    system: &S,
+    system: &mut S,
     writer: &mut W,
     progress: &mut P,
     profile: &Profile,
@@ -262,10 +259,12 @@ fn try_over<'a, S: FileSystem + Folder + AllocGlobal, W: Sink, P: ProgressReport
     is_painted: bool,
     report: Option<&'a str>,
 ) -> Result<Finding, Fault<'a>>
-    ensures { TestsOver S.FileSystem S.Folder ⟦<S::File as BlockFile>⟧ system.now ⟦<MemDisk as Disk>⟧ profile.now
-        (texts paths.now) is_painted report.entry (output_of W.Sink writer.old) (output_of W.Sink writer.new) result }
+    ensures { TestsOver S.FileSystem S.Folder ⟦<S::File as BlockFile>⟧ system.old system.new ⟦<MemDisk as Disk>⟧
+        profile.now (texts paths.now) is_painted report.entry (output_of W.Sink writer.old)
+        (output_of W.Sink writer.new) result }
 {
-    let tried = try_scripts(system.alloc(), system, profile, paths, progress);
+    let alloc = system.alloc();
+    let tried = try_scripts(alloc, system, profile, paths, progress);
     progress.end();
     match tried {
         Ok(trials) => write_trials(system, writer, &trials, is_painted, report),
@@ -275,7 +274,7 @@ fn try_over<'a, S: FileSystem + Folder + AllocGlobal, W: Sink, P: ProgressReport
 
 // Tries the scripts that paths stand for over a profile, and tells what was found.
 fn try_profiled<'a, S: FileSystem + Folder + AllocGlobal, W: Sink, P: ProgressReport>(
-    system: &S,
+    system: &mut S,
     writer: &mut W,
     progress: &mut P,
     profile: &Profile,
@@ -283,7 +282,7 @@ fn try_profiled<'a, S: FileSystem + Folder + AllocGlobal, W: Sink, P: ProgressRe
     is_painted: bool,
     report: Option<&'a str>,
 ) -> Result<Finding, Fault<'a>>
-    ensures { TestsProfiled S.FileSystem S.Folder ⟦<S::File as BlockFile>⟧ system.now ⟦<MemDisk as Disk>⟧
+    ensures { TestsProfiled S.FileSystem S.Folder ⟦<S::File as BlockFile>⟧ system.old system.new ⟦<MemDisk as Disk>⟧
         profile.now paths.entry.now is_painted report.entry (output_of W.Sink writer.old)
         (output_of W.Sink writer.new) result }
 {
@@ -298,7 +297,7 @@ fn try_profiled<'a, S: FileSystem + Folder + AllocGlobal, W: Sink, P: ProgressRe
 // Tries the scripts that paths stand for over the profile at a path, the built-in one if none is given.
 fn try_painted<'a, F: NamedFiles, S: FileSystem + Folder + AllocGlobal, W: Sink, P: ProgressReport>(
     files: &F,
-    system: &S,
+    system: &mut S,
     writer: &mut W,
     progress: &mut P,
     paths: &[&'a str],
@@ -306,7 +305,7 @@ fn try_painted<'a, F: NamedFiles, S: FileSystem + Folder + AllocGlobal, W: Sink,
     is_painted: bool,
     report: Option<&'a str>,
 ) -> Result<Finding, Fault<'a>>
-    ensures { TestsPainted F.NamedFiles files.now S.FileSystem S.Folder ⟦<S::File as BlockFile>⟧ system.now
+    ensures { TestsPainted F.NamedFiles files.now S.FileSystem S.Folder ⟦<S::File as BlockFile>⟧ system.old system.new
         ⟦<MemDisk as Disk>⟧ paths.entry.now profile.entry is_painted report.entry (output_of W.Sink writer.old)
         (output_of W.Sink writer.new) result }
 {
@@ -335,7 +334,7 @@ pub(crate) fn try_paths<
     P: ProgressReport,
 >(
     files: &F,
-    system: &S,
+    system: &mut S,
     writer: &mut W,
     progress: &mut P,
     is_terminal: bool,
@@ -344,7 +343,7 @@ pub(crate) fn try_paths<
     report: Option<&'a str>,
     colour: Option<&'a str>,
 ) -> Result<Finding, Fault<'a>>
-    ensures { EndsTest F.NamedFiles files.now S.FileSystem S.Folder ⟦<S::File as BlockFile>⟧ system.now
+    ensures { EndsTest F.NamedFiles files.now S.FileSystem S.Folder ⟦<S::File as BlockFile>⟧ system.old system.new
         ⟦<MemDisk as Disk>⟧ is_terminal paths.entry.now profile.entry report.entry colour.entry
         (output_of W.Sink writer.old) (output_of W.Sink writer.new) result }
 {

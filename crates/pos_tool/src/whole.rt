@@ -1,8 +1,8 @@
 //! Files that appear whole or not at all.
 ghost use Rattle.std.specs.Prelude.{◌≡◌, ◌++◌, IfOk, string_bytes};
-ghost use Rattle.pos_tool.specs.Whole.{ChecksFile, ChecksReport, LinksPart, Puts, PutsInstead, PutsReport, RenamesOver};
-ghost use Rattle.pos_tool.specs.Whole.{RenamesPart, Replaces, SetsAside, Settles, WritesPart, WritesWhole, is_report};
-ghost use Rattle.pos_tool.specs.Whole.{to_make};
+ghost use Rattle.pos_tool.specs.Whole.{ChecksFile, ChecksReport, LinksPart, Puts, PutsInstead, PutsReport};
+ghost use Rattle.pos_tool.specs.Whole.{RenamesPart, Replaces, ReplacesOpen, SetsAside, Settles, WritesPart};
+ghost use Rattle.pos_tool.specs.Whole.{WritesWhole, is_report, to_make};
 
 use crate::folder::Folder;
 use pos_file::BlockFile;
@@ -89,53 +89,59 @@ fn write_whole<F: BlockFile>(file: &mut F, bytes: &[u8]) -> Result<(), WholeFaul
     }
 }
 
-// Makes a new file with these bytes, which may be its owner's alone. If that fails after it was made, it is removed
-// again.
+// Makes a new file with these bytes, which may be its owner's alone, and leaves it open. If that fails after it was
+// made, it is removed again.
 fn write_part<S: FileSystem + Folder>(
-    system: &S,
+    system: &mut S,
     part: &str,
     is_private: bool,
     bytes: &[u8],
-) -> Result<(), WholeFault>
-    ensures { WritesPart S.FileSystem ⟦<S::File as BlockFile>⟧ system.now part.now is_private bytes.now result }
+) -> Result<S::File, WholeFault>
+    ensures { WritesPart S.FileSystem S.Folder ⟦<S::File as BlockFile>⟧ system.old system.new part.now is_private
+        bytes.now result }
 {
     let mut file = match system.open(&options(), is_private, part) {
         Ok(file) => file,
         Err(cause) => return Err(WholeFault::Part(cause)),
     };
-    let written = write_whole(&mut file, bytes);
-    file.close();
-    match written {
-        Ok(()) => Ok(()),
+    match write_whole(&mut file, bytes) {
+        Ok(()) => Ok(file),
         Err(fault) => {
+            file.close();
             let _ = system.remove(part);
             Err(fault)
         }
     }
 }
 
-// Makes the name of a file that is there stay.
-fn settle<S: FileSystem>(system: &S, path: &str) -> Result<(), WholeFault>
-    ensures { Settles S.FileSystem system.now path.now result }
+// Makes the name of an open file stay.
+fn settle<S: FileSystem>(system: &S, file: &S::File, path: &str) -> Result<(), WholeFault>
+    ensures { Settles S.FileSystem system.now file.now path.now result }
 {
-    match sync_folder(system, path) {
+    match sync_folder(system, file, path) {
         Ok(()) => Ok(()),
         Err(cause) => Err(WholeFault::Unsynced(cause)),
     }
 }
 
-// Gives a file that is whole its name, and takes away the one that it was made with.
-fn link_part<S: FileSystem + Folder>(system: &S, part: &str, path: &str) -> Result<(), WholeFault>
-    ensures { LinksPart S.FileSystem S.Folder system.now part.now path.now result }
+// Gives an open file that is whole its name, and takes away the one that it was made with.
+fn link_part<S: FileSystem + Folder>(
+    system: &mut S,
+    file: &S::File,
+    part: &str,
+    path: &str,
+) -> Result<(), WholeFault>
+    ensures { LinksPart S.FileSystem S.Folder ⟦<S::File as BlockFile>⟧ system.old system.new file.now part.now path.now
+        result }
 {
-    if let Err(cause) = system.link(part, path) {
+    if let Err(cause) = system.link(file, part, path) {
         let _ = system.remove(part);
         return Err(WholeFault::Link(cause));
     }
     if let Err(cause) = system.remove(part) {
         return Err(WholeFault::Left(cause));
     }
-    settle(system, path)
+    settle(system, file, path)
 }
 
 /// Makes a file with these bytes at a path where none is, for its owner alone. They are written to a file beside it and
@@ -146,15 +152,17 @@ fn link_part<S: FileSystem + Folder>(system: &S, part: &str, path: &str) -> Resu
 /// Those of [`WholeFault`]; `Link` also if a file is there.
 pub(crate) fn put_new<S: FileSystem + Folder>(
     alloc: Global,
-    system: &S,
+    system: &mut S,
     path: &str,
     bytes: &[u8],
 ) -> Result<(), WholeFault>
-    ensures { Puts S.FileSystem S.Folder ⟦<S::File as BlockFile>⟧ system.now path.now bytes.now result }
+    ensures { Puts S.FileSystem S.Folder ⟦<S::File as BlockFile>⟧ system.old system.new path.now bytes.now result }
 {
     let part = beside(alloc, path, ".part")?;
-    write_part(system, &part, true, bytes)?;
-    link_part(system, &part, path)
+    let file = write_part(system, &part, true, bytes)?;
+    let answer = link_part(system, &file, &part, path);
+    file.close();
+    answer
 }
 
 // Checks that a file may take a name: the name is free, or a file's.
@@ -168,15 +176,21 @@ fn check_file<S: Folder>(system: &S, path: &str) -> Result<(), WholeFault>
     }
 }
 
-// Puts a whole file in the place of what has its name.
-fn rename_part<S: FileSystem + Folder>(system: &S, part: &str, path: &str) -> Result<(), WholeFault>
-    ensures { RenamesPart S.FileSystem S.Folder system.now part.now path.now result }
+// Puts an open file that is whole in the place of what has its name.
+fn rename_part<S: FileSystem + Folder>(
+    system: &mut S,
+    file: &S::File,
+    part: &str,
+    path: &str,
+) -> Result<(), WholeFault>
+    ensures { RenamesPart S.FileSystem S.Folder ⟦<S::File as BlockFile>⟧ system.old system.new file.now part.now
+        path.now result }
 {
-    if let Err(cause) = system.rename(part, path) {
+    if let Err(cause) = system.rename(file, part, path) {
         let _ = system.remove(part);
         return Err(WholeFault::Link(cause));
     }
-    settle(system, path)
+    settle(system, file, path)
 }
 
 // Whether bytes are those of a report, or none.
@@ -207,47 +221,54 @@ fn check_report<S: FileSystem>(system: &S, path: &str) -> Result<(), WholeFault>
 /// Those of [`WholeFault`].
 pub(crate) fn put_report<S: FileSystem + Folder>(
     alloc: Global,
-    system: &S,
+    system: &mut S,
     path: &str,
     bytes: &[u8],
 ) -> Result<(), WholeFault>
-    ensures { PutsReport S.FileSystem S.Folder ⟦<S::File as BlockFile>⟧ system.now path.now bytes.now result }
+    ensures { PutsReport S.FileSystem S.Folder ⟦<S::File as BlockFile>⟧ system.old system.new path.now bytes.now
+        result }
 {
     let part = beside(alloc, path, ".part")?;
     check_file(system, path)?;
     check_report(system, path)?;
-    write_part(system, &part, false, bytes)?;
-    rename_part(system, &part, path)
+    let file = write_part(system, &part, false, bytes)?;
+    let answer = rename_part(system, &file, &part, path);
+    file.close();
+    answer
 }
 
-// Puts a whole file in the place of an open one.
-fn rename_over<S: FileSystem + Folder>(
-    system: &S,
+// Puts an open file that is whole in the place of another open one, `held`.
+fn replace_open<S: FileSystem + Folder>(
+    system: &mut S,
+    file: &S::File,
     held: &S::File,
     part: &str,
     path: &str,
 ) -> Result<(), WholeFault>
-    ensures { RenamesOver S.FileSystem system.now held.now part.now path.now result }
+    ensures { ReplacesOpen S.FileSystem S.Folder ⟦<S::File as BlockFile>⟧ system.old system.new file.now held.now
+        part.now path.now result }
 {
-    if let Err(cause) = system.rename_over(held, part, path) {
+    if let Err(cause) = system.replace(file, held, part, path) {
         let _ = system.remove(part);
         return Err(WholeFault::Link(cause));
     }
-    settle(system, path)
+    settle(system, file, path)
 }
 
-// Keeps an open file under a second name, and then puts another one in its place, with its owner and mode. If that
-// fails, it loses the second name.
+// Keeps the open file `held` under a second name, and then puts another one in its place, with its owner and mode. If
+// that fails, it loses the second name.
 fn set_aside<S: FileSystem + Folder>(
-    system: &S,
+    system: &mut S,
+    file: &S::File,
     held: &S::File,
     part: &str,
     path: &str,
     old: &str,
 ) -> Result<(), WholeFault>
-    ensures { SetsAside S.FileSystem S.Folder system.now held.now part.now path.now old.now result }
+    ensures { SetsAside S.FileSystem S.Folder ⟦<S::File as BlockFile>⟧ system.old system.new file.now held.now part.now
+        path.now old.now result }
 {
-    if let Err(cause) = system.link(path, old) {
+    if let Err(cause) = system.link(held, path, old) {
         let _ = system.remove(part);
         return Err(WholeFault::Aside(cause));
     }
@@ -256,7 +277,7 @@ fn set_aside<S: FileSystem + Folder>(
         let _ = system.remove(old);
         return Err(WholeFault::Rights(cause));
     }
-    match rename_over(system, held, part, path) {
+    match replace_open(system, file, held, part, path) {
         Err(WholeFault::Link(cause)) => {
             let _ = system.remove(old);
             Err(WholeFault::Link(cause))
@@ -265,38 +286,41 @@ fn set_aside<S: FileSystem + Folder>(
     }
 }
 
-// Puts a file with these bytes in place of the open one at a path, by these names beside it: one for what is made, and
-// one for what it replaces.
+// Puts a file with these bytes in place of the open one at a path, `held`, by these names beside it: one for what is
+// made, and one for what it replaces.
 fn put_instead<S: FileSystem + Folder>(
-    system: &S,
+    system: &mut S,
     held: &S::File,
     part: &str,
     path: &str,
     old: &str,
     bytes: &[u8],
 ) -> Result<(), WholeFault>
-    ensures { PutsInstead S.FileSystem S.Folder ⟦<S::File as BlockFile>⟧ system.now held.now part.now path.now
-        old.now bytes.now result }
+    ensures { PutsInstead S.FileSystem S.Folder ⟦<S::File as BlockFile>⟧ system.old system.new held.now part.now
+        path.now old.now bytes.now result }
 {
     check_file(system, path)?;
-    write_part(system, part, true, bytes)?;
-    set_aside(system, held, part, path, old)
+    let file = write_part(system, part, true, bytes)?;
+    let answer = set_aside(system, &file, held, part, path, old);
+    file.close();
+    answer
 }
 
-/// Puts a file with these bytes in place of the open one at a path, which is kept beside it with `.old` at its end. It
-/// has the old one's owner and mode. Whatever happens, the whole old file or the whole new one is at the path.
+/// Puts a file with these bytes in place of the open one at a path, `held`, which is kept beside it with `.old` at its
+/// end. It has the old one's owner and mode. Whatever happens, the whole old file or the whole new one is at the path.
 ///
 /// # Errors
 ///
 /// Those of [`WholeFault`]; `Aside` also if a file with `.old` at its end is there.
 pub(crate) fn replace<S: FileSystem + Folder>(
     alloc: Global,
-    system: &S,
+    system: &mut S,
     held: &S::File,
     path: &str,
     bytes: &[u8],
 ) -> Result<(), WholeFault>
-    ensures { Replaces S.FileSystem S.Folder ⟦<S::File as BlockFile>⟧ system.now held.now path.now bytes.now result }
+    ensures { Replaces S.FileSystem S.Folder ⟦<S::File as BlockFile>⟧ system.old system.new held.now path.now bytes.now
+        result }
 {
     let part = beside(alloc, path, ".part")?;
     let old = beside(alloc, path, ".old")?;
