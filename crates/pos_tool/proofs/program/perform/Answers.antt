@@ -7,13 +7,15 @@ use Rattle.pos_tool.proofs.program.perform.Goals as goal
 pub returns-in-Err : goal.returns-in-Err
 returns-in-Err g c =
     let streams = streams_of g.R.Source c.args.reader.now g.W.Sink c.args.writer.now in
+    let system = c.args.system.now in
     let outcome = Err (fault.Words c.fault_of_unread.result) in
     record {
       outcome = outcome;
-      done = subst (λ words. DoesAsRead (DoesAsAsked g.F.NamedFiles g.F.File.BlockFile _ _ c.args.files.now
-          g.S.FileSystem g.S.Folder g.S.File.BlockFile c.args.system.now c.args.pages.now c.args.terminals)
-          g.T.AsStr.text words streams streams outcome) (sym c.in-Err.is) (
+      done = subst (λ words. DoesAsRead (λ asked. DoesAsAsked g.F.NamedFiles g.F.File.BlockFile _ _ c.args.files.now
+          g.S.FileSystem g.S.Folder g.S.File.BlockFile system system c.args.pages.now c.args.terminals asked streams
+          streams outcome) g.T.AsStr.text words system system streams streams outcome) (sym c.in-Err.is) (
             ap (λ why. Err (fault.Words why)) c.fault_of_unread.ensures,
+            refl,
             refl,
           );
       ends = c.end-in-Err.ensures;
