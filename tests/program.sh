@@ -231,7 +231,7 @@ told 'format of a link syncs the folder of its file before the file' far "$(sed 
 told 'format of a link syncs no other folder' 'far linked.disk' \
   "$(sed -n 's,.*<.*/\(.*\)>.*,\1,p' trace | sort -u | tr '\n' ' ' | sed 's/ $//')"
 meets 'a move whose write fails' pwrite64:error=EIO:when=2 4 \
-  'a read, a write or a sync failed while it was moved to layout 2: its files stay; restart the machine, and move it again' migrate --disk faulty.disk
+  'a read, a write or a sync failed while it was moved to layout 2: restart the machine, and move it again' migrate --disk faulty.disk
 meets 'files that are not read' pread64:error=EIO 4 "can't be read whole: check the device that it is on" \
   files --disk faulty.disk
 
@@ -263,7 +263,7 @@ truncate -s 327680 small.disk
 (trap '' XFSZ; ulimit -f 32; exec "$program" migrate --disk small.disk > out 2> err)
 told 'a move on a disk that takes no more: status' 4 $?
 told 'a move on a disk that takes no more: message' \
-  'pos_console: small.disk: a read, a write or a sync failed while it was moved to layout 2: its files stay; restart the machine, and move it again' \
+  'pos_console: small.disk: a read, a write or a sync failed while it was moved to layout 2: restart the machine, and move it again' \
   "$(cat err)"
 ends 'and once more' 0 '' migrate --disk small.disk
 

@@ -59,7 +59,7 @@ pub enum FileFault {
     NoMemoryToMove,
     /// A read, a write or a sync failed while its totals were moved to layout 2. It has them by one layout or the
     /// other.
-    #[error("a read, a write or a sync failed while it was moved to layout 2: its files stay; restart the machine, and move it again")]
+    #[error("a read, a write or a sync failed while it was moved to layout 2: restart the machine, and move it again")]
     Move,
     /// It isn't there, or can't be read.
     #[error("can't be read: {0}")]
