@@ -1,5 +1,5 @@
 -- How a file appears whole or not at all (docs/reference/tool.md, "backup").
-use Rattle.std.specs.Prelude.{◌≡◌, ◌⊎◌, ◌++◌, ◌∷◌, [], ℕ, List, length, true, false, Option, Some, None, Result, Ok}
+use Rattle.std.specs.Prelude.{◌≡◌, ◌⊎◌, ◌++◌, ◌∷◌, [], ℕ, List, length, true, false, Option, Some, None, Result, Ok, ⊤}
 use Rattle.std.specs.Prelude.{◌==◌, ◌||◌, ◌≢◌, Bool, Err, codes, if◌then◌else◌, nat_eq}
 use Rattle.std.specs.Fs.{new_options, with_create_new, with_write}
 use Rattle.std.specs.IoError.{error_kind}

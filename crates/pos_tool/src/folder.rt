@@ -15,16 +15,13 @@ use std::{fs, io};
 /// no contract can say anything.
 pub trait Folder {
     /// What giving a file a second name may answer, and lead to, by the calls that the file was asked before.
-    ghost links: { Self → Self → List Call → List ℕ → List ℕ → Result (Unit {0}) Error → Type 0 } =
-        { λ _ _ _ _ _ _. ⊤ };
+    ghost links: { Self → Self → List Call → List ℕ → List ℕ → Result (Unit {0}) Error → Type 0 } = { λ _ _ _ _ _ _. ⊤ };
 
     /// What giving a file another name may answer, and lead to, by the calls that the file was asked before.
-    ghost renames: { Self → Self → List Call → List ℕ → List ℕ → Result (Unit {0}) Error → Type 0 } =
-        { λ _ _ _ _ _ _. ⊤ };
+    ghost renames: { Self → Self → List Call → List ℕ → List ℕ → Result (Unit {0}) Error → Type 0 } = { λ _ _ _ _ _ _. ⊤ };
 
     /// What giving a file the name of an open one may answer, and lead to, by the calls that the two were asked before.
-    ghost replaces: { Self → Self → List Call → List Call → List ℕ → List ℕ → Result (Unit {0}) Error → Type 0 } =
-        { λ _ _ _ _ _ _ _. ⊤ };
+    ghost replaces: { Self → Self → List Call → List Call → List ℕ → List ℕ → Result (Unit {0}) Error → Type 0 } = { λ _ _ _ _ _ _ _. ⊤ };
 
     /// What taking a name away may answer, and lead to.
     ghost removes: { Self → Self → List ℕ → Result (Unit {0}) Error → Type 0 } = { λ _ _ _ _. ⊤ };
