@@ -15,3 +15,7 @@ abbrev pub names_in : {A B : Type 0} → Result (Option (Vec (String A) B)) Erro
     → Result (Option (List (List ℕ))) Error
 names_in (Ok names) = Ok (listed names)
 names_in (Err cause) = Err cause
+
+-- what a call of a folder answers that gives nothing back
+abbrev pub Done : Type 0
+Done = Result (Unit {0}) Error

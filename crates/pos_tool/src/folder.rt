@@ -2,7 +2,7 @@
 ghost use Rattle.std.specs.Prelude.{Bool, List, Option, Result, ℕ, ⊤};
 ghost use Rattle.std.specs.declared.io.Error.{Error};
 ghost use Rattle.pos_file.specs.Calls.{Call};
-ghost use Rattle.pos_tool.specs.Texts.{names_in};
+ghost use Rattle.pos_tool.specs.Texts.{Done, names_in};
 
 use pos_file::BlockFile;
 use std::os::unix::fs::{MetadataExt, chown};
@@ -15,19 +15,19 @@ use std::{fs, io};
 /// no contract can say anything.
 pub trait Folder {
     /// What giving a file a second name may answer, and lead to, by the calls that the file was asked before.
-    ghost links: { Self → Self → List Call → List ℕ → List ℕ → Result (Unit {0}) Error → Type 0 } = { λ _ _ _ _ _ _. ⊤ };
+    ghost links: { Self → Self → List Call → List ℕ → List ℕ → Done → Type 0 } = { λ _ _ _ _ _ _. ⊤ };
 
     /// What giving a file another name may answer, and lead to, by the calls that the file was asked before.
-    ghost renames: { Self → Self → List Call → List ℕ → List ℕ → Result (Unit {0}) Error → Type 0 } = { λ _ _ _ _ _ _. ⊤ };
+    ghost renames: { Self → Self → List Call → List ℕ → List ℕ → Done → Type 0 } = { λ _ _ _ _ _ _. ⊤ };
 
     /// What giving a file the name of an open one may answer, and lead to, by the calls that the two were asked before.
-    ghost replaces: { Self → Self → List Call → List Call → List ℕ → List ℕ → Result (Unit {0}) Error → Type 0 } = { λ _ _ _ _ _ _ _. ⊤ };
+    ghost replaces: { Self → Self → List Call → List Call → List ℕ → List ℕ → Done → Type 0 } = { λ _ _ _ _ _ _ _. ⊤ };
 
     /// What taking a name away may answer, and lead to.
-    ghost removes: { Self → Self → List ℕ → Result (Unit {0}) Error → Type 0 } = { λ _ _ _ _. ⊤ };
+    ghost removes: { Self → Self → List ℕ → Done → Type 0 } = { λ _ _ _ _. ⊤ };
 
     /// What giving a file the owner and the mode of another one may answer, and lead to.
-    ghost copies_rights: { Self → Self → List ℕ → List ℕ → Result (Unit {0}) Error → Type 0 } = { λ _ _ _ _ _. ⊤ };
+    ghost copies_rights: { Self → Self → List ℕ → List ℕ → Done → Type 0 } = { λ _ _ _ _ _. ⊤ };
 
     /// What asking whether a name is free or a file's may answer.
     ghost admits: { Self → List ℕ → Result Bool Error → Type 0 } = { λ _ _ _. ⊤ };
