@@ -10,9 +10,12 @@ returns g c =
     let named = subst (λ (part : List ℕ). RenamesPart g.S.FileSystem g.S.Folder g.S.File.BlockFile
     c.write_part.new.system c.rename_part-answer.new.system c.in_ok-file.file part c.args.path.now
     c.rename_part-answer.result) (c.deref-2.ensures ∙ c.in_ok-part.ensures) c.rename_part-answer.ensures in
-    let used = (Ok c.in_ok-file.file, c.write_part.new.system, written, (named, c.close.ensures)) in
     inr (
       Ok c.in_ok-check_file.field-0,
       c.in_ok-check_file.ensures,
-      (Ok c.in_ok-check_report.field-0, c.in_ok-check_report.ensures, used),
+      (
+        Ok c.in_ok-check_report.field-0,
+        c.in_ok-check_report.ensures,
+        (Ok c.in_ok-file.file, c.write_part.new.system, written, (named, c.close.ensures)),
+      ),
     )
