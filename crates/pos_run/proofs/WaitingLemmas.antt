@@ -5,10 +5,8 @@ use Rattle.pos_run.proofs.Common.{append-nil, append_assoc, arith, drop, given_a
 use Rattle.pos_run.proofs.Common.{refl, runs_from, subst, sym, true, false, ℕ, ◌++◌, ◌<◌, ◌≤◌, ◌∙◌, ◌∷◌, ◌≡◌, ◌⊎◌}
 use Rattle.pos_run.proofs.Common.{codes, get_or}
 use Rattle.pos_run.proofs.Common.{suc, false≢true}
-use Rattle.std.proofs.Common.{take, ⊎_elim}
-use Rattle.std.proofs.lemmas.List.{take-append-drop}
+use Rattle.std.proofs.Common.{inl, inr, take, ⊎_elim}
 use Rattle.pos_streams.specs.Transfers.{given_to}
-use Rattle.pos_run.specs.Streams.{WritesFront}
 use Rattle.pos_run.specs.declared.line_texts.LineText.{LineText}
 use Rattle.pos_run.proofs.LineLemmas.{prints_join}
 use Rattle.pos_run.proofs.WantingLemmas.{one_wanting}
@@ -31,7 +29,7 @@ use Rattle.pos_drive.specs.declared.courses.Progress.{Progress}
 use Rattle.pos_drive.specs.declared.courses.Progress.TheVariants as progress
 use Rattle.pos_script.specs.Lines.{lines_of}
 use Rattle.pos_script.specs.Text.{printed}
-use Rattle.pos_script.specs.Writing.{IsCut}
+use Rattle.pos_script.specs.Writing.{IsCut, Writes}
 use Rattle.pos_store.proofs.RecoveryLemmas.{both_keep}
 use Rattle.pos_store.specs.Standing.{StandsForOneOf}
 use Rattle.pos_streams.specs.Streams.{given_with}
@@ -39,7 +37,7 @@ use Rattle.pos_streams.specs.declared.sink.WriteFault.{WriteFault}
 use Rattle.pos_totals.specs.Views.{TotalsView}
 use Rattle.pos_run.specs.Runs.{StopsAt}
 use Rattle.pos_run.specs.Transcript.{LineBecomes, LinesPrint, Outcome, Transcript}
-use Rattle.pos_run.specs.WaitingLines.{CarriesOn, Cuts, CutsOff, GivesFront, Holds, IsNotHeld, IsReady, LineLeaves}
+use Rattle.pos_run.specs.WaitingLines.{CarriesOn, Cuts, CutsOff, Holds, IsNotHeld, IsReady, LacksMemory, LineLeaves}
 use Rattle.pos_run.specs.WaitingLines.{RunsLines, RunsAndWrites, lines_in, text_of}
 use Rattle.pos_run.specs.declared.waiting_lines.LineProgress.{LineProgress}
 
@@ -49,33 +47,23 @@ some_carried lines line none =
     let count : length (lines ++ line ∷ []) ≡ 0 = ap length none in
     omega (arith, count, length-append lines (line ∷ []))
 
--- a front of bytes was given, where they were written as far as could be
-pub wrote_front : (old new : Given) {bytes : List ℕ} (count : ℕ) (result : Result (Unit {0}) WriteFault)
-    → WritesFront old bytes count result new → GivesFront old new bytes
-wrote_front old new {bytes} count (Ok u) (whole, wrote) =
-    (bytes, [], sym (append-nil bytes), ap (λ (g : Given). g.bytes) wrote)
-wrote_front old new {bytes} count (Err fault) failed =
-    (take count bytes, drop count bytes, sym (take-append-drop count bytes), ap (λ (g : Given). g.bytes) failed)
-
-pub wrote_all : (old : Given) {new : Given} (bytes : List ℕ) (count : ℕ) (result : Result (Unit {0}) WriteFault)
-    {u : Unit {0}} → result ≡ Ok u → WritesFront old bytes count result new → Appends old new bytes
-wrote_all old bytes count (Ok u) is (whole, wrote) = wrote
-wrote_all old bytes count (Err fault) is failed = grind (arith, is)
-
--- so was one of more bytes
-pub front_of : (old new : Given) {bytes : List ℕ} (more : List ℕ) → GivesFront old new bytes
-    → GivesFront old new (bytes ++ more)
-front_of old new more (front, back, is, gave) =
-    (front, back ++ more, ap (λ l. l ++ more) is ∙ append_assoc front back more, gave)
-
-pub front_then : (old : Given) {mid : Given} (new : Given) (bytes : List ℕ) {more : List ℕ} → Appends old mid bytes
-    → GivesFront mid new more → GivesFront old new (bytes ++ more)
-front_then old new bytes first (front, back, is, gave) = (
-  bytes ++ front,
-  back,
-  ap (λ l. bytes ++ l) is ∙ sym (append_assoc bytes front back),
-  gave ∙ ap (λ (g : Given). g.bytes ++ front) first ∙ append_assoc old.bytes bytes front,
+-- a text that begins with one that was cut is cut too
+pub cut_more : (old new : Given) {text : List ℕ} (more : List ℕ) → IsCut old new text → IsCut old new (text ++ more)
+cut_more old new more (front, back, is, some, failed) = (
+  front,
+  back ++ more,
+  ap (λ l. l ++ more) is ∙ append_assoc front back more,
+  omega (arith, some, length-append back more),
+  failed,
 )
+
+-- what there was memory for of a text was written as far as could be
+cut_short : (old new : Given) {text : List ℕ} (front back : List ℕ) (result : Result (Unit {0}) WriteFault)
+    → text ≡ front ++ back → 8 ≤ length front → 0 < length back → Writes old new front result
+    → IsCut old new text ⊎ LacksMemory old new text
+cut_short old new front back (Ok u) is long some wrote = inr (front, back, is, long, some, wrote)
+cut_short old new front back (Err fault) is long some cut =
+    inl (subst (IsCut old new) (sym is) (cut_more old new back cut))
 
 -- a text that is short, and one that isn't
 pub short_text : (text : LineText) → text.count < 8 → (text_of text).bytes ≡ take text.count text.first
@@ -173,7 +161,7 @@ module _ {D P : Type 0} (bound : DiskGhosts D) (peripherals : Ghosts P) where
   cuts_stay {a} h stays alone = record {
     text = h.text;
     runs = runs_stay a h.runs stays;
-    front = h.front;
+    cut = h.cut;
     kept = kept_stay a h.kept stays;
     tally = alone_join h.tally alone;
   }
@@ -277,10 +265,11 @@ module _ {D P : Type 0} (bound : DiskGhosts D) (peripherals : Ghosts P) where
       (line : List ℕ) (is_one : lines ≡ line ∷ []) (start before after now : Given) (empty : start ≡ given_with [] 0)
       (far : Progress) where
     -- a line whose text failed
-    pub cuts_failed : Stops (IsRun bound peripherals) a s lines start now left b
-        → (now.faults ≡ 0) ⊎ (8 ≤ length now.bytes) → GivesFront before after now.bytes
+    pub cuts_failed : (result : Result (Unit {0}) WriteFault)
+        → Stops (IsRun bound peripherals) a s lines start now left b → (now.faults ≡ 0) ⊎ (8 ≤ length now.bytes)
+        → Writes before after now.bytes result
         → (cuts : Cuts bound peripherals a s line before after b left) × IsNotHeld far cuts.text
-    cuts_failed h fails (given, held, split, written) =
+    cuts_failed result h fails writes =
         let stops : Stops (IsRun bound peripherals) a s (line ∷ []) (given_with [] 0) now left b =
         subst (λ g. Stops (IsRun bound peripherals) a s (line ∷ []) g now left b) empty
         (subst (λ (ls : List (List ℕ)). Stops (IsRun bound peripherals) a s ls start now left b) is_one h) in
@@ -293,12 +282,8 @@ module _ {D P : Type 0} (bound : DiskGhosts D) (peripherals : Ghosts P) where
           record {
             text = text;
             runs = runs_lines only done;
-            front = (
-              given,
-              held ++ back,
-              is ∙ ap (λ l. l ++ back) (sym bytes ∙ split) ∙ append_assoc given held back,
-              written,
-            );
+            cut = cut_short before after front back result is long some
+                (subst (λ l. Writes before after l result) bytes writes);
             kept = run_keeps a b done.steps done.run;
             tally = alone_same (run_tally bound peripherals a b done.steps done.run);
           },
@@ -327,14 +312,14 @@ module _ {D P : Type 0} (bound : DiskGhosts D) (peripherals : Ghosts P) where
         subst (IsNotHeld far) bytes_are not_held,
       )
 
-      -- a line of whose text a front was given
-      pub cuts_given : GivesFront before after now.bytes → IsNotHeld far now.bytes
+      -- a line at whose text a write failed
+      pub cuts_given : IsCut before after now.bytes → IsNotHeld far now.bytes
           → (cuts : Cuts bound peripherals a s line before after b left) × IsNotHeld far cuts.text
-      cuts_given front not_held = (
+      cuts_given cut not_held = (
         record {
           text = done.text;
           runs = runs_lines only ran;
-          front = subst (GivesFront before after) bytes_are front;
+          cut = inl (subst (IsCut before after) bytes_are cut);
           kept = run_keeps a b ran.steps ran.run;
           tally = alone_same (run_tally bound peripherals a b ran.steps ran.run);
         },

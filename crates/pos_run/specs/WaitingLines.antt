@@ -1,6 +1,6 @@
 -- Lines that wait for what a host reports.
 use Rattle.std.specs.Prelude.{◌≡◌, ◌≢◌, ◌++◌, ◌∷◌, [], ℕ, Bool, true, false, List, Result, Ok, Err, codes}
-use Rattle.std.specs.Prelude.{if◌then◌else◌, nat_lt, take}
+use Rattle.std.specs.Prelude.{if◌then◌else◌, nat_lt, take, ◌<◌, ◌≤◌, ◌⊎◌, length}
 use Rattle.std.specs.declared.vec.Vec.{Vec}
 use Rattle.pos_counter.specs.Counters.{RunsFrom}
 use Rattle.pos_counter.specs.HostTallies.{LeavesHostAlone}
@@ -14,6 +14,7 @@ use Rattle.pos_drive.specs.declared.courses.Course.{Course}
 use Rattle.pos_drive.specs.declared.courses.Progress.{Progress}
 use Rattle.pos_drive.specs.declared.courses.Progress.TheVariants as progress
 use Rattle.pos_script.specs.Lines.{lines_of}
+use Rattle.pos_script.specs.Writing.{IsCut}
 use Rattle.pos_service.specs.declared.peripheral.Peripheral.{Ghosts}
 use Rattle.pos_store.specs.Standing.{Standing}
 use Rattle.pos_streams.specs.Streams.{Appends, Given, given_with}
@@ -75,9 +76,10 @@ RunsLines bound peripherals old session lines text new left =
     (standing : List Standing) → Leaves bound old.totals standing
     → RunsLinesFrom bound peripherals standing old session lines text new left
 
--- a front of a text was given
-abbrev pub GivesFront : Given → Given → List ℕ → Type 0
-GivesFront old new text = (front : List ℕ) × (back : List ℕ) × (text ≡ front ++ back) × (new.bytes ≡ old.bytes ++ front)
+-- memory ran out for a text: eight bytes of it or more were given, but not all, and nothing failed
+abbrev pub LacksMemory : Given → Given → List ℕ → Type 0
+LacksMemory old new text = (front : List ℕ) × (back : List ℕ) × (text ≡ front ++ back) × (8 ≤ length front)
+    × (0 < length back) × Appends old new front
 
 -- The machine has run by lines, and their text was given.
 pub record RunsAndWrites {D P : Type 0} (bound : DiskGhosts D) (peripherals : Ghosts P) (old : Counter D P)
@@ -89,12 +91,12 @@ pub record RunsAndWrites {D P : Type 0} (bound : DiskGhosts D) (peripherals : Gh
   pub kept : KeepsDisk bound old.totals.disk new.totals.disk
   pub tally : LeavesHostAlone old.tally new.tally
 
--- The machine has run by a line, and a front of its text was given.
+-- The machine has run by a line. Of its text a front was given, but not all, as a write failed or memory ran out.
 pub record Cuts {D P : Type 0} (bound : DiskGhosts D) (peripherals : Ghosts P) (old : Counter D P) (session : Session)
     (line : List ℕ) (before after : Given) (new : Counter D P) (left : Session) : Type 0 where
   pub text : List ℕ
   pub runs : RunsLines bound peripherals old session (line ∷ []) text new left
-  pub front : GivesFront before after text
+  pub cut : IsCut before after text ⊎ LacksMemory before after text
   pub kept : KeepsDisk bound old.totals.disk new.totals.disk
   pub tally : LeavesHostAlone old.tally new.tally
 
@@ -145,7 +147,7 @@ pub record CarriesOn {A D P : Type 0} (bound : DiskGhosts D) (peripherals : Ghos
   pub unforgotten : carried ≡ [] → left_texts ≢ [] → new.tally ≡ old.tally
 
 -- From the front on, lines are carried out, and what they print is given, once each. Then one line is carried out, and
--- a front of what it prints is given. The others are left.
+-- a front of what it prints is given, but not all. The others are left.
 pub record CutsOff {A D P : Type 0} (bound : DiskGhosts D) (peripherals : Ghosts P) (old : Counter D P)
     (session : Session) (texts left_texts : List (Vec ℕ A)) (before after : Given) (new : Counter D P) (left : Session)
     : Type 0 where

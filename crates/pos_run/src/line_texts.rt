@@ -1,9 +1,10 @@
 //! What a line prints, until it is known whether the line waits for the host.
-ghost use Rattle.std.specs.Prelude.{◌≡◌, ◌≤◌, ◌⊎◌, [], OnOk, bytes_eq, codes, length};
-ghost use Rattle.pos_streams.specs.Streams.{Appends, given_with};
-ghost use Rattle.pos_run.specs.WaitingLines.{GivesFront, text_of};
+ghost use Rattle.std.specs.Prelude.{◌≡◌, ◌≤◌, ◌⊎◌, [], bytes_eq, codes, length};
+ghost use Rattle.pos_run.specs.WaitingLines.{text_of};
+ghost use Rattle.pos_script.specs.Writing.{Writes};
+ghost use Rattle.pos_streams.specs.Streams.{given_with};
 
-use crate::answers::write_front;
+use pos_script::write_bytes;
 use pos_streams::{MemorySink, Sink, WriteFault};
 use std::alloc::Global;
 
@@ -60,18 +61,17 @@ impl LineText {
     ///
     /// # Errors
     ///
-    /// [`WriteFault`] if a write failed. Then a front of it was written.
+    /// [`WriteFault`] if a write failed. Then only a front of it was written.
     pub(crate) fn write_to<W: Sink>(&self, writer: &mut W) -> Result<(), WriteFault>
-        ensures front { GivesFront (W.given writer.old) (W.given writer.new) (text_of self.now).bytes }
-        ensures all { OnOk result (Appends (W.given writer.old) (W.given writer.new) (text_of self.now).bytes) }
+        ensures { Writes (W.given writer.old) (W.given writer.new) (text_of self.now).bytes result }
     {
         if self.count < SHORT {
-            return write_front(writer, &self.first[..self.count]).1;
+            return write_bytes(writer, &self.first[..self.count]);
         }
-        let Ok(()) = write_front(writer, self.first.as_slice()).1 else {
+        let Ok(()) = write_bytes(writer, self.first.as_slice()) else {
             return Err(WriteFault);
         };
-        write_front(writer, self.rest.as_slice()).1
+        write_bytes(writer, self.rest.as_slice())
     }
 }
 

@@ -55,7 +55,8 @@ fn held_by(progress: Progress, text: &LineText) -> LineProgress
 ///
 /// # Errors
 ///
-/// [`WriteFault`] if a write failed. The line was run, and a front of what it prints was written.
+/// [`WriteFault`] if a write failed, or if memory ran out for what the line prints. The line was run, and a front of
+/// what it prints was written, but not all.
 fn run_held<W: Sink, D: Disk, P: Awaits + Ends>(
     alloc: Global,
     line: &[u8],
@@ -94,7 +95,8 @@ fn run_held<W: Sink, D: Disk, P: Awaits + Ends>(
 ///
 /// # Errors
 ///
-/// [`WriteFault`] if a write failed. The line was run, and a front of what it prints was written.
+/// [`WriteFault`] if a write failed, or if memory ran out for what the line prints. The line was run, and a front of
+/// what it prints was written, but not all.
 fn run_settled<W: Sink, D: Disk, P: Awaits + Ends>(
     alloc: Global,
     line: &[u8],
@@ -132,8 +134,8 @@ fn run_settled<W: Sink, D: Disk, P: Awaits + Ends>(
 ///
 /// # Errors
 ///
-/// [`WriteFault`] if a write failed. The line at which it failed was run and is removed, and a front of what it
-/// prints was written.
+/// [`WriteFault`] if a write failed, or if memory ran out for what a line prints. That line was run and is removed. A
+/// front of what it prints was written, but not all: eight bytes at least, if no write failed.
 pub fn carry_on<W: Sink, D: Disk, P: Awaits + Ends>(
     alloc: Global,
     lines: &mut VecDeque<Vec<u8>>,

@@ -13,8 +13,8 @@ returns-in_default-clause-line g c line_in one = cuts_failed g.D.Disk g.P.Periph
     (session_of g.P.Peripheral c.run_given_lines.new.names c.run_given_lines.new.spares)
     (lines_of c.args.line.now) line_in one (text_of c.new-text.result) (g.W.Sink.given c.args.writer.now)
     (g.W.Sink.given c.write_to.new.writer) (text_of c.run_given_lines.new.writer) c.new-text.ensures
-    (progress_in g.P.Awaits.course c.run_given_lines.new.counter) c.in_default.ensures.lines c.fails_only_long.ensures
-    c.write_to.ensures.front
+    (progress_in g.P.Awaits.course c.run_given_lines.new.counter) c.write_to.result c.in_default.ensures.lines
+    c.fails_only_long.ensures c.write_to.ensures
 
 pub returns-in-Ok-write_to-clause-line : goal.returns-in-Ok-write_to-clause-line
 returns-in-Ok-write_to-clause-line g c line_in one = tells_given g.D.Disk g.P.Peripheral g.met.D.Disk.only_now
@@ -22,7 +22,7 @@ returns-in-Ok-write_to-clause-line g c line_in one = tells_given g.D.Disk g.P.Pe
     (session_of g.P.Peripheral c.run_given_lines.new.names c.run_given_lines.new.spares)
     (lines_of c.args.line.now) line_in one (text_of c.new-text.result) (g.W.Sink.given c.args.writer.now)
     (g.W.Sink.given c.write_to-in-Printed.new.writer) (text_of c.run_given_lines.new.writer) c.new-text.ensures
-    (progress_in g.P.Awaits.course c.run_given_lines.new.counter) c.in-Ok.ensures.lines c.in-Ok-write_to.ensures.all
+    (progress_in g.P.Awaits.course c.run_given_lines.new.counter) c.in-Ok.ensures.lines c.in-Ok-write_to.ensures
     (subst (λ (p : Progress). IsNotHeld p (text_of c.run_given_lines.new.writer).bytes) c.progress.ensures
     c.in-Printed.ensures)
 
@@ -33,7 +33,7 @@ returns-in-Printed-clause-line g c line_in one = cuts_given g.D.Disk g.P.Periphe
     (lines_of c.args.line.now) line_in one (text_of c.new-text.result) (g.W.Sink.given c.args.writer.now)
     (g.W.Sink.given c.write_to-in-Printed.new.writer) (text_of c.run_given_lines.new.writer) c.new-text.ensures
     (progress_in g.P.Awaits.course c.run_given_lines.new.counter) c.in-Ok.ensures.lines
-    c.write_to-in-Printed.ensures.front (subst (λ (p : Progress). IsNotHeld p
+    c.in-Err.ensures (subst (λ (p : Progress). IsNotHeld p
     (text_of c.run_given_lines.new.writer).bytes) c.progress.ensures c.in-Printed.ensures)
 
 pub returns-in-Waits-clause-line : goal.returns-in-Waits-clause-line

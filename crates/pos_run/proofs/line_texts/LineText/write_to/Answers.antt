@@ -1,33 +1,32 @@
-use Rattle.pos_run.proofs.Common.{subst, sym, ◌++◌}
-use Rattle.pos_run.proofs.WaitingLemmas.{front_of, front_then, short_text, whole_text, wrote_all, wrote_front}
+use Rattle.pos_run.proofs.Common.{Writes, subst, sym, ◌++◌, ◌∙◌, ap}
+use Rattle.pos_run.proofs.WaitingLemmas.{cut_more, short_text, whole_text}
+use Rattle.pos_script.proofs.WriteLemmas.{behind}
+use Rattle.pos_script.specs.Writing.{IsCut}
 use Rattle.pos_streams.specs.Transfers.{given_to}
-use Rattle.pos_run.specs.WaitingLines.{GivesFront}
 use Rattle.pos_run.proofs.line_texts.LineText.write_to.Goals as goal
 
-pub returns-then-self-lt-SHORT-clause-front : goal.returns-then-self-lt-SHORT-clause-front
-returns-then-self-lt-SHORT-clause-front g c =
-    subst (GivesFront (g.W.Sink.given c.args.writer.now) (g.W.Sink.given c.write_front.new.writer))
-    (sym (short_text c.args.self.now c.if-self-lt-SHORT.true)) (wrote_front _ _ _ _ c.write_front.ensures.given)
+pub returns-then-self-lt-SHORT : goal.returns-then-self-lt-SHORT
+returns-then-self-lt-SHORT g c =
+    subst (λ text. Writes (g.W.Sink.given c.args.writer.now) (g.W.Sink.given c.write_bytes.new.writer) text
+    c.write_bytes.result) (sym (short_text c.args.self.now c.if-self-lt-SHORT.true)) c.write_bytes.ensures
 
-pub returns-in_default-clause-front : goal.returns-in_default-clause-front
-returns-in_default-clause-front g c =
+pub returns-in_default : goal.returns-in_default
+returns-in_default g c =
     let old = g.W.Sink.given c.args.writer.now in
-    let new = g.W.Sink.given c.write_front-2.new.writer in
+    let new = g.W.Sink.given c.write_bytes-2.new.writer in
     let rest = (given_to c.args.self.now.rest).bytes in
-    subst (GivesFront old new) (sym (whole_text c.args.self.now c.if-self-lt-SHORT.false))
-    (front_of old new rest (subst (GivesFront old new) c.as_slice.ensures
-    (wrote_front old new _ _ c.write_front-2.ensures.given)))
+    subst (IsCut old new) (ap (λ first. first ++ rest) c.as_slice.ensures
+    ∙ sym (whole_text c.args.self.now c.if-self-lt-SHORT.false))
+    (cut_more old new rest c.in_default.ensures)
 
-pub returns-clause-front : goal.returns-clause-front
-returns-clause-front g c =
+pub returns : goal.returns
+returns g c =
     let old = g.W.Sink.given c.args.writer.now in
-    let mid = g.W.Sink.given c.write_front-2.new.writer in
-    let new = g.W.Sink.given c.write_front-3.new.writer in
-    let first = c.args.self.now.first in
-    let rest = (given_to c.args.self.now.rest).bytes in
-    let one = wrote_all old c.as_slice.result.now _ _ c.in-Ok.is c.write_front-2.ensures.given in
-    let two = wrote_front mid new _ _ c.write_front-3.ensures.given in
-    subst (GivesFront old new) (sym (whole_text c.args.self.now c.if-self-lt-SHORT.false))
-    (subst (λ r. GivesFront old new (first ++ r)) c.as_slice-2.ensures
-    (subst (λ f. GivesFront old new (f ++ c.as_slice-2.result.now)) c.as_slice.ensures
-    (front_then old new c.as_slice.result.now one two)))
+    let mid = g.W.Sink.given c.write_bytes-2.new.writer in
+    let new = g.W.Sink.given c.write_bytes-3.new.writer in
+    let first = c.as_slice.result.now in
+    let rest = c.as_slice-2.result.now in
+    subst (λ text. Writes old new text c.write_bytes-3.result) (ap (λ xs. xs ++ rest) c.as_slice.ensures
+    ∙ ap (λ xs. c.args.self.now.first ++ xs) c.as_slice-2.ensures
+    ∙ sym (whole_text c.args.self.now c.if-self-lt-SHORT.false))
+    (behind old mid new first rest c.write_bytes-3.result c.in-Ok.ensures c.write_bytes-3.ensures)
