@@ -1,5 +1,5 @@
--- The values of files, one after another, and how deep they nest.
-use Rattle.std.proofs.Common.{◌≡◌, ◌+◌, ◌++◌, ◌≤◌, ℕ, List, [], ◌∷◌, take, map, Option, Some, None, refl, sym, ap, ◌∙◌}
+-- The values of files, one after another, how deep they nest, and that none has a float.
+use Rattle.std.proofs.Common.{◌≡◌, ◌+◌, ◌++◌, ◌≤◌, ℕ, List, [], ◌∷◌, take, map, Option, Some, None, false, refl, sym, ap, ◌∙◌}
 use Rattle.std.proofs.Common.{arith}
 use Rattle.std.specs.Prelude.{flat_map, slice_get}
 use Rattle.std.specs.Option.{option_map}
@@ -11,6 +11,7 @@ use Rattle.pos_dir.specs.declared.file.File.{File}
 use Rattle.pos_survey.specs.declared.survey.Survey.{Survey}
 use Rattle.serde_json.specs.Data.{Data, depth, items_depth}
 use Rattle.serde_json.specs.View.{items_of}
+use Rattle.serde_json.specs.Written.{has_float, items_have_float}
 use Rattle.pos_report.specs.Json.{file_data, survey_data}
 
 abbrev pub value_of : File → Data
@@ -65,3 +66,13 @@ low (file ∷ files) = let rest = low files in omega arith
 pub shallow : (it : Survey) (room : Option ℕ) → it.room ≡ room → depth (survey_data it) ≤ 127
 shallow it None is = let files = low it.directory.files in rw is (omega arith)
 shallow it (Some room) is = let files = low it.directory.files in rw is (omega arith)
+
+-- no file's object has a float
+no_files_float : (files : List File) → items_have_float (items_of (map value_of files)) ≡ false
+no_files_float [] = refl
+no_files_float (file ∷ files) = no_files_float files
+
+-- nor has a survey's object
+pub no_float : (it : Survey) (room : Option ℕ) → it.room ≡ room → has_float (survey_data it) ≡ false
+no_float it None is = let none = no_files_float it.directory.files in grind (arith, is, none)
+no_float it (Some room) is = let none = no_files_float it.directory.files in grind (arith, is, none)

@@ -4,6 +4,7 @@ use Rattle.hex.specs.Hex.{encode_lower}
 use Rattle.serde_json.specs.Data.{Data, null, number, unsigned, string, array, object, member, no_members}
 use Rattle.serde_json.specs.Read.{read}
 use Rattle.serde_json.specs.View.{items_of}
+use Rattle.serde_json.specs.Written.{compact_text}
 use Rattle.pos_dir.specs.declared.file.File.{File}
 use Rattle.pos_image.specs.Layout.{layout_of, start}
 use Rattle.pos_survey.specs.declared.survey.Survey.{Survey}
@@ -33,8 +34,7 @@ survey_data it = object (member (codes "files") (files_data it.directory.files)
     (member (codes "sequence") (number (unsigned it.sequence))
     (member (codes "slot") (number (unsigned (start it.slot))) no_members))))))
 
--- The text is a line of JSON, which reads as all that the survey has.
+-- The text is one line: the JSON without spaces of all that the survey has. It reads as just that.
 pub record IsJsonOf (it : Survey) (text : List ℕ) : Type 0 where
-  pub json : List ℕ
-  pub text_is : text ≡ json ++ codes "\n"
-  pub reads : read json ≡ Some (survey_data it)
+  pub text_is : text ≡ compact_text (survey_data it) ++ codes "\n"
+  pub reads : read (compact_text (survey_data it)) ≡ Some (survey_data it)

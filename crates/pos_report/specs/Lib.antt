@@ -1,4 +1,5 @@
 pub mod Answers
+pub mod Codes
 pub mod Dump
 pub mod Files
 pub mod Json

@@ -1,4 +1,6 @@
 //! The codes that `explain` knows: result codes, extended codes, statuses, states and loci of UnifiedPOS 1.16.
+ghost use Rattle.std.specs.Prelude.{◌≡◌, map};
+ghost use Rattle.pos_report.specs.Codes.{identity_of, standard_codes};
 
 /// A code of the standard: its name and number, what it is, what it means, and what to do about it.
 #[derive(Clone, Copy)]
@@ -31,8 +33,8 @@ const REPLY: &str = "reply to an ErrorEvent";
 
 const NOTHING: &str = "nothing";
 
-/// The codes, by their kinds.
-pub const CODES: [Code<'static>; 40] = [
+// The codes, by their kinds.
+const CODES: [Code<'static>; 40] = [
     Code {
         number: 0,
         name: "E_SUCCESS",
@@ -314,3 +316,11 @@ pub const CODES: [Code<'static>; 40] = [
         action: NOTHING,
     },
 ];
+
+/// Returns the codes of the standard, by their kinds. The names of a kind have the numbers that a counter answers and
+/// sends.
+pub fn standard_codes() -> &'static [Code<'static>]
+    ensures { map identity_of result.now ≡ standard_codes }
+{
+    &CODES
+}

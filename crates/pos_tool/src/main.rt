@@ -24,7 +24,7 @@ use help::{HELP, LINES_HELP, VERSION, VERSION_LINE};
 use meter::Meter;
 use pages::{BASH, FISH, MAN, ZSH};
 use pos_program::{HeldStreams, SystemFiles, read_words};
-use pos_report::CODES;
+use pos_report::standard_codes;
 use pos_streams::{ReaderSource, WriterSink};
 use program::{Pages, Terminals, perform};
 use std::io::IsTerminal;
@@ -52,7 +52,7 @@ fn main(rt: HostRuntime) -> ExitCode {
             help: HELP,
             version: VERSION,
             version_line: VERSION_LINE,
-            codes: &CODES,
+            codes: standard_codes(),
             lines_help: LINES_HELP,
             man: MAN,
             bash: BASH,
