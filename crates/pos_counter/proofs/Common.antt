@@ -87,8 +87,8 @@ pub use Rattle.pos_totals.specs.TotalsCommits.{DoesCommit}
 pub use Rattle.pos_totals.specs.TotalsFiles.{with_each}
 pub use Rattle.pos_totals.specs.Views.{IsReady, TotalsView, TurnsOff, WhenOff, plain, stored}
 pub use Rattle.pos_counter.specs.AtDevices.{CallsAt, IsDoneAt, MayBeCalled}
-pub use Rattle.pos_counter.specs.Counters.{IsCounterSound, IsLeftDuring, IsRun, IsStep, IsStepBeside, RunsAnyhow}
-pub use Rattle.pos_counter.specs.Counters.{RunsFrom, Serves, machine, machine as machine_of_counter}
+pub use Rattle.pos_counter.specs.Counters.{GivesOrders, IsCounterSound, IsLeftDuring, IsRun, IsStep, IsStepBeside}
+pub use Rattle.pos_counter.specs.Counters.{RunsAnyhow, RunsFrom, Serves, machine, machine as machine_of_counter}
 pub use Rattle.pos_counter.specs.Crashes.{BeginsOver, HasBegun, HasRun, KeepsPrefix, KeepsPrefixes, history_until}
 pub use Rattle.pos_counter.specs.Crashes.{machine_now}
 pub use Rattle.pos_counter.specs.DiskUse.{AsksNothing, ChangesTotalsAlone, IsUndone, SparesDisk, SparesFiles}

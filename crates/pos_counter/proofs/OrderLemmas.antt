@@ -1,6 +1,8 @@
 -- How many orders the peripherals of a counter were given.
-use Rattle.pos_counter.proofs.Common.{Action, AllByRecursion, Answer, At, Call, Category, Changes, Control, Err, Gives}
-use Rattle.pos_counter.proofs.Common.{IsServed, Queues}
+use Rattle.pos_counter.proofs.Common.{Action, AllByRecursion, Answer, Answered, At, Attach, Attaches, Bool, Call}
+use Rattle.pos_counter.proofs.Common.{CallOf, Category, Changes, Control, Counter, Detach, Detaches, Done, Empty, Err}
+use Rattle.pos_counter.proofs.Common.{Ghosts, Gives, GivesOrders, IsServed, Queues, answered, attached, detached}
+use Rattle.pos_counter.proofs.Common.{hardware_of, machine, set}
 use Rattle.pos_counter.proofs.Common.{KeptControl, Kind, List, MatchOption, MatchOption-at_some, MatchResult, Machine}
 use Rattle.pos_counter.proofs.Common.{NoMemory, None, Ok, Option, PeripheralState, Registered, Result, Row, Some}
 use Rattle.pos_counter.proofs.Common.{TotalsPart, [], ap, ap₂, arith, controls_of, device_action, device_rows}
@@ -14,9 +16,13 @@ use Rattle.pos_service.specs.Actions.{OrdersBy}
 use Rattle.pos_service.specs.Peripherals.{counted}
 use Rattle.pos_service.specs.declared.answer.WorkResult.TheVariants as worked
 use Rattle.pos_service.specs.declared.answer.WorkResult.{WorkResult}
-use Rattle.pos_counter.specs.Orders.{CountsAt, OrdersAt, OrdersOfCall, OrdersOfControl, OrdersOfWorkAt, asked_place}
-use Rattle.pos_counter.specs.Orders.{given_at, gives_order, one_more, orders_of}
-use Rattle.pos_counter.proofs.DeviceListLemmas.{registered_there, served_at}
+use Rattle.pos_service.specs.declared.faults.AttachFault.TheVariants as attach
+use Rattle.pos_service.specs.declared.faults.AttachFault.{AttachFault}
+use Rattle.pos_service.specs.declared.faults.DetachFault.TheVariants as detach
+use Rattle.pos_service.specs.declared.faults.DetachFault.{DetachFault}
+use Rattle.pos_counter.specs.Orders.{CountsAt, LeavesOthers, OrdersAt, OrdersOfCall, OrdersOfControl, OrdersOfStep}
+use Rattle.pos_counter.specs.Orders.{OrdersOfWorkAt, asked_place, given_at, gives_order, one_more, orders_in, orders_of}
+use Rattle.pos_counter.proofs.DeviceListLemmas.{found_first, registered_there, served_at}
 use Rattle.pos_counter.proofs.HardwareLemmas.{own_call}
 
 -- ---- what a peripheral counts
@@ -43,6 +49,18 @@ more_orders (d ∷ list) zero was now stood more = ap (λ n. Some n ∷ orders_o
     ∙ sym (ap (λ o. option_map counted (count_of o) ∷ orders_of list) stood)
 more_orders (d ∷ list) (suc place) was now stood more =
     ap (λ os. count_of d.peripheral ∷ os) (more_orders list place was now stood more)
+
+-- another peripheral at a place, or none, leaves the counts of all others
+other_orders : (list : List Registered) (place : ℕ) (x : Option PeripheralState)
+    → orders_of (with_peripheral list place x) ≡ set (orders_of list) place (count_of x)
+other_orders [] place x = refl
+other_orders (d ∷ list) zero x = refl
+other_orders (d ∷ list) (suc place) x = ap (λ os. count_of d.peripheral ∷ os) (other_orders list place x)
+
+pub leaves_others : {o : Option ℕ} (list : List Registered) {new : List Registered} (place : ℕ)
+    (x : Option PeripheralState) → o ≡ Some place → new ≡ with_peripheral list place x
+    → LeavesOthers o (orders_of list) (orders_of new)
+leaves_others list place x at is = rw at (count_of x, ap orders_of is ∙ other_orders list place x)
 
 -- what the peripheral at a place counts, and no other
 pub counts_there : (list : List Registered) {new : List Registered} (place : ℕ) (was now : PeripheralState)
@@ -94,6 +112,16 @@ module _ (m : Machine) (n : ℕ) (asked : Call) where
           none_given c o orders (ap (λ a. place_by refusal a (open_place c.device))
           (no_action c.category (kind_of m c) c asked common) ∙ idle refusal (open_place c.device))
 
+  -- how many orders a call gives is how many its step gives
+  pub call_given : (o : Result Answer NoMemory) (old new : List (Option ℕ)) → OrdersOfCall m n asked o old new
+      → OrdersOfStep m (CallOf n asked) (answered o) old new
+  call_given (Ok result) old new h = h
+  call_given (Err want) old new h = h
+
+  pub common_given : (o : Result Answer NoMemory) (orders : List (Option ℕ)) {new : List (Option ℕ)} → new ≡ orders
+      → is_common asked ≡ true → OrdersOfStep m (CallOf n asked) (answered o) orders new
+  common_given o orders {new} same common = call_given o orders new (common_orders o orders same common)
+
   -- nor does one of a control that has no device at a place open
   pub placeless_orders : (c : Control) (o : Result Answer NoMemory) (orders : List (Option ℕ))
       → slice_get m.controls n ≡ Some c → open_place c.device ≡ None → OrdersOfCall m n asked o orders orders
@@ -101,6 +129,12 @@ module _ (m : Machine) (n : ℕ) (asked : Call) where
       let refusal = first_refusal (refusals m n c asked) in
       let comes_to = device_action c.category (kind_of m c) c asked in
       rw found (none_given c o orders (ap (place_by refusal comes_to) placeless ∙ nowhere refusal comes_to))
+
+-- the clause of a counter whose devices stay
+pub answered_common : {D P : Type 0} (peripherals : Ghosts P) (old : Counter D P) (n : ℕ) (asked : Call)
+    → is_common asked ≡ true → GivesOrders peripherals old (CallOf n asked) (Answered (Done Empty)) old
+answered_common peripherals old n asked common part = common_given (machine peripherals old part) n asked
+    (Ok (Done Empty)) (orders_in peripherals old.devices) refl common
 
 -- ---- calls at a device
 
@@ -193,3 +227,28 @@ module _ (list new : List Registered) (place : ℕ) {o : Option ℕ} (is : o ≡
     | inr e ↦
         inr (ap orders_of at.others ∙ more_orders list place at.was at.now at.stood e ∙ more_there (orders_of list))
   ]
+
+-- ---- exchanges
+
+module _ (hs : List KeptControl) (list new : List Registered) (name : List ℕ) (cl : List (Option ℕ))
+    (tn : Option (List ℕ)) (part : TotalsPart) where
+  -- a peripheral comes and goes with its count, and every other keeps its own
+  pub attach_orders : {B : Type 0} (state : B → PeripheralState) (peripheral : B)
+      (result : Result (Unit {0}) (AttachFault × B)) → Attaches list name (state peripheral) result new
+      → OrdersOfStep (machine_with hs cl (devices_of list) tn part) (Attach name (hardware_of (state peripheral)))
+      (attached state result) (orders_of list) (orders_of new)
+  attach_orders state peripheral (Ok u) h =
+      leaves_others list h.place (Some (state peripheral)) (found_first name list h.found) h.served
+  attach_orders state peripheral (Err (attach.Unknown, given)) h = ap orders_of h.1
+  attach_orders state peripheral (Err (attach.InUse, given)) h = ap orders_of h.1
+  attach_orders state peripheral (Err (attach.KindDiffers, given)) h = ap orders_of h.1
+
+  pub detach_orders : {B : Type 0} (state : B → PeripheralState) (is_open : Bool) (result : Result B DetachFault)
+      → Detaches state list name is_open result new
+      → OrdersOfStep (machine_with hs cl (devices_of list) tn part) (Detach name) (detached state result)
+      (orders_of list) (orders_of new)
+  detach_orders state is_open (Ok peripheral) h =
+      leaves_others list h.0.place None (found_first name list h.0.found) h.0.vacated
+  detach_orders state is_open (Err detach.Unknown) h = ap orders_of h.1
+  detach_orders state is_open (Err detach.Vacant) h = ap orders_of h.1
+  detach_orders state is_open (Err detach.InUse) h = ap orders_of h.2

@@ -1,5 +1,5 @@
 -- Setting a property as a step of the machine, where it recovers the totals and where it doesn't.
-use Rattle.pos_counter.proofs.Common.{TheTotals, open_place}
+use Rattle.pos_counter.proofs.Common.{GivesOrders, TheTotals, open_place}
 use Rattle.pos_counter.proofs.Common.{◌&&◌, ◌<◌, Answer, Answered, AreDevicesSound, CallOf, Code, Control, Counter}
 use Rattle.pos_counter.proofs.Common.{Device, DeviceEnabled, DiskGhosts, DiskRecovers, Done, Empty, Err, FindsFiles}
 use Rattle.pos_counter.proofs.Common.{Ghosts, HardTotals, IsCounterSound, IsErrOf, IsOneOf, IsRecovering, KeptControl}
@@ -17,8 +17,10 @@ use Rattle.pos_totals.specs.declared.fault.RecoveryFault.TheVariants as fault
 use Rattle.pos_totals.specs.declared.fault.RecoveryFault.{RecoveryFault}
 use Rattle.pos_counter.proofs.CrashLemmas.{settled_twice}
 use Rattle.pos_counter.proofs.LiftLemmas.{decided_none, decided_weaker, kept_at, kept_machine, matched, set_machine}
+use Rattle.pos_counter.proofs.OrderLemmas.{common_given}
 use Rattle.pos_counter.proofs.ServiceLemmas.{same_sound}
 use Rattle.pos_counter.proofs.SoundnessLemmas.{seated, set_seat, totals_category, with_control_sound}
+use Rattle.pos_counter.specs.Orders.{orders_in}
 
 -- a property is set, or finds no memory, and nothing is recovered
 pub plain_set : (hs : List KeptControl) (cl : List (Option ℕ)) (ds : List Device) (tn : Option (List ℕ))
@@ -95,7 +97,9 @@ module _ {D : Type 0} (bound : DiskGhosts D) (old new : TotalsView D) (off : old
 -- ---- a call that recovers totals that are off
 
 module _ {D P : Type 0} (bound : DiskGhosts D) (peripherals : Ghosts P) (old new : Counter D P)
-    (tally : new.tally ≡ old.tally) (sound : IsCounterSound peripherals old)
+    (tally : new.tally ≡ old.tally)
+    (same_orders : orders_in peripherals new.devices ≡ orders_in peripherals old.devices)
+    (sound : IsCounterSound peripherals old)
     (devices : AreDevicesSound peripherals new.devices) (n : ℕ) (p : Property)
     (v : Value) (there : Asking old.controls.items n p v old.totals.totals.mode) where
   abbrev c : Control
@@ -130,14 +134,20 @@ module _ {D P : Type 0} (bound : DiskGhosts D) (peripherals : Ghosts P) (old new
       → Step (before left) (CallOf n enabling) (Answered result) (now after)
   does result left after sets = rw there.at (decided_none (allowed left) (rw recovering sets))
 
+  -- it gives no order
+  gives_none : (o : Result Answer NoMemory) → GivesOrders peripherals old (CallOf n enabling) (answered o) new
+  gives_none o part = common_given (machine peripherals old part) n enabling o (orders_in peripherals old.devices)
+      same_orders refl
+
   -- it is a step for all that the disk may leave, and changes the totals alone, and its control
   serves : (r : Result (Unit {0}) RecoveryFault) (response : Response) → DiskRecovers bound old.totals r new.totals
       → ((left : List Standing) → Leaves bound old.totals left → Step (before left) (CallOf n enabling) response
       (now (settled new.totals.totals.layout new.totals.totals.mode left))) → ((part other : TotalsPart)
       → (machine peripherals new other ≡ record (machine peripherals old part) { totals = other }) ⊎ (machine
       peripherals new other ≡ record (with_control (machine peripherals old part) n enabled) { totals = other }))
-      → IsCounterSound peripherals new → Serves bound peripherals old (CallOf n (Set p v)) response new
-  serves r response recovers step alone sound = rw (there.names, there.gives) (record {
+      → IsCounterSound peripherals new → GivesOrders peripherals old (CallOf n enabling) response new
+      → Serves bound peripherals old (CallOf n (Set p v)) response new
+  serves r response recovers step alone sound orders = rw (there.names, there.gives) (record {
     step = record {
       steps = λ left leaves. record {
         after = settled new.totals.totals.layout new.totals.totals.mode left;
@@ -152,6 +162,7 @@ module _ {D P : Type 0} (bound : DiskGhosts D) (peripherals : Ghosts P) (old new
       ));
       unchanged = λ undone was ready. absurd (rw there.off at was);
       kept = recovers.kept;
+      orders = orders;
       tally = tally;
     };
     sound = sound;
@@ -179,7 +190,7 @@ module _ {D P : Type 0} (bound : DiskGhosts D) (peripherals : Ghosts P) (old new
             (seated m n c (sound.machine part) there.at) in
             rw (same part) (with_control_sound m n enabled seat (sound.machine part));
         devices = devices;
-      }))
+      }) (gives_none (Ok (Done Empty))))
 
   -- a recovery that fails leaves the machine, but for the count of failures of its disk
   module _ (x : RecoveryFault) (recovers : DiskRecovers bound old.totals (Err x) new.totals)
@@ -189,11 +200,12 @@ module _ {D P : Type 0} (bound : DiskGhosts D) (peripherals : Ghosts P) (old new
 
     fails : (response : Response) → ((left : List Standing) → Leaves bound old.totals left
         → Step (before left) (CallOf n enabling) response (now left))
+        → GivesOrders peripherals old (CallOf n enabling) response new
         → Serves bound peripherals old (CallOf n (Set p v)) response new
-    fails response step = serves (Err x) response recovers
+    fails response step orders = serves (Err x) response recovers
         (λ left leaves. subst (λ after. Step (before left) (CallOf n enabling) response (now after))
         (leaves.is_settled ∙ ap (λ (t : Totals). settled t.layout t.mode left) (sym kept)) (step left leaves))
-        (λ part other. inl (same other)) (same_sound same sound devices)
+        (λ part other. inl (same other)) (same_sound same sound devices) orders
 
     same_part : (left : List Standing) → Leaves bound old.totals left → (IsErrOf {T = Unit {0}} (Err x) fault.Device
         → ⊥) → part_of bound new.totals left ≡ part_of bound old.totals left
@@ -228,6 +240,7 @@ module _ {D P : Type 0} (bound : DiskGhosts D) (peripherals : Ghosts P) (old new
         → Serves bound peripherals old (CallOf n (Set p v)) (Answered (Refused k 0)) new
     failed_serves k is = fails (Answered (Refused k 0))
         (λ left leaves. does (Refused k 0) left left (inr (why left k leaves is, same (part_of bound new.totals left))))
+        (gives_none (Ok (Refused k 0)))
 
     -- the recovery finds no memory, and nothing has changed
     pub starved_serves : None ≡ code_of x → Serves bound peripherals old (CallOf n (Set p v)) OutOfMemory new
@@ -236,7 +249,7 @@ module _ {D P : Type 0} (bound : DiskGhosts D) (peripherals : Ghosts P) (old new
       allowed left,
       same (part_of bound new.totals left)
           ∙ ap (machine peripherals old) (same_part left leaves (λ failed. no_fault x is failed)),
-    ))
+    )) (gives_none (Err (record {})))
       where
         no_fault : (x : RecoveryFault) → None ≡ code_of x → IsErrOf {T = Unit {0}} (Err x) fault.Device → ⊥
         no_fault x is failed = cc

@@ -1,6 +1,7 @@
 -- What a counter serves by a step of its machine.
-use Rattle.pos_counter.proofs.Common.{AreDevicesSound, Counter, DiskGhosts, Ghosts, IsCounterSound, IsSettled, IsSound}
-use Rattle.pos_counter.proofs.Common.{IsStep, IsStepBeside, List, MayLeave, Request, Response, Serves, Standing, Step}
+use Rattle.pos_counter.proofs.Common.{AreDevicesSound, Counter, DiskGhosts, Ghosts, GivesOrders, IsCounterSound}
+use Rattle.pos_counter.proofs.Common.{IsSettled, IsSound, IsStep, IsStepBeside, List, MayLeave, Request, Response}
+use Rattle.pos_counter.proofs.Common.{Serves, Standing, Step}
 use Rattle.pos_counter.proofs.Common.{Totals, TotalsPart, [], machine, part_with, rules, settled, subst, sym, ℕ, ◌≡◌}
 use Rattle.pos_store.proofs.CrashLemmas.{stays}
 use Rattle.pos_counter.proofs.CrashLemmas.{settled_twice}
@@ -32,18 +33,20 @@ module _ {D P : Type 0} {peripherals : Ghosts P} {old new : Counter D P} where
   -- a step in which the totals have no part, and what a sound counter is behind it
   pub steps_beside : {q : Request} {r : Response} → IsCounterSound peripherals old
       → AreDevicesSound peripherals new.devices → new.totals ≡ old.totals → new.tally ≡ old.tally
+      → GivesOrders peripherals old q r new
       → ((part : TotalsPart) → Step (machine peripherals old part) q r (machine peripherals new part))
       → record { step : IsStepBeside peripherals old q r new; sound : IsCounterSound peripherals new }
-  steps_beside {q} {r} sound devices totals tally step =
+  steps_beside {q} {r} sound devices totals tally orders step =
       let part = part_with old.totals.totals [] 0 in
       record {
-        step = record { step = step; totals = totals; tally = tally };
+        step = record { step = step; totals = totals; orders = orders; tally = tally };
         sound = still_sound q r part part sound devices (step part);
       }
 
 module _ {D P : Type 0} (bound : DiskGhosts D) (peripherals : Ghosts P) (old new : Counter D P) (q : Request)
     (r : Response) where
-  module _ (tally : new.tally ≡ old.tally) (totals : Totals) (only : OnlyNow bound old.totals.disk)
+  module _ (tally : new.tally ≡ old.tally) (orders : GivesOrders peripherals old q r new) (totals : Totals)
+      (only : OnlyNow bound old.totals.disk)
       (disk : new.totals.disk ≡ old.totals.disk)
       (is : new.totals.totals ≡ totals) (same : (left : List Standing)
       → settled totals.layout totals.mode left ≡ settled old.totals.totals.layout old.totals.totals.mode left) where
@@ -55,7 +58,7 @@ module _ {D P : Type 0} (bound : DiskGhosts D) (peripherals : Ghosts P) (old new
     -- a step in which the disk has no part, over totals that know the same files, is one for all that the disk may
     -- leave
     pub quiet_step : StepsAnyhow → IsStep bound peripherals old q r new
-    quiet_step step = search (rules, stays)
+    quiet_step step = search (rules, stays, orders)
 
     -- and what a sound counter serves
     pub quiet_serves : IsCounterSound peripherals old → AreDevicesSound peripherals new.devices → StepsAnyhow
@@ -75,11 +78,11 @@ module _ {D P : Type 0} (bound : DiskGhosts D) (peripherals : Ghosts P) (old new
   beside_is_step only beside = search (rules, quiet_step)
 
   -- and what a sound counter serves
-  pub stays_serves : new.tally ≡ old.tally → OnlyNow bound old.totals.disk → IsCounterSound peripherals old
-      → new.totals ≡ old.totals
+  pub stays_serves : new.tally ≡ old.tally → GivesOrders peripherals old q r new → OnlyNow bound old.totals.disk
+      → IsCounterSound peripherals old → new.totals ≡ old.totals
       → AreDevicesSound peripherals new.devices
       → ((part : TotalsPart) → Step (machine peripherals old part) q r (machine peripherals new part))
       → Serves bound peripherals old q r new
-  stays_serves tally only sound totals devices step =
-      let both = steps_beside sound devices totals tally step in
+  stays_serves tally orders only sound totals devices step =
+      let both = steps_beside sound devices totals tally orders step in
       record { step = beside_is_step only both.step; sound = both.sound }

@@ -1,5 +1,6 @@
 -- A call of the totals' own as a step of the machine.
 use Rattle.pos_counter.proofs.Common.{Answer, Call, CallOf, CallsFiles, Control, Counter, DiskGhosts, FilesCalled}
+use Rattle.pos_counter.proofs.Common.{GivesOrders, open_place}
 use Rattle.pos_counter.proofs.Common.{Ghosts, TheTotals, IsCounterSound, IsDone, IsReady, IsUndone, List, Machine}
 use Rattle.pos_counter.proofs.Common.{Mode, NoMemory, Result, Serves, Some, SparesDisk, SparesFiles, Standing, Step}
 use Rattle.pos_counter.proofs.Common.{TotalsPart, TotalsView, TurnsOff, answered, ap, arith, own_rows, controls_of}
@@ -7,7 +8,9 @@ use Rattle.pos_counter.proofs.Common.{false, file_call, file_rows, first_refusal
 use Rattle.pos_counter.proofs.Common.{part_with, refl, refusals, rules, slice_get, ℕ, ◌∙◌, ◌≡◌}
 use Rattle.pos_counter.proofs.HardwareLemmas.{IsLet, let_refusals, own_call}
 use Rattle.pos_counter.proofs.LiftLemmas.{decided_step}
+use Rattle.pos_counter.proofs.OrderLemmas.{call_given, placeless_orders}
 use Rattle.pos_counter.proofs.ServiceLemmas.{OnlyNow, quiet_serves}
+use Rattle.pos_counter.specs.Orders.{orders_in}
 
 module _ (m : Machine) (n : ℕ) (c : Control) (asked : Call) (own : is_common asked ≡ false)
     (found : slice_get m.controls n ≡ Some c) (is : c.device ≡ Some TheTotals) (lets : IsLet m n c asked) where
@@ -32,6 +35,15 @@ not_done outcome undone done = grind arith
 still_ready : (old new : Mode) → TurnsOff old new → IsReady new → ⊥
 still_ready old new turns ready = grind arith
 
+-- a call of the totals' own gives no order
+totals_given : {D P : Type 0} (peripherals : Ghosts P) (old : Counter D P) (n : ℕ) (c : Control) (asked : Call)
+    (outcome : Result Answer NoMemory) → slice_get (controls_of old.controls.items) n ≡ Some c
+    → c.device ≡ Some TheTotals → GivesOrders peripherals old (CallOf n asked) (answered outcome) old
+totals_given peripherals old n c asked outcome found is part =
+    let m = machine peripherals old part in
+    let orders = orders_in peripherals old.devices in
+    call_given m n asked outcome orders orders (placeless_orders m n asked c outcome orders found (ap open_place is))
+
 -- a call of the totals' own that its control may make
 pub files_serve : {D P : Type 0} (bound : DiskGhosts D) (peripherals : Ghosts P) (old : Counter D P)
     {now : TotalsView D} (n : ℕ) (c : Control) (asked : Call) (outcome : Result Answer NoMemory)
@@ -42,7 +54,8 @@ pub files_serve : {D P : Type 0} (bound : DiskGhosts D) (peripherals : Ghosts P)
     → Serves bound peripherals old (CallOf n asked) (answered outcome) (record old { totals = now })
 files_serve bound peripherals old {now} n c asked outcome own at is lets only (inl quiet) sound =
     quiet_serves bound peripherals old (record old { totals = now }) (CallOf n asked)
-    (answered outcome) refl now.totals only quiet.disk refl quiet.is_settled sound sound.devices
+    (answered outcome) refl (totals_given peripherals old n c asked outcome at is) now.totals only quiet.disk refl
+    quiet.is_settled sound sound.devices
     (λ left failures so. called_step (machine peripherals old (part_with old.totals.totals left failures)) n c asked own
     at is (lets left failures) (part_with now.totals left failures) outcome (quiet.answer left failures so))
 files_serve bound peripherals old {now} n c asked outcome own found is lets only (inr puts) sound = record {
@@ -64,6 +77,7 @@ files_serve bound peripherals old {now} n c asked outcome own found is lets only
       | inr same ↦ same
     ];
     kept = puts.kept;
+    orders = totals_given peripherals old n c asked outcome found is;
     tally = refl;
   };
   sound = record { machine = sound.machine; devices = sound.devices };

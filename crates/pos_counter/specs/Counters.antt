@@ -10,6 +10,7 @@ use Rattle.pos_disk.specs.Keeps.{KeepsDisk}
 use Rattle.pos_counter.specs.declared.counter.Counter.{Counter}
 use Rattle.pos_counter.specs.Machine.{Machine, machine_with}
 use Rattle.pos_counter.specs.KeptDevices.{devices_in, profile_devices, totals_name, AreDevicesSound}
+use Rattle.pos_counter.specs.Orders.{OrdersOfStep, orders_in}
 use Rattle.pos_counter.specs.Leaving.{part_of, part_with, IsSettled, Leaves, Spared, Stepped}
 use Rattle.pos_counter.specs.DiskUse.{ChangesTotalsAlone, IsUndone, SparesDisk}
 use Rattle.pos_image.specs.declared.layout.Layout.TheVariants.{Layout1}
@@ -37,11 +38,18 @@ pub record Begins {D P : Type 0} (peripherals : Ghosts P)
       }
   pub tally : counter.tally ≡ record { given = 0; done = 0; not_done = 0; forgotten = 0 }
 
+-- how many orders each peripheral was given from an old counter to a new one, by the request and its response
+abbrev pub GivesOrders : {D P : Type 0} → Ghosts P → Counter D P → Request → Response → Counter D P → Type 0
+GivesOrders peripherals old request response new = (part : TotalsPart)
+    → OrdersOfStep (machine peripherals old part) request response
+    (orders_in peripherals old.devices) (orders_in peripherals new.devices)
+
 -- From an old counter to a new one, a step in which the totals have no part: the request gets this response.
 pub record IsStepBeside {D P : Type 0} (peripherals : Ghosts P) (old : Counter D P)
     (request : Request) (response : Response) (new : Counter D P) : Type 0 where
   pub step : (part : TotalsPart) → Step (machine peripherals old part) request response (machine peripherals new part)
   pub totals : new.totals ≡ old.totals
+  pub orders : GivesOrders peripherals old request response new
   pub tally : new.tally ≡ old.tally
 
 -- From an old counter to a new one, a step, for all that the disk may leave before it: the request gets this response.
@@ -63,6 +71,8 @@ pub record IsStep {D P : Type 0} (bound : DiskGhosts D) (peripherals : Ghosts P)
       ⊎ ChangesTotalsAlone (machine peripherals old (part_with old.totals.totals left failures)) request
       (machine peripherals new (part_with new.totals.totals left failures))
   pub kept : KeepsDisk bound old.totals.disk new.totals.disk
+  -- a peripheral is given an order exactly once, also if nothing is to do
+  pub orders : GivesOrders peripherals old request response new
   -- a host gets no order in it and reports nothing, and nothing is forgotten of what it has reported
   pub tally : new.tally ≡ old.tally
 

@@ -1,6 +1,6 @@
 -- How many orders the peripherals of a counter were given.
 use Rattle.std.specs.Prelude.{◌≡◌, ◌⊎◌, ℕ, zero, suc, Bool, true, false, List, [], ◌∷◌, Option, Some, None, Result, Ok}
-use Rattle.std.specs.Prelude.{Err, MatchOption, is_some, map, option_map, slice_get, if◌then◌else◌}
+use Rattle.std.specs.Prelude.{Err, MatchOption, is_some, map, option_map, slice_get, slice_set, if◌then◌else◌}
 use Rattle.pos_profile.specs.Registries.{Device as Registered, devices as registered, standing_at, with_peripheral}
 use Rattle.pos_service.specs.Controls.{Control, open_place}
 use Rattle.pos_service.specs.Peripherals.{PeripheralState, counted}
@@ -15,8 +15,9 @@ use Rattle.pos_service.specs.declared.faults.NoMemory.{NoMemory}
 use Rattle.pos_service.specs.declared.kind.Kind.{Kind}
 use Rattle.pos_service.specs.declared.peripheral.Peripheral.{Ghosts}
 use Rattle.pos_common.specs.OwnCalls.{OwnOrders}
-use Rattle.pos_counter.specs.Machine.{Machine, kind_of}
-use Rattle.pos_counter.specs.Steps.{device_action, device_rows, refusals}
+use Rattle.pos_counter.specs.Machine.{Machine, kind_of, place_of}
+use Rattle.pos_counter.specs.Steps.{device_action, device_rows, refusals, Request, Response, CallOf, InputTo, WorkOn}
+use Rattle.pos_counter.specs.Steps.{Attach, Detach, Answered, TakenIn, Worked, Attached, Detached, OutOfMemory}
 use Rattle.pos_counter.specs.declared.devices.Devices.{Devices}
 use Rattle.pos_counter.specs.declared.faults.WorkFault.{WorkFault}
 use Rattle.pos_counter.specs.declared.faults.WorkFault.TheVariants as work_fault
@@ -76,6 +77,31 @@ OrdersOfWorkAt place (Ok worked.Idle) old new = new ≡ old
 OrdersOfWorkAt place (Ok done) old new = new ≡ given_at place old
 OrdersOfWorkAt place (Err work_fault.NoDevice) old new = new ≡ old
 OrdersOfWorkAt place (Err work_fault.NoMemory) old new = (new ≡ old) ⊎ (new ≡ given_at place old)
+
+-- no other device's count has changed than that of the device at a place
+abbrev pub LeavesOthers : Option ℕ → List (Option ℕ) → List (Option ℕ) → Type 0
+LeavesOthers None old new = new ≡ old
+LeavesOthers (Some place) old new = (count : Option ℕ) × (new ≡ slice_set old place count)
+
+-- how many orders each peripheral was given before and after a request, by its response: those of its call or work, and
+-- otherwise none
+abbrev pub OrdersOfStep : Machine → Request → Response → List (Option ℕ) → List (Option ℕ) → Type 0
+OrdersOfStep machine (CallOf number asked) (Answered result) old new =
+    OrdersOfCall machine number asked (Ok result) old new
+OrdersOfStep machine (CallOf number asked) OutOfMemory old new =
+    OrdersOfCall machine number asked (Err (record {})) old new
+OrdersOfStep machine (WorkOn name) (Worked result) old new =
+    OrdersOfWorkAt (place_of machine.devices name) (Ok result) old new
+OrdersOfStep machine (WorkOn name) OutOfMemory old new =
+    OrdersOfWorkAt (place_of machine.devices name) (Err work_fault.NoMemory) old new
+-- an input comes to its device alone
+OrdersOfStep machine (InputTo name input) TakenIn old new = LeavesOthers (place_of machine.devices name) old new
+OrdersOfStep machine (InputTo name input) OutOfMemory old new = LeavesOthers (place_of machine.devices name) old new
+-- so does a peripheral, which has its count from before, and it takes the count with it
+OrdersOfStep machine (Attach name hardware) Attached old new = LeavesOthers (place_of machine.devices name) old new
+OrdersOfStep machine (Detach name) (Detached hardware) old new =
+    LeavesOthers (place_of machine.devices name) old new
+OrdersOfStep machine request response old new = new ≡ old
 
 -- The peripheral of the device at a place, which is of a kind, counts its orders so, and no other was given any.
 pub record CountsAt (list : List Registered) (place : ℕ) (Counts : Kind → ℕ → ℕ → Type 0) (new : List Registered)

@@ -6,9 +6,8 @@ ghost use Rattle.pos_service.specs.Hardware.{hardware_of, StaysInService};
 ghost use Rattle.pos_common.specs.KeptControls.{controls_of};
 ghost use Rattle.pos_counter.specs.KeptDevices.{AreDevicesSound, devices_in};
 ghost use Rattle.pos_counter.specs.AtDevices.{CallsAt, IsDoneAt, MayBeCalled, MayCall};
-ghost use Rattle.pos_counter.specs.Counters.{IsStep, IsCounterSound, Serves, machine};
-ghost use Rattle.pos_counter.specs.Orders.{CountsAt, OrdersAt, OrdersOfCall, orders_in};
-ghost use Rattle.pos_counter.specs.Totals.{TotalsPart};
+ghost use Rattle.pos_counter.specs.Counters.{IsStep, IsCounterSound, Serves};
+ghost use Rattle.pos_counter.specs.Orders.{CountsAt, OrdersAt};
 ghost use Rattle.pos_profile.specs.Registries.{devices as registered};
 ghost use Rattle.pos_counter.specs.Responses.{answered};
 ghost use Rattle.pos_counter.specs.Steps.{CallOf};
@@ -38,8 +37,6 @@ impl<D: Disk, P: Peripheral> Counter<D, P> {
     pub fn call(&mut self, number: usize, call: &Call) -> Result<Answer, NoMemory>
         requires sound { IsCounterSound P.Peripheral self.old }
         ensures step { IsStep D.Disk P.Peripheral self.old (CallOf number call.now) (answered result) self.new }
-        ensures orders { (part : TotalsPart) → OrdersOfCall (machine P.Peripheral self.old part) number call.now result
-            (orders_in P.Peripheral self.old.devices) (orders_in P.Peripheral self.new.devices) }
         ensures sound { IsCounterSound P.Peripheral self.new }
     {
         if number >= self.controls.len() {
@@ -66,9 +63,7 @@ impl<D: Disk, P: Peripheral> Counter<D, P> {
         requires in_range { number < length self.old.controls.items }
         requires own { is_common call.now ≡ false }
         requires sound { IsCounterSound P.Peripheral self.old }
-        ensures served { Serves D.Disk P.Peripheral self.old (CallOf number call.now) (answered result) self.new }
-        ensures orders { (part : TotalsPart) → OrdersOfCall (machine P.Peripheral self.old part) number call.now result
-            (orders_in P.Peripheral self.old.devices) (orders_in P.Peripheral self.new.devices) }
+        ensures { Serves D.Disk P.Peripheral self.old (CallOf number call.now) (answered result) self.new }
     {
         match self.controls[number].device() {
             None => Ok(Answer::Refused(Code::Closed, 0)),
@@ -96,8 +91,7 @@ impl<D: Disk, P: Peripheral> Counter<D, P> {
             control.device ≡ Some open_device.Totals) }
         requires own { is_common call.now ≡ false }
         requires sound { IsCounterSound P.Peripheral self.old }
-        ensures served { Serves D.Disk P.Peripheral self.old (CallOf number call.now) (answered result) self.new }
-        ensures devices { self.new.devices ≡ self.old.devices }
+        ensures { Serves D.Disk P.Peripheral self.old (CallOf number call.now) (answered result) self.new }
     {
         let control = &self.controls[number];
         let needs = call.needs(Category::HardTotals);

@@ -26,9 +26,8 @@ impl<D: Disk, P: Peripheral> Counter<D, P> {
     pub(crate) fn open(&mut self, number: usize, name: &[u8]) -> Answer
         requires in_range { number < length self.old.controls.items }
         requires sound { IsCounterSound P.Peripheral self.old }
-        ensures served { Serves D.Disk P.Peripheral self.old (CallOf number (call.Open name.now)) (Answered result)
+        ensures { Serves D.Disk P.Peripheral self.old (CallOf number (call.Open name.now)) (Answered result)
             self.new }
-        ensures devices { self.new.devices ≡ self.old.devices }
     {
         let found = self.find_target(self.controls[number].category(), name);
         self.controls[number].open(found)
@@ -54,8 +53,7 @@ impl<D: Disk, P: Peripheral> Counter<D, P> {
     pub(crate) fn close(&mut self, number: usize) -> Answer
         requires in_range { number < length self.old.controls.items }
         requires sound { IsCounterSound P.Peripheral self.old }
-        ensures served { Serves D.Disk P.Peripheral self.old (CallOf number call.Close) (Answered result) self.new }
-        ensures devices { self.new.devices ≡ self.old.devices }
+        ensures { Serves D.Disk P.Peripheral self.old (CallOf number call.Close) (Answered result) self.new }
     {
         let control = &mut self.controls[number];
         match control.device() {
@@ -81,9 +79,8 @@ impl<D: Disk, P: Peripheral> Counter<D, P> {
     pub(crate) fn claim(&mut self, number: usize, timeout: i128) -> Answer
         requires in_range { number < length self.old.controls.items }
         requires sound { IsCounterSound P.Peripheral self.old }
-        ensures served { Serves D.Disk P.Peripheral self.old (CallOf number (call.Claim timeout)) (Answered result)
+        ensures { Serves D.Disk P.Peripheral self.old (CallOf number (call.Claim timeout)) (Answered result)
             self.new }
-        ensures devices { self.new.devices ≡ self.old.devices }
     {
         let control = &self.controls[number];
         match control.device() {
@@ -101,8 +98,7 @@ impl<D: Disk, P: Peripheral> Counter<D, P> {
     pub(crate) fn release(&mut self, number: usize) -> Answer
         requires in_range { number < length self.old.controls.items }
         requires sound { IsCounterSound P.Peripheral self.old }
-        ensures served { Serves D.Disk P.Peripheral self.old (CallOf number call.Release) (Answered result) self.new }
-        ensures devices { self.new.devices ≡ self.old.devices }
+        ensures { Serves D.Disk P.Peripheral self.old (CallOf number call.Release) (Answered result) self.new }
     {
         let control = &mut self.controls[number];
         match control.device() {

@@ -1,11 +1,13 @@
 //! What happens at devices from outside, and their snapshots.
-ghost use Rattle.std.specs.Prelude.{◌≡◌, ◌<◌, Some, false, true};
+ghost use Rattle.std.specs.Prelude.{◌≡◌, ◌<◌, Some, false, true, ⊤};
 ghost use Rattle.pos_service.specs.Hardware.{StaysInService, TakenAt, hardware_of};
 ghost use Rattle.pos_service.specs.Peripherals.{input_fits};
 ghost use Rattle.pos_common.specs.KeptControls.{controls_of};
+ghost use Rattle.pos_profile.specs.Registries.{devices as registered};
 ghost use Rattle.pos_counter.specs.KeptDevices.{AreDevicesSound, devices_in};
 ghost use Rattle.pos_counter.specs.AtDevices.{FitsAt, IsDoneAt};
 ghost use Rattle.pos_counter.specs.Counters.{IsStepBeside, IsCounterSound};
+ghost use Rattle.pos_counter.specs.Orders.{CountsAt};
 ghost use Rattle.pos_counter.specs.Responses.{taken_in, shown};
 ghost use Rattle.pos_counter.specs.Steps.{InputTo, Snapshot as SnapshotOf};
 
@@ -86,6 +88,8 @@ fn input_there<P: Peripheral>(
     requires fits { FitsAt (devices_in P.Peripheral devices.old) place input.now }
     ensures done { IsDoneAt (devices_in P.Peripheral devices.old) place (TakenAt input.now place result)
         controls.old controls.new (devices_in P.Peripheral devices.new) }
+    ensures orders { CountsAt (registered P.Peripheral devices.old.registry) place (λ _ _ _. ⊤)
+        (registered P.Peripheral devices.new.registry) }
     ensures sound { AreDevicesSound P.Peripheral devices.new }
 {
     let peripheral = devices.registry.serving(place);

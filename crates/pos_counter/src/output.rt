@@ -6,8 +6,7 @@ ghost use Rattle.pos_profile.specs.Registries.{devices as registered};
 ghost use Rattle.pos_counter.specs.KeptDevices.{AreDevicesSound, devices_in};
 ghost use Rattle.pos_counter.specs.AtDevices.{IsAttachedAt, IsDoneAt};
 ghost use Rattle.pos_counter.specs.Counters.{IsStepBeside, IsCounterSound};
-ghost use Rattle.pos_counter.specs.Machine.{place_of};
-ghost use Rattle.pos_counter.specs.Orders.{CountsAt, OrdersOfWorkAt, orders_in};
+ghost use Rattle.pos_counter.specs.Orders.{CountsAt};
 ghost use Rattle.pos_counter.specs.Responses.{worked};
 ghost use Rattle.pos_counter.specs.Steps.{WorkOn};
 
@@ -36,8 +35,6 @@ impl<D: Disk, P: Peripheral> Counter<D, P> {
     pub fn work(&mut self, device: &[u8]) -> Result<WorkResult, WorkFault>
         requires sound { IsCounterSound P.Peripheral self.old }
         ensures step { IsStepBeside P.Peripheral self.old (WorkOn device.now) (worked result) self.new }
-        ensures orders { OrdersOfWorkAt (place_of (devices_in P.Peripheral self.old.devices) device.now) result
-            (orders_in P.Peripheral self.old.devices) (orders_in P.Peripheral self.new.devices) }
         ensures sound { IsCounterSound P.Peripheral self.new }
     {
         let Some((place, _)) = self.devices.find_served(device) else {

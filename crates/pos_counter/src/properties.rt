@@ -81,9 +81,8 @@ impl<D: Disk, P: Peripheral> Counter<D, P> {
     ) -> Result<Answer, NoMemory>
         requires in_range { number < length self.old.controls.items }
         requires sound { IsCounterSound P.Peripheral self.old }
-        ensures served { Serves D.Disk P.Peripheral self.old (CallOf number (call.Set property value.now))
+        ensures { Serves D.Disk P.Peripheral self.old (CallOf number (call.Set property value.now))
             (answered result) self.new }
-        ensures devices { self.new.devices ≡ self.old.devices }
     {
         if is_recovering(
             &self.controls[number],
@@ -112,9 +111,8 @@ impl<D: Disk, P: Peripheral> Counter<D, P> {
         requires in_range { number < length self.old.controls.items }
         requires sound { IsCounterSound P.Peripheral self.old }
         requires recovers { IsRecovering self.old.controls.items number property value.now self.old.totals.totals.mode }
-        ensures served { Serves D.Disk P.Peripheral self.old (CallOf number (call.Set property value.now))
+        ensures { Serves D.Disk P.Peripheral self.old (CallOf number (call.Set property value.now))
             (answered result) self.new }
-        ensures devices { self.new.devices ≡ self.old.devices }
     {
         let area = self.totals.area();
         let holder = find_holder(&self.controls[number], &self.claims, area);

@@ -20,7 +20,7 @@ returns-in-Ok g c =
     let room : c.len-number.result < most_controls = omega arith in
     let items =
     c.push_reserved.ensures.items ∙ ap (λ (ks : List KeptControl). ks ++ c.new.result ∷ []) c.reserve.ensures.items in
-    let served = quiet_serves g.D.Disk g.P.Peripheral old _ _ _ refl (with_place old.totals.totals)
+    let served = quiet_serves g.D.Disk g.P.Peripheral old _ _ _ refl (λ part. refl) (with_place old.totals.totals)
     (g.met.D.Disk.only_now _) c.add_control.ensures.disk c.in-Ok.ensures.ok
     (λ left. refl) c.requires.sound c.requires.sound.devices (λ left failures so. (
       subst (λ n. n < most_controls) count room,

@@ -1,10 +1,11 @@
-use Rattle.pos_counter.proofs.Common.{KeptControl, ap, found_under, machine, refl, ◌∙◌}
+use Rattle.pos_counter.proofs.Common.{KeptControl, Open, ap, found_under, machine, refl, ◌∙◌}
 use Rattle.pos_counter.proofs.LiftLemmas.{decided_weaker, kept_at, kept_machine, kept_same, set_machine}
+use Rattle.pos_counter.proofs.OrderLemmas.{answered_common}
 use Rattle.pos_counter.proofs.ServiceLemmas.{stays_serves}
 use Rattle.pos_counter.proofs.counter.Counter.open.Goals as goal
 
-pub returns-clause-served : goal.returns-clause-served
-returns-clause-served g c =
+pub returns : goal.returns
+returns g c =
     let old = c.args.self.now in
     let n = c.args.number in
     let h = c.index_mut.result.now in
@@ -12,6 +13,7 @@ returns-clause-served g c =
     let same = kept_same old.controls.items h c.requires.in_range c.index.ensures is in
     let category = c.category.ensures ∙ ap (λ (kept : KeptControl). kept.control.category) same in
     stays_serves g.D.Disk g.P.Peripheral old _ _ _ refl
+    (answered_common g.P.Peripheral old n (Open c.args.name.now) refl)
     (g.met.D.Disk.only_now _) c.requires.sound refl c.requires.sound.devices
     (λ part.
     let found = c.find_target-found.ensures part

@@ -1,7 +1,8 @@
 use Rattle.pos_counter.proofs.Common.{At, List, Machine, OpenDevice, Option, holder_at, holder_in, open_place, released}
 use Rattle.pos_counter.proofs.Common.{released_by, with_totals, ℕ, ◌≡◌}
-use Rattle.pos_counter.proofs.Common.{None, Some, Totals, ap, devices_in, part_with, refl, settled, sym, ◌∙◌}
+use Rattle.pos_counter.proofs.Common.{None, Release, Some, Totals, ap, devices_in, part_with, refl, settled, sym, ◌∙◌}
 use Rattle.pos_counter.proofs.LiftLemmas.{decided_some, decided_weaker, kept_at, kept_machine, set_machine}
+use Rattle.pos_counter.proofs.OrderLemmas.{answered_common}
 use Rattle.pos_counter.proofs.ServiceLemmas.{quiet_serves, stays_serves}
 use Rattle.pos_counter.proofs.counter.Counter.release.Goals as goal
 
@@ -14,17 +15,18 @@ freed_at : (m : Machine) (n : ℕ) {device : Option OpenDevice} {place : ℕ} �
     → released device m n ≡ record m { claims = released_by m.claims (open_place device) n }
 freed_at m n is = rw is refl
 
-pub returns-in-None-clause-served : goal.returns-in-None-clause-served
-returns-in-None-clause-served g c =
+pub returns-in-None : goal.returns-in-None
+returns-in-None g c =
     let old = c.args.self.now in
     let here = c.index_mut-control.ensures.value in
     stays_serves g.D.Disk g.P.Peripheral old _ _ _ refl
+    (answered_common g.P.Peripheral old c.args.number Release refl)
     (g.met.D.Disk.only_now _) c.requires.sound refl c.requires.sound.devices
     (λ part. rw (kept_at _ _ _ c.requires.in_range here) (decided_some (rw (← c.in-None.ensures)) refl
     (kept_machine old.controls.items _ _ _ part c.args.number refl here)))
 
-pub returns-in-Some-Totals-clause-served : goal.returns-in-Some-Totals-clause-served
-returns-in-Some-Totals-clause-served g c =
+pub returns-in-Some-Totals : goal.returns-in-Some-Totals
+returns-in-Some-Totals g c =
     let old = c.args.self.now in
     let here = c.index_mut-control.ensures.value in
     let opens = sym c.in-Some-Totals.ensures ∙ ap Some c.in-Some-Totals.field-0-is in
@@ -33,7 +35,8 @@ returns-in-Some-Totals-clause-served g c =
     let frees : (m : Machine)
     → released device m c.args.number ≡ with_totals m (record m.totals.totals { area = None }) =
     λ m. ap (λ d. released d m c.args.number) opens in
-    quiet_serves g.D.Disk g.P.Peripheral old _ _ _ refl c.release_area.new.totals.totals
+    quiet_serves g.D.Disk g.P.Peripheral old _ _ _ refl
+    (answered_common g.P.Peripheral old c.args.number Release refl) c.release_area.new.totals.totals
     (g.met.D.Disk.only_now _) c.release_area.ensures.disk refl
     (λ left. ap (λ (t : Totals). settled t.layout t.mode left) c.release_area.ensures.rest) c.requires.sound
     c.requires.sound.devices
@@ -48,8 +51,8 @@ returns-in-Some-Totals-clause-served g c =
     (λ same. rw same.1 (kept_machine old.controls.items _ devices _ _ c.args.number same.0 here))
     c.release_area.ensures.answer))
 
-pub returns-in-Some-At-clause-served : goal.returns-in-Some-At-clause-served
-returns-in-Some-At-clause-served g c =
+pub returns-in-Some-At : goal.returns-in-Some-At
+returns-in-Some-At g c =
     let old = c.args.self.now in
     let here = c.index_mut-control.ensures.value in
     let opens = sym c.in-Some-At.ensures ∙ ap Some c.in-Some-At.field-0-is in
@@ -57,7 +60,9 @@ returns-in-Some-At-clause-served g c =
     let frees : (m : Machine)
     → released device m c.args.number ≡ record m { claims = released_by m.claims (open_place device) c.args.number } =
     λ m. freed_at m c.args.number opens in
-    stays_serves g.D.Disk g.P.Peripheral old _ _ _ refl (g.met.D.Disk.only_now _) c.requires.sound refl
+    stays_serves g.D.Disk g.P.Peripheral old _ _ _ refl
+    (answered_common g.P.Peripheral old c.args.number Release refl)
+    (g.met.D.Disk.only_now _) c.requires.sound refl
     c.requires.sound.devices
     (λ part. rw (kept_at _ _ _ c.requires.in_range here, held_at _ _ _ _ opens, frees) (decided_weaker
     (λ done. (done.0, rw done.2 (set_machine old.controls.items _ _ _ part c.args.number c.release.new.self done.1)))

@@ -4,8 +4,8 @@ use Rattle.pos_counter.proofs.SoundnessLemmas.{totals_category}
 use Rattle.pos_counter.proofs.RecoveryLemmas.{asks_there, done_set, failed_serves, recovered_serves, starved_serves}
 use Rattle.pos_counter.proofs.counter.Counter.set_recovered.Goals as goal
 
-pub returns-in-Ok-clause-served : goal.returns-in-Ok-clause-served
-returns-in-Ok-clause-served g c =
+pub returns-in-Ok : goal.returns-in-Ok
+returns-in-Ok g c =
     let hs = c.args.self.now.controls.items in
     let n = c.args.number in
     let h = c.index_mut-control.result.now in
@@ -17,17 +17,17 @@ returns-in-Ok-clause-served g c =
     let is = totals_category n (c.requires.sound.machine part) there.at there.totals in
     let done = done_set there.control is n _ (kind_of m h.control) (signs_at m h.control) h c.set_control.new.control
     there.opened same there.names there.gives c.set_control.ensures in
-    recovered_serves g.D.Disk g.P.Peripheral c.args.self.now _ refl c.requires.sound c.requires.sound.devices n _ _
+    recovered_serves g.D.Disk g.P.Peripheral c.args.self.now _ refl refl c.requires.sound c.requires.sound.devices n _ _
     there c.set_control.result done.0
     c.in-Ok.ensures (λ part. set_machine hs _ _ _ part n c.set_control.new.control (rw same at done.1))
 
-pub returns-in-Ok-code-clause-served : goal.returns-in-Ok-code-clause-served
-returns-in-Ok-code-clause-served g c = failed_serves g.D.Disk g.P.Peripheral c.args.self.now _ refl c.requires.sound
-    c.requires.sound.devices c.args.number _ _ (asks_there c.requires.recovers) c.in-Err.fault c.in-Err.ensures
-    (λ part. refl) c.in-Ok-code.code c.in-Ok-code.ensures
+pub returns-in-Ok-code : goal.returns-in-Ok-code
+returns-in-Ok-code g c = failed_serves g.D.Disk g.P.Peripheral c.args.self.now _ refl refl
+    c.requires.sound c.requires.sound.devices c.args.number _ _ (asks_there c.requires.recovers) c.in-Err.fault
+    c.in-Err.ensures (λ part. refl) c.in-Ok-code.code c.in-Ok-code.ensures
 
-pub returns-in-Err-code-clause-served : goal.returns-in-Err-code-clause-served
-returns-in-Err-code-clause-served g c =
-    starved_serves g.D.Disk g.P.Peripheral c.args.self.now _ refl c.requires.sound c.requires.sound.devices
+pub returns-in-Err-code : goal.returns-in-Err-code
+returns-in-Err-code g c =
+    starved_serves g.D.Disk g.P.Peripheral c.args.self.now _ refl refl c.requires.sound c.requires.sound.devices
     c.args.number _ _ (asks_there c.requires.recovers) c.in-Err.fault c.in-Err.ensures (λ part. refl)
     c.in-Err-code.ensures

@@ -8,19 +8,17 @@ pub returns-in-Ok : goal.returns-in-Ok
 returns-in-Ok g c =
     let old = c.args.self.now in
     let kept = kept_in_place old.controls _ c.deref_mut.ensures.value c.work_there.auto.controls in
-    let served = steps_beside c.requires.sound c.in-Ok.ensures.sound refl refl
+    steps_beside c.requires.sound c.in-Ok.ensures.sound refl refl
+    (λ part. worked_orders _ _ c.in-Some.place c.in-Some.ensures.0 c.in-Ok.worked c.in-Ok.ensures.orders)
     (λ part. on_hardware _ _ _ _ _ _ part c.in-Some.place _
     (λ place. WorksAt (holder_at old.claims (Some place)) place (Ok c.in-Ok.worked))
-    c.in-Some.ensures.0 (rw (← kept) at (rw c.deref_mut.ensures.value at c.in-Ok.ensures.done))) in
-    let orders = worked_orders _ _ c.in-Some.place c.in-Some.ensures.0 c.in-Ok.worked c.in-Ok.ensures.orders in
-    record { step = served.step; orders = orders; sound = served.sound }
+    c.in-Some.ensures.0 (rw (← kept) at (rw c.deref_mut.ensures.value at c.in-Ok.ensures.done)))
 
 pub returns-in-Err : goal.returns-in-Err
 returns-in-Err g c =
     let old = c.args.self.now in
     let kept = kept_in_place old.controls _ c.deref_mut.ensures.value c.work_there.auto.controls in
-    let served = steps_beside c.requires.sound c.in-Err.ensures.sound refl refl
+    steps_beside c.requires.sound c.in-Err.ensures.sound refl refl
+    (λ part. starved_orders _ _ c.in-Some.place c.in-Some.ensures.0 c.in-Err.field-0 c.in-Err.ensures.orders)
     (λ part. want_finds_work _ _ _ _ _ _ part c.in-Some.place c.args.device.now c.in-Err.field-0
-    (sym c.in-Some.ensures.0) (rw (← kept) at (rw c.deref_mut.ensures.value at c.in-Err.ensures.done))) in
-    let orders = starved_orders _ _ c.in-Some.place c.in-Some.ensures.0 c.in-Err.field-0 c.in-Err.ensures.orders in
-    record { step = served.step; orders = orders; sound = served.sound }
+    (sym c.in-Some.ensures.0) (rw (← kept) at (rw c.deref_mut.ensures.value at c.in-Err.ensures.done)))
