@@ -35,7 +35,7 @@ DOCUMENTS = ["README.md", "CONTRIBUTING.md", "CHANGELOG.md", "abi/README.md", *s
              *sorted(glob.glob("docs/**/*.md", recursive=True))]
 CRATES = sorted(os.path.basename(path) for path in glob.glob("crates/*"))
 # Files that a command makes, or that stand for those of a reader.
-MADE = {"out/pos_console", "crates/pos_console/out/pos_console", "out/libkijolvar.a", "crates/kijolvar/out/libkijolvar.a",
+MADE = {"out/pos_console", "crates/pos_console/out/pos_console", "crates/pos_tool/out/pos_tool", "out/libkijolvar.a", "crates/kijolvar/out/libkijolvar.a",
         "abi/out", "till.disk", "till.toml", "day.py", "drawer.c", "libkijolvar.a", "libkijolvar.so"}
 # Words in backticks that are of the standard, of the system or of the checker, and so of no source here.
 OTHERS = {"checkHealth", "directIO", "transactionPrint", "paste", "diff", "strace", "dmesg", "smartctl", "libc", "LendsIf",
