@@ -596,9 +596,7 @@ def parts(documents):
 
     testing = documents["docs/contributing/testing.md"]
     said = [ticked(cells[0])[0] for cells in rows_of(testing, "What is tested") if ticked(cells[0])]
-    listed = read("tests/expected") if os.path.exists("tests/expected") else ""
-    ran = re.findall(r"^gate +\S+ +(.*?)(?: PROGRAM)?$", listed, re.M)
-    ran = ran or re.findall(r'^\s*try (.*?)(?: "\$program")?$', read(".ci/run"), re.M)
+    ran = re.findall(r"^gate +\S+ +(.*?)(?: PROGRAM)?$", read("tests/expected"), re.M)
     has("docs/contributing/testing.md", "the parts of .ci/run", [command for command in said if command in ran], ran)
     has("docs/contributing/testing.md", "tests crates", [ticked(cells[0])[0] for cells in rows_of(testing, "Tests crates")],
         [crate for crate in CRATES if crate.endswith("_tests")])

@@ -1,7 +1,7 @@
 #!/usr/bin/env bash
 # Runs the commands and the examples of README, abi/README.md, CONTRIBUTING.md, docs/guide/ and of some other
-# documents, in one folder that has abi/, examples/, the library's archive and the program on its path. By the word of a block it
-# is
+# documents, in one folder that has abi/, examples/, the library's archive and the program on its path. It leaves out the
+# items of lists. By the word of a block it is
 #   sh       commands, which print what is in the block `text` that follows, or nothing if none does;
 #   session  lines of a script and their answers, as `LINE => ANSWER`. Without a block `toml` before it, it is a run
 #            over the built profile; after one, over that profile and a new totals file;
