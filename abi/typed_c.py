@@ -6,6 +6,7 @@ Usage: abi/typed_c.py, or abi/typed_c.py --check, which compares the files with 
 """
 import json
 import pathlib
+import re
 import sys
 import textwrap
 
@@ -42,14 +43,20 @@ def constant(name):
     return "KIJ_" + name.removeprefix("UPOS_")
 
 
+STANDARD_NAMES = re.compile(r"\b(?:" + "|".join(member["name"] for group in DESCRIPTION["constants"]
+                                               for member in group["members"]) + r")\b")
+
+
 def property_constant(about):
     return "KIJ_PROP_" + about["snake"].upper()
 
 
 def comment(lines):
-    """A documentation comment of filled paragraphs. One that begins with '@' hangs. It may be indented."""
+    """A documentation comment of filled paragraphs. One that begins with '@' hangs. It may be indented. The standard's
+    constants have their names in C."""
     out = []
     for line in lines:
+        line = STANDARD_NAMES.sub(lambda found: constant(found[0]), line)
         hang = "        " if line.startswith("@") else ""
         out += textwrap.wrap(line, WIDTH - 8, subsequent_indent=hang) or [""]
     if len(out) == 1 and len(out[0]) + 11 <= WIDTH:

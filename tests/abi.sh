@@ -9,36 +9,8 @@ abi=$top/abi
 archive=$top/crates/kijolvar/out/libkijolvar.a
 work=$(mktemp -d)
 trap 'rm -rf "$work"' EXIT
-passed=0
-failed=0
-
-# told NAME WANTED FOUND: whether two texts are the same
-told() {
-  if [ "$2" = "$3" ]; then
-    passed=$((passed + 1))
-  else
-    failed=$((failed + 1))
-    printf 'failed: %s\n  wanted: %s\n  found:  %s\n' "$1" "$2" "$3"
-  fi
-}
-
-# runs NAME COMMAND ..: whether a command ends well
-runs() {
-  local name=$1 status
-  shift
-  "$@" > "$work/said" 2>&1
-  status=$?
-  told "$name" 0 "$status"
-  [ "$status" -eq 0 ] || tail -n 12 "$work/said"
-}
-
-# needs TOOL PACKAGE: whether a tool is there
-needs() {
-  if ! command -v "$1" > /dev/null; then
-    echo "failed: $1 is missing: install $2"
-    failed=$((failed + 1))
-  fi
-}
+# shellcheck source=tests/common.sh
+. "$top/tests/common.sh"
 
 needs rt "the Rattle kit"
 needs gcc "the Debian package gcc"

@@ -23,6 +23,8 @@ from emulator import take_unknown
 OFTEN, LOOKS, LONG = 0.05, 10, 0.1
 # How often a test is run at most, and for how long a machine is waited for that is busy, before each turn, in seconds.
 TURNS, PATIENCE = 5, 15
+# The file to which a line is written for each time that a test runs again, if a script has named one.
+COUNTED = os.environ.get("KIJOLVAR_RUNS_AGAIN")
 
 
 def read_waits(top):
@@ -100,6 +102,9 @@ class Watch:
 def tell(name, longest):
     """Says that a test runs again, and waits a while for a machine that is busy."""
     print(f"{name}: the machine stood still for {longest:.1f} s, so it runs again", flush=True)
+    if COUNTED:
+        with open(COUNTED, "a", encoding="utf-8") as file:
+            file.write(f"{name}\n")
     end = time.monotonic() + PATIENCE
     while not is_calm() and time.monotonic() < end:
         time.sleep(1.0)
@@ -110,14 +115,14 @@ class Checks:
 
     An order fails if its printer doesn't answer in time. The emulated one doesn't if the machine stands still, and no
     test can tell that from a fault. So a test that fails is run again if the machine stood still meanwhile. What it found
-    is printed each time, and the last time counts.
+    is printed each time, and the last time counts. The line before the last says how often a test ran again.
 
     Attributes:
         work: A folder for the files of the test that runs.
     """
 
     def __init__(self):
-        self.passed = self.failed = 0
+        self.passed = self.failed = self._again = 0
         # What the emulated devices didn't know, with the tests that sent it. Without a test there are no such devices.
         self._unknown, self._has_run = [], False
         self._room = self.work = pathlib.Path(tempfile.mkdtemp())
@@ -148,6 +153,7 @@ class Checks:
             if self.failed == before[1] or longest < LONG or turn == TURNS:
                 return
             self.passed, self.failed = before
+            self._again += 1
             tell(test.__name__, longest)
             if give_time is not None:
                 give_time()
@@ -160,6 +166,7 @@ class Checks:
             self.told("a test has the word of --only", True, False)
         if self._has_run:
             self.told("the emulated devices know each command", [], self._unknown[:5])
+            print(f"{self._again} runs again")
         print(f"{self.passed} passed, {self.failed} failed")
         sys.exit(self.failed != 0)
 

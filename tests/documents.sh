@@ -35,7 +35,7 @@ DOCUMENTS = ["README.md", "CONTRIBUTING.md", "CHANGELOG.md", "abi/README.md", *s
              *sorted(glob.glob("docs/**/*.md", recursive=True))]
 CRATES = sorted(os.path.basename(path) for path in glob.glob("crates/*"))
 # Files that a command makes, or that stand for those of a reader.
-MADE = {"out/pos_console", "crates/pos_console/out/pos_console", "out/libkijolvar.a", "crates/kijolvar/out/libkijolvar.a",
+MADE = {"out/pos_console", "crates/pos_console/out/pos_console", "crates/pos_tool/out/pos_tool", "out/libkijolvar.a", "crates/kijolvar/out/libkijolvar.a",
         "abi/out", "till.disk", "till.toml", "day.py", "drawer.c", "libkijolvar.a", "libkijolvar.so"}
 # Words in backticks that are of the standard, of the system or of the checker, and so of no source here.
 OTHERS = {"checkHealth", "directIO", "transactionPrint", "paste", "diff", "strace", "dmesg", "smartctl", "libc", "LendsIf",
@@ -596,9 +596,7 @@ def parts(documents):
 
     testing = documents["docs/contributing/testing.md"]
     said = [ticked(cells[0])[0] for cells in rows_of(testing, "What is tested") if ticked(cells[0])]
-    listed = read("tests/expected") if os.path.exists("tests/expected") else ""
-    ran = re.findall(r"^gate +\S+ +(.*?)(?: PROGRAM)?$", listed, re.M)
-    ran = ran or re.findall(r'^\s*try (.*?)(?: "\$program")?$', read(".ci/run"), re.M)
+    ran = re.findall(r"^gate +\S+ +(.*?)(?: PROGRAM)?$", read("tests/expected"), re.M)
     has("docs/contributing/testing.md", "the parts of .ci/run", [command for command in said if command in ran], ran)
     has("docs/contributing/testing.md", "tests crates", [ticked(cells[0])[0] for cells in rows_of(testing, "Tests crates")],
         [crate for crate in CRATES if crate.endswith("_tests")])

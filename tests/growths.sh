@@ -28,8 +28,8 @@ program=$(realpath "${1:-$top/crates/pos_console/out/pos_console}")
 work=$(mktemp -d)
 trap 'rm -rf "$work"' EXIT
 cd "$work" || exit 1
-passed=0
-failed=0
+# shellcheck source=tests/common.sh
+. "$top/tests/common.sh"
 all=0
 : > found
 
@@ -135,35 +135,6 @@ is_left() {
     hex=$(expand "$hex")
     [ "$(tail -c +$((place + 1)) disk | head -c $((${#hex} / 2)) | od -An -v -tx1 | tr -d ' \n')" = "$hex" ] || return 1
   done < "$1"
-}
-
-# expand HEX ..: the bytes in hex, without blanks, with what stands N times written out
-expand() {
-  local word
-  for word in $1; do
-    case $word in
-      *\**) printf "${word%\**}%.0s" $(seq "${word#*\*}") ;;
-      *) printf '%s' "$word" ;;
-    esac
-  done
-}
-
-# lay_disk FILE: makes the file `disk` by places and bytes
-lay_disk() {
-  local place hex
-  rm -f disk
-  truncate -s 327680 disk
-  while read -r place hex; do
-    [ "$place" = '#' ] && continue
-    printf "$(sed 's/../\\x&/g' <<< "$(expand "$hex")")" | dd of=disk bs=1 seek="$place" conv=notrunc status=none
-  done < "$1"
-}
-
-# move_disk SCRIPT: where the script has one that is run before, runs it and moves the file `disk` to layout 2
-move_disk() {
-  [ -f "$1.before" ] || return 0
-  "$program" run --profile "$1.profile" --disk disk < "$1.before" > /dev/null
-  "$program" migrate --disk disk
 }
 
 # is_told SCRIPT: whether want of memory was told before anything was printed

@@ -12,18 +12,8 @@ fi
 work=$(mktemp -d)
 trap 'rm -rf "$work"' EXIT
 cd "$work" || exit 1
-passed=0
-failed=0
-
-# told NAME WANTED FOUND: whether two texts are the same
-told() {
-  if [ "$2" = "$3" ]; then
-    passed=$((passed + 1))
-  else
-    failed=$((failed + 1))
-    printf 'failed: %s\n  wanted: %s\n  found:  %s\n' "$1" "$2" "$3"
-  fi
-}
+# shellcheck source=tests/common.sh
+. "$top/tests/common.sh"
 
 for needed in flock python3; do
   command -v "$needed" > /dev/null && continue

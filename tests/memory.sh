@@ -24,8 +24,8 @@ tests=$(realpath -m "${2:-$top/crates/pos_counter_tests/out/pos_counter_tests_te
 work=$(mktemp -d)
 trap 'rm -rf "$work"' EXIT
 cd "$work" || exit 1
-passed=0
-failed=0
+# shellcheck source=tests/common.sh
+. "$top/tests/common.sh"
 quiet_lines=0
 written_lines=0
 
@@ -160,35 +160,6 @@ watch() {
   written_lines=$((written_lines + $(tr l '\n' < events | grep -c d)))
 }
 
-# expand HEX ..: the bytes in hex, without blanks, with what stands N times written out
-expand() {
-  local word
-  for word in $1; do
-    case $word in
-      *\**) printf "${word%\**}%.0s" $(seq "${word#*\*}") ;;
-      *) printf '%s' "$word" ;;
-    esac
-  done
-}
-
-# lay_disk FILE: makes the file `disk` by places and bytes
-lay_disk() {
-  local place hex
-  rm -f disk
-  truncate -s 327680 disk
-  while read -r place hex; do
-    [ "$place" = '#' ] && continue
-    printf "$(sed 's/../\\x&/g' <<< "$(expand "$hex")")" | dd of=disk bs=1 seek="$place" conv=notrunc status=none
-  done < "$1"
-}
-
-# move_disk SCRIPT: where the script has one that is run before, runs it and moves the file `disk` to layout 2
-move_disk() {
-  [ -f "$1.before" ] || return 0
-  "$program" run --profile "$1.profile" --disk disk < "$1.before" > /dev/null
-  "$program" migrate --disk disk
-}
-
 # Before all else: lines are read one by one, a growth that is refused has an effect, and writes to the disk are seen
 printf 'new a CashDrawer\nnew a CashDrawer\nopen a d1\n' > first
 observe 100 first "$program"
@@ -254,9 +225,12 @@ watch_orders() {
 
 if [ -n "$is_with_tests" ]; then
   [ -x "$tests" ] || give_up "$tests isn't there: rt test builds it"
+  orders=0
   for name in $("$tests" --list | sed -n 's/^\(orders::.*\): test$/\1/p'); do
     watch_orders "$name"
+    orders=$((orders + 1))
   done
+  check 'tests that order something were run' [ "$orders" -gt 0 ]
 fi
 echo "$passed passed, $failed failed"
 [ "$failed" -eq 0 ]

@@ -5,7 +5,7 @@
 # can do, tests/native/memory.c what the library says without memory, and tests/native/cost.c says what an order costs.
 # tests/native/preloaded.c changes what the system does for a host, and tests/native/other_version.c which version the
 # library has.
-# It installs nothing, and a missing tool is a failure that names its package.
+# The line before its last says how often a test ran again, since the machine stood still. It installs nothing, and a missing tool is a failure that names its package.
 # Usage: tests/native.sh [WORD ..]. The words are those of tests/native.py: --faults N (100 random faults by default),
 # --seed N, --only WORD. KIJOLVAR_ARCHIVE names a library in place of the one that rt lib builds. Its last line is
 # 'N passed, M failed'.
@@ -16,42 +16,15 @@ here=$top/tests/native
 work=$(mktemp -d)
 trap 'rm -rf "$work"' EXIT
 export PYTHONDONTWRITEBYTECODE=1
-passed=0
-failed=0
-
-# told NAME WANTED FOUND: whether two texts are the same
-told() {
-  if [ "$2" = "$3" ]; then
-    passed=$((passed + 1))
-  else
-    failed=$((failed + 1))
-    printf 'failed: %s\n  wanted: %s\n  found:  %s\n' "$1" "$2" "$3"
-  fi
-}
-
-# runs NAME COMMAND ..: whether a command ends well
-runs() {
-  local name=$1 status
-  shift
-  "$@" > "$work/said" 2>&1
-  status=$?
-  told "$name" 0 "$status"
-  [ "$status" -eq 0 ] || tail -n 12 "$work/said"
-}
+# shellcheck source=tests/common.sh
+. "$top/tests/common.sh"
+count_runs_again
 
 # times NAME COMMAND ..: whether a command ends well that takes time: it runs again if it fails while the machine stands still
 times() {
   local name=$1
   shift
   runs "$name" python3 "$top/tests/checks.py" "$@"
-}
-
-# needs TOOL PACKAGE: whether a tool is there
-needs() {
-  if ! command -v "$1" > /dev/null; then
-    echo "failed: $1 is missing: install $2"
-    failed=$((failed + 1))
-  fi
 }
 
 [ -n "${KIJOLVAR_ARCHIVE:-}" ] || needs rt "the Rattle kit"
@@ -164,5 +137,6 @@ told "an order in C costs at most 1.3 times a bare round trip" 0 "$?"
 exec {to_emulator}>&-
 wait
 
+tell_runs_again
 echo "$passed passed, $failed failed"
 [ "$failed" -eq 0 ]

@@ -11,35 +11,15 @@ fi
 work=$(mktemp -d)
 trap 'rm -rf "$work"' EXIT
 cd "$work" || exit 1
-passed=0
-failed=0
-
-# needs FAULT PACKAGE COMMAND ..: ends with a failure if the command fails, and names the package of Debian that has it
-needs() {
-  local fault=$1 package=$2
-  shift 2
-  "$@" > /dev/null 2>&1 && return
-  echo "failed: $fault: install the package $package, or allow it here"
-  echo "0 passed, 1 failed"
-  exit 1
-}
+# shellcheck source=tests/common.sh
+. "$top/tests/common.sh"
 
 # what a command runs under so that the modes of files hold for it, also if root runs it
 held=()
 [ "$(id -u)" -ne 0 ] ||
   held=(setpriv --bounding-set=-dac_override,-dac_read_search --inh-caps=-dac_override,-dac_read_search)
-needs 'strace traces nothing' strace strace -o /dev/null true
-needs "setpriv can't drop root's rights over files" util-linux "${held[@]}" true
-
-# told NAME WANTED FOUND: whether two texts are the same
-told() {
-  if [ "$2" = "$3" ]; then
-    passed=$((passed + 1))
-  else
-    failed=$((failed + 1))
-    printf 'failed: %s\n  wanted: %s\n  found:  %s\n' "$1" "$2" "$3"
-  fi
-}
+has_to_run 'strace traces nothing' strace strace -o /dev/null true
+has_to_run "setpriv can't drop root's rights over files" util-linux "${held[@]}" true
 
 # ends NAME STATUS MESSAGE WORD ..: whether the program ends so on the words, over the script in the file `script`;
 # MESSAGE is the whole of standard error. What it prints stays in the file `out`. It runs under the words in `under`.

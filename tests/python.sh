@@ -12,36 +12,8 @@ trap 'rm -rf "$work"' EXIT
 export PYTHONDONTWRITEBYTECODE=1
 program=${1:-$top/crates/pos_console/out/pos_console}
 library=${2:-}
-passed=0
-failed=0
-
-# told NAME WANTED FOUND: whether two texts are the same
-told() {
-  if [ "$2" = "$3" ]; then
-    passed=$((passed + 1))
-  else
-    failed=$((failed + 1))
-    printf 'failed: %s\n  wanted: %s\n  found:  %s\n' "$1" "$2" "$3"
-  fi
-}
-
-# runs NAME COMMAND ..: whether a command ends well
-runs() {
-  local name=$1 status
-  shift
-  "$@" > "$work/said" 2>&1
-  status=$?
-  told "$name" 0 "$status"
-  [ "$status" -eq 0 ] || tail -n 12 "$work/said"
-}
-
-# needs TOOL PACKAGE: whether a tool is there
-needs() {
-  if ! command -v "$1" > /dev/null; then
-    echo "failed: $1 is missing: install $2"
-    failed=$((failed + 1))
-  fi
-}
+# shellcheck source=tests/common.sh
+. "$top/tests/common.sh"
 
 needs python3 "the Debian package python3"
 python3 -c 'import tomllib' 2> "$work/said" || {
@@ -162,7 +134,7 @@ if [ "${#mypy[@]}" -gt 1 ] || command -v mypy > "$work/said"; then
   MYPYPATH=$top/abi/python runs "mypy --strict of the document's listener" \
     "${mypy[@]}" --strict --cache-dir "$work/mypy" "$work/listener.py"
 else
-  echo "skipped: mypy isn't installed"
+  echo "3 skipped: mypy isn't installed"
 fi
 
 echo "$passed passed, $failed failed"

@@ -1,7 +1,7 @@
 #!/usr/bin/env bash
 # Runs the commands and the examples of README, abi/README.md, CONTRIBUTING.md, docs/guide/ and of some other
-# documents, in one folder that has abi/, the library's archive and the program on its path. By the word of a block it
-# is
+# documents, in one folder that has abi/, examples/, the library's archive and the program on its path. It leaves out the
+# items of lists. By the word of a block it is
 #   sh       commands, which print what is in the block `text` that follows, or nothing if none does;
 #   session  lines of a script and their answers, as `LINE => ANSWER`. Without a block `toml` before it, it is a run
 #            over the built profile; after one, over that profile and a new totals file;
@@ -13,7 +13,7 @@
 #   csharp   which isn't run.
 # A `python`, `c` or `rust` program also prints what is in the block `text` that follows. One whose first line is a
 # comment with a file's name is put into that file, for the commands that follow it.
-# In an indented block each line is a command. It ends well, and prints nothing or what abi/sale.stdout has, the last
+# In an indented block each line is a command. It ends well, and prints nothing or what examples/sale.stdout has, the last
 # one what is in the block `text` that follows. A block with semicolons at the ends of its lines is code in C, which
 # isn't run.
 # The lists below say which commands it doesn't run, and why; it fails for a command that neither ran nor is on a
@@ -37,7 +37,7 @@ if [ ! -f "$archive" ]; then
 fi
 mkdir -p "$work/bin" "$work/top/crates/kijolvar/out"
 ln -s "$(realpath "$program")" "$work/bin/pos_console"
-cp -r "$top/abi" "$work/top" && rm -rf "$work/top/abi/out"
+cp -r "$top/abi" "$top/examples" "$work/top" && rm -rf "$work/top/abi/out"
 cp "$archive" "$work/top/crates/kijolvar/out/libkijolvar.a"
 cd "$work/top" || exit 1
 PATH=$work/bin:$PATH TOP=$top python3 - <<'PROGRAM'
@@ -57,7 +57,8 @@ NAMED = re.compile(r"`(crates/[\w/]+\.rt)`")
 FILE = re.compile(r"(?:# |/\* |// )(\w+\.(?:py|c|rs))(?: \*/)?\n")
 # Commands that aren't run here: what they begin with, and why.
 NOT_RUN = [
-    (r"(?:\(cd crates/pos_console && rt run < stdin\))$", "it proves every crate, which the gate does"),
+    (r"\(cd crates/pos_console && rt run < stdin\)$", "it proves every crate, which the gate does"),
+    (r"\(cd crates/pos_tool && rt run -- version\)$", "it proves the tool, which the gate does"),
     (r"tests/quick\.sh$", "it runs by itself; all that it tries the gate tries too"),
     (r"\.ci/run$", "it runs this"),
     (r"rt check$", "it proves a crate, which the gate does"),
@@ -90,7 +91,7 @@ for line in sys.stdin:
     sys.stdout.write(json.dumps(said.getvalue()) + "\\n")
     sys.stdout.flush()
 """
-with open("abi/sale.stdout", encoding="utf-8") as file:
+with open("examples/sale.stdout", encoding="utf-8") as file:
     SALE = file.read()
 fitted = set()
 

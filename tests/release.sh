@@ -14,8 +14,8 @@ top=$(cd "$(dirname "$0")/.." && pwd)
 work=$(mktemp -d)
 root=
 mounts=()
-passed=0
-failed=0
+# shellcheck source=tests/common.sh
+. "$top/tests/common.sh"
 export PYTHONDONTWRITEBYTECODE=1
 
 # leave_root: takes out of the root what this put there
@@ -43,29 +43,11 @@ leave() {
 }
 trap leave EXIT
 
-# told NAME WANTED FOUND: whether two texts are the same
-told() {
-  if [ "$2" = "$3" ]; then
-    passed=$((passed + 1))
-  else
-    failed=$((failed + 1))
-    printf 'failed: %s\n  wanted: %s\n  found:  %s\n' "$1" "$2" "$3"
-  fi
-}
-
 # finish: prints the counts, and ends
 finish() {
   echo "$passed passed, $failed failed"
   [ "$failed" -eq 0 ]
   exit
-}
-
-# needs TOOL PACKAGE: whether a tool is there
-needs() {
-  if ! command -v "$1" > /dev/null; then
-    echo "failed: $1 is missing: install $2"
-    failed=$((failed + 1))
-  fi
 }
 
 # ---- the release
@@ -327,16 +309,16 @@ try_refusals() {
   git -C "$clone" config user.name tester
   git -C "$clone" config user.email tester@localhost
   refused "a commit without a record" "no gate is recorded" "$release" "$work/none"
-  printf '0 skipped\n5 passed, 1 failed\n' > "$work/log"
+  printf '0 skipped, 0 runs again\n5 passed, 1 failed\n' > "$work/log"
   refused "the record of a gate that failed" "the gate didn't pass" "$release" --record "$work/log"
   printf '5 passed, 0 failed\n' > "$work/log"
   refused "the record of another log" "the line before the last isn't" "$release" --record "$work/log"
-  printf '0 skipped\n5 passed, 0 failed\n' > "$work/log"
+  printf '0 skipped, 0 runs again\n5 passed, 0 failed\n' > "$work/log"
   echo >> "$clone/README.md"
   refused "the record of a tree with changes" "the tree has changes" "$release" --record "$work/log"
   refused "a tree with changes" "the tree has changes" "$release" "$work/none"
   git -C "$clone" checkout -q README.md
-  told "the record of a gate that passed" "5 passed, 0 failed, 0 skipped" \
+  told "the record of a gate that passed" "5 passed, 0 failed, 0 skipped, 0 runs again" \
     "$("$release" --record "$work/log" | sed 's/^recorded for [0-9a-f]*: //')"
   git -C "$clone" tag v9.9.9
   refused "a tag of another version" "the commit's tag is v9.9.9" "$release" "$work/none"
@@ -363,7 +345,7 @@ try_record() {
   local unnamed=(env -u EMAIL -u GIT_AUTHOR_EMAIL -u GIT_COMMITTER_EMAIL GIT_CONFIG_GLOBAL=/dev/null)
   local named=(-c user.name=tester -c user.email=tester@localhost)
   git clone -q --shared "$top" "$clone"
-  printf '#!/bin/sh\ntouch "%s/ran"\nprintf "0 skipped\\n5 passed, 0 failed\\n"\n' "$work" > "$clone/.ci/run"
+  printf '#!/bin/sh\ntouch "%s/ran"\nprintf "0 skipped, 0 runs again\\n5 passed, 0 failed\\n"\n' "$work" > "$clone/.ci/run"
   git -C "$clone" "${named[@]}" commit -qam "A short gate"
   git -C "$clone" config user.useConfigOnly true
   refused "a record without a name" "set git's user.name and user.email" \

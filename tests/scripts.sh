@@ -18,30 +18,8 @@ program=$(realpath "${1:-$top/crates/pos_console/out/pos_console}")
 work=$(mktemp -d)
 trap 'rm -rf "$work"' EXIT
 cd "$work" || exit 1
-passed=0
-failed=0
-
-# expand HEX ..: the bytes in hex, without blanks, with what stands N times written out
-expand() {
-  local word
-  for word in $1; do
-    case $word in
-      *\**) printf "${word%\**}%.0s" $(seq "${word#*\*}") ;;
-      *) printf '%s' "$word" ;;
-    esac
-  done
-}
-
-# lay_disk FILE: makes the file `disk` by places and bytes
-lay_disk() {
-  local place hex
-  rm -f disk
-  truncate -s 327680 disk
-  while read -r place hex; do
-    [ "$place" = '#' ] && continue
-    printf "$(sed 's/../\\x&/g' <<< "$(expand "$hex")")" | dd of=disk bs=1 seek="$place" conv=notrunc status=none
-  done < "$1"
-}
+# shellcheck source=tests/common.sh
+. "$top/tests/common.sh"
 
 # tell_left FILE: tells the places where the file `disk` has other bytes
 tell_left() {
@@ -113,13 +91,6 @@ EOF
 format_disk() {
   rm -f disk
   "$program" format --disk disk
-}
-
-# move_disk SCRIPT: where the script has one that is run before, runs it and moves the file `disk` to layout 2
-move_disk() {
-  [ -f "$1.before" ] || return 0
-  "$program" run --profile "$1.profile" --disk disk < "$1.before" > /dev/null
-  "$program" migrate --disk disk
 }
 
 # write_line HANDLE COUNT: the line that writes so many bytes at the start of a file

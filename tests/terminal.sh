@@ -1,15 +1,14 @@
 #!/usr/bin/env bash
-# Tries `kijolvar` at a terminal, by tmux: what is typed, completed and printed there. Without tmux it says so and tries
-# nothing.
+# Tries `kijolvar` at a terminal, by tmux: what is typed, completed and printed there.
 # Usage: tests/terminal.sh [TOOL]. Without a word it takes the program that was built in crates/pos_tool/out. Its last line is
 # 'N passed, M failed'; it ends with 0 where none failed.
 set -u
 top=$(cd "$(dirname "$0")/.." && pwd)
 tool=$(realpath "${1:-$top/crates/pos_tool/out/pos_tool}")
 if ! command -v tmux > /dev/null; then
-  echo "skipped: there is no tmux: install the package tmux"
-  echo "0 passed, 0 failed"
-  exit 0
+  echo "failed: tmux is missing: install the Debian package tmux"
+  echo "0 passed, 1 failed"
+  exit 1
 fi
 work=$(mktemp -d)
 socket=$work/socket

@@ -15,37 +15,17 @@ fi
 work=$(mktemp -d)
 trap 'rm -rf "$work"' EXIT
 cd "$work" || exit 1
-passed=0
-failed=0
-
-# told NAME WANTED FOUND: whether two texts are the same
-told() {
-  if [ "$2" = "$3" ]; then
-    passed=$((passed + 1))
-  else
-    failed=$((failed + 1))
-    printf 'failed: %s\n  wanted: %s\n  found:  %s\n' "$1" "$2" "$3"
-  fi
-}
-
-# needs FAULT PACKAGE COMMAND ..: ends with a failure if the command fails, and names the package of Debian that has it
-needs() {
-  local fault=$1 package=$2
-  shift 2
-  "$@" > /dev/null 2>&1 && return
-  echo "failed: $fault: install the package $package, or allow it here"
-  echo "0 passed, 1 failed"
-  exit 1
-}
+# shellcheck source=tests/common.sh
+. "$top/tests/common.sh"
 
 # what a command runs under so that the modes of files hold for it, also if root runs it
 held=()
 [ "$(id -u)" -ne 0 ] ||
   held=(setpriv --bounding-set=-dac_override,-dac_read_search --inh-caps=-dac_override,-dac_read_search)
-needs 'strace traces nothing' strace strace -o /dev/null true
-needs "setpriv can't drop root's rights over files" util-linux "${held[@]}" true
-needs 'there is no flock' util-linux flock --version
-needs 'there is no python3' python3 python3 --version
+has_to_run 'strace traces nothing' strace strace -o /dev/null true
+has_to_run "setpriv can't drop root's rights over files" util-linux "${held[@]}" true
+has_to_run 'there is no flock' util-linux flock --version
+has_to_run 'there is no python3' python3 python3 --version
 
 # ends NAME STATUS MESSAGE OUTPUT WORD ..: whether the tool ends so on the words, with these two texts whole. Its output
 # stays in the file `out`. It runs under the words in `under`.

@@ -6,7 +6,7 @@
 # - want of memory at each allocation in turn, and what the layer refuses;
 # - examples/sale.* print the same, and the one in C refuses an unknown article and one too many;
 # - examples/TypedTill.java and examples/till.mjs, which drive the program over a pipe, print the same, if a JDK or Node is
-#   there. They are reported as skipped if not, and aren't counted among the checks unless they fail;
+#   there. If not, it says that they are skipped;
 # - the tests of the crate and of its documentation, and clippy;
 # - what a typed call in C costs beside one by text (bench/typed.sh).
 # valgrind looks for misuse of the heap. It installs nothing, and a missing tool is a failure that names its package.
@@ -22,36 +22,9 @@ list=
 program=$(realpath -m "${1:-$top/crates/pos_console/out/pos_console}")
 work=$(mktemp -d)
 trap 'rm -rf "$work"' EXIT
-passed=0
-failed=0
-
-# told NAME WANTED FOUND: whether two texts are the same
-told() {
-  if [ "$2" = "$3" ]; then
-    passed=$((passed + 1))
-  else
-    failed=$((failed + 1))
-    printf 'failed: %s\n  wanted: %s\n  found:  %s\n' "$1" "$2" "$3"
-  fi
-}
-
-# runs NAME COMMAND ..: whether a command ends well
-runs() {
-  local name=$1 status
-  shift
-  "$@" > "$work/said" 2>&1
-  status=$?
-  told "$name" 0 "$status"
-  [ "$status" -eq 0 ] || tail -n 12 "$work/said"
-}
-
-# needs TOOL PACKAGE: whether a tool is there
-needs() {
-  if ! command -v "$1" > /dev/null; then
-    echo "failed: $1 is missing: install $2"
-    failed=$((failed + 1))
-  fi
-}
+# shellcheck source=tests/common.sh
+. "$top/tests/common.sh"
+count_runs_again
 
 [ -n "${KIJOLVAR_ARCHIVE:-}" ] || needs rt "the Rattle kit"
 needs gcc "the Debian package gcc"
@@ -191,7 +164,7 @@ cat "$work/before"
 grep -a -A 6 "panicked at\|^error" "$work/said"
 told "the crate's tests" "0 failed; 0 failed; 0 failed" \
   "$(grep -o '[0-9]* failed' "$work/said" | paste -s -d';' | sed 's/;/; /g')"
-told "the crate's tests ran" "22 passed 51 passed 23 passed" "$(grep -o '[0-9]* passed' "$work/said" | paste -s -d' ')"
+told "the crate's tests ran" "22 passed 53 passed 23 passed" "$(grep -o '[0-9]* passed' "$work/said" | paste -s -d' ')"
 (cd "$here/rust" && KIJOLVAR_LIB='' cargo build -q --offline > "$work/said" 2>&1)
 told "a crate without the archive says where it looked" 1 "$(grep -c 'make it by abi/build.sh' "$work/said")"
 runs "what runs scripts in Rust" cargo build -q --offline --release --manifest-path "$here/rust/Cargo.toml"
@@ -201,23 +174,19 @@ sells "the sale in Rust, watched" watched "$work/target/release/examples/sale"
 
 # pipes LANGUAGE TOOL COMMAND ..: whether a sale over a pipe prints what it has to, twice over the same file of totals
 pipes() {
-  local name=$1 tool=$2 round said wanted
+  local name=$1 tool=$2 round said='' wanted=''
   shift 2
   if ! command -v "$tool" > /dev/null; then
-    echo "skipped: the sale over a pipe in $name: $tool is missing"
+    echo "1 skipped: the sale over a pipe in $name: $tool is missing"
     return
   fi
   rm -rf "$work/pipe"
   mkdir "$work/pipe"
   for round in 1 2; do
-    said=$("$@" "$program" "$work/pipe" 2>&1)
-    wanted=$(sed "s/SALES 450, COUNT 1$/SALES $((450 * round)), COUNT $round/" "$top/examples/pipe.stdout")
-    if [ "$said" != "$wanted" ]; then
-      told "the sale over a pipe in $name, turn $round" "$wanted" "$said"
-      return
-    fi
+    said+=$("$@" "$program" "$work/pipe" 2>&1)$'\n'
+    wanted+=$(sed "s/SALES 450, COUNT 1$/SALES $((450 * round)), COUNT $round/" "$top/examples/pipe.stdout")$'\n'
   done
-  echo "the sale over a pipe in $name prints what it has to, twice"
+  told "the sale over a pipe in $name, twice" "$wanted" "$said"
 }
 
 pipes "Java, in a locale of other digits" javac java -Xshare:auto -Duser.language=ar -Duser.country=EG \
@@ -228,5 +197,6 @@ pipes "Node" node node "$top/examples/till.mjs"
 told "a typed call in C costs at most 1.15 times one by text" 0 "$?"
 cat "$work/costs"
 
+tell_runs_again
 echo "$passed passed, $failed failed"
 [ "$failed" -eq 0 ]

@@ -79,7 +79,7 @@ def parts():
     """The parts of the gate and those that run alone, with how many checks each makes."""
     listed = re.findall(r"^(gate|alone) +(\S+) +(.*?)(?: PROGRAM)?$", sources.read("tests/expected"), re.M)
     more = sorted(path for path in glob.glob("tests/*.sh", root_dir=sources.TOP)
-                  if not any(path == command.split(" ")[0] for _, _, command in listed))
+                  if os.access(os.path.join(sources.TOP, path), os.X_OK) and not any(path == command.split(" ")[0] for _, _, command in listed))
     rows = []
     for where, number, command in [*listed, *(("alone", "", path) for path in more)]:
         path = command.split(" ")[0]

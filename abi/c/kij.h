@@ -183,8 +183,8 @@ enum kij_flags {
  * kij_close. A call that changes the totals returns once the change is synced. In a process that was forked from the
  * till's, such a call writes nothing: KIJ_DISK_FAILED.
  *
- * @param profile the profile's text (TOML, docs/reference/profile.md), which ends in a 0 byte; null or empty is the
-    *   built profile
+ * @param profile the profile's text (TOML, docs/reference/profile.md), which ends in a 0 byte; null is the built
+ *   profile, and an empty text one without devices
  * @param totals  the path of the file of the totals; null with KIJ_EXISTING: the totals are in memory, and end with the
  *   till
  * @param flags   one of enum kij_flags
@@ -294,7 +294,8 @@ kij_result kij_backup(const char *path, const char *to);
 
 /**
  * Moves the totals in a file to layout 2, in place: their files stay, and may be more and longer from then on. A crash
- * at any moment leaves the files by one layout or the other, and you can move the file again.
+ * at any moment leaves the files by one layout or the other, and you can move the file again. If it failed, restart the
+ * machine first (docs/reference/trouble.md).
  *
  * @return KIJ_MOVED, KIJ_DAMAGED, KIJ_UNFORMATTED, KIJ_TOO_SMALL, KIJ_NO_MEMORY, KIJ_WRONG_VERSION, KIJ_DISK_FAILED, or
  * KIJ_SYSTEM on failure, also with why the file couldn't be written; KIJ_BAD_ARGUMENT without a path

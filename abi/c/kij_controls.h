@@ -120,7 +120,7 @@ enum {
 
 /** The values of PowerState (chapter Common Properties, Methods and Events). */
 enum {
-    /** The control is disabled, or PowerNotify is PN_DISABLED. */
+    /** The control is disabled, or PowerNotify is KIJ_PN_DISABLED. */
     KIJ_PS_UNKNOWN = 2000,
     /** The device is on. */
     KIJ_PS_ONLINE = 2001,
@@ -285,7 +285,7 @@ typedef enum kij_property {
     KIJ_PROP_POWER_NOTIFY = 6,
     /**
      * PowerState (Common Properties, Methods and Events): whether the device is on, if the control is enabled and
-     * PowerNotify is PN_ENABLED.
+     * PowerNotify is KIJ_PN_ENABLED.
      * Of every category: a number, read only. KIJ_PS_UNKNOWN, KIJ_PS_ONLINE, KIJ_PS_OFF_OFFLINE.
      * Reading: KIJ_E_CLOSED: the control is closed.
      */
@@ -348,7 +348,7 @@ typedef enum kij_property {
     KIJ_PROP_SCAN_DATA_LABEL = 15,
     /**
      * ScanDataType (Scanner (Bar Code Reader)): the type of the bar code, of the DataEvent that was delivered last.
-     * It is 0 if DecodeData was false then. Many types have names: SCAN_SDT_UPCA and the like.
+     * It is 0 if DecodeData was false then. Many types have names: KIJ_SCAN_SDT_UPCA and the like.
      * Of Scanner: a number, read only.
      * Reading: KIJ_E_CLOSED: the control is closed.
      */
@@ -538,7 +538,7 @@ kij_result kij_control_close(kij_control *control);
  * A claim that the control has already stays as it is. The call never waits: if another control has the device, it
  * fails at once.
  *
- * @param timeout How long the claim may take; UPOS_FOREVER is without end. Range: from -1 on milliseconds.
+ * @param timeout How long the claim may take; KIJ_FOREVER is without end. Range: from -1 on milliseconds.
  * @retval KIJ_E_CLOSED The control is closed.
  * @retval KIJ_E_ILLEGAL The timeout is below -1.
  * @retval KIJ_E_TIMEOUT Another control has claimed the device, or a file of the totals.
@@ -727,7 +727,7 @@ kij_result kij_printer_print_immediate(kij_control *printer, int64_t station, co
  *
  * A cut of 0 percent cuts nothing, but still needs a closed cover and paper.
  *
- * @param percentage How much of the paper is cut; PTR_CP_FULLCUT is a full cut. Range: 0 to 100 percent.
+ * @param percentage How much of the paper is cut; KIJ_PTR_CP_FULLCUT is a full cut. Range: 0 to 100 percent.
  * @retval KIJ_E_CLOSED The control is closed.
  * @retval KIJ_E_CLAIMED Another control has claimed the device.
  * @retval KIJ_E_NOTCLAIMED No control has claimed the device.
@@ -907,7 +907,7 @@ kij_result kij_totals_rename(kij_control *totals, int64_t handle, const void *na
  * The call never waits: if another control has the file, it fails at once.
  *
  * @param handle The file's handle.
- * @param timeout How long the claim may take; UPOS_FOREVER is without end. Range: from -1 on milliseconds.
+ * @param timeout How long the claim may take; KIJ_FOREVER is without end. Range: from -1 on milliseconds.
  * @retval KIJ_E_CLOSED The control is closed.
  * @retval KIJ_E_DISABLED The control is disabled.
  * @retval KIJ_E_FAILURE The totals are off.

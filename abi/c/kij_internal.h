@@ -293,7 +293,12 @@ static inline kij_argument kij_internal_bytes(const void *data, size_t size) {
     return argument;
 }
 
-/* kij_totals_file.c: the file of the totals. */
+/* The text by which the library gets a profile: to it an empty one is the built profile, as null is. */
+static inline const char *kij_internal_profile(const char *profile) {
+    return profile != NULL && *profile == 0 ? "\n" : profile;
+}
+
+/* kij_totals_file.c: the file of the totals. Its profiles are texts for the library. */
 
 /* Opens or creates the file for a till over the profile, and locks it: 0, or errno, or a code of enum kij_code with a
  * minus. */

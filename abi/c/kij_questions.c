@@ -38,6 +38,7 @@ kij_result kij_profile_mistake(const char *profile, kij_mistake *mistake) {
     size_t needed = 0;
     if (mistake == NULL) return plain(KIJ_BAD_ARGUMENT);
     if (!is_of_version()) return plain(KIJ_WRONG_VERSION);
+    profile = kij_internal_profile(profile);
     memset(mistake, 0, sizeof *mistake);
     uint32_t code = kijolvar_profile_mistake((const uint8_t *)profile, size_of(profile), &at,
                                              (uint8_t *)mistake->reason, sizeof mistake->reason - 1, &needed);
@@ -87,6 +88,7 @@ kij_result kij_devices(const char *profile, kij_device *devices, size_t room, si
     size_t size = 4096, needed = 0;
     if (count == NULL || (devices == NULL && room != 0)) return plain(KIJ_BAD_ARGUMENT);
     if (!is_of_version()) return plain(KIJ_WRONG_VERSION);
+    profile = kij_internal_profile(profile);
     for (;;) {
         char *text = (char *)malloc(size);
         if (text == NULL) return plain(KIJ_NO_MEMORY);

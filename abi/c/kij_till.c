@@ -41,6 +41,7 @@ kij_result kij_open(const char *profile, const char *totals, int flags, kij_till
     /* A path that is missing by mistake: totals in memory wouldn't outlive the till. */
     if (totals == NULL && flags != KIJ_EXISTING) return plain(KIJ_BAD_ARGUMENT);
     if (kijolvar_version() != KIJOLVAR_VERSION) return plain(KIJ_WRONG_VERSION);
+    profile = kij_internal_profile(profile);
     kij_till *made = (kij_till *)calloc(1, sizeof *made);
     if (made == NULL) return plain(KIJ_NO_MEMORY);
     made->file = -1;

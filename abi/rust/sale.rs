@@ -1,7 +1,7 @@
 //! Rings up a sale by typed calls and by lines of the text interface, as c/sale.c does. Usage: sale_rust FILE
 use kijolvar::standard::{DisplayAttribute, PrinterStation};
 use kijolvar::{
-    CashDrawer, Control, Error, Event, HardTotals, LineDisplay, PosPrinter, Scanner, Till, Totals,
+    CashDrawer, Control, Error, Event, HardTotals, LineDisplay, PosPrinter, Scanner, Till, Totals, BUILT_PROFILE,
 };
 use std::time::Duration;
 
@@ -95,6 +95,6 @@ fn look(till: &Till) -> Result<(), Error> {
 
 fn main() -> Result<(), Error> {
     let path = std::env::args().nth(1).unwrap_or_default();
-    sell(&Till::open("", Totals::create(&path))?)?;
-    look(&Till::open("", Totals::create(&path))?)
+    sell(&Till::open(BUILT_PROFILE, Totals::create(&path))?)?;
+    look(&Till::open(BUILT_PROFILE, Totals::create(&path))?)
 }

@@ -49,6 +49,8 @@ static void said_by_system(void) {
         kij_result result = {KIJ_SYSTEM, refusals[place].why, KIJ_NO_CATEGORY};
         wants(refusals[place].text, strcmp(kij_strerror(result), refusals[place].text) == 0);
     }
+    kij_result failed = {KIJ_DISK_FAILED, 0, KIJ_NO_CATEGORY};
+    wants("what to do after a failed sync", strstr(kij_strerror(failed), "trouble.md, \"After a failed sync\"") != NULL);
 }
 
 /* Each code has a name and a text, which no other has. */
@@ -391,15 +393,32 @@ static void profiles(void) {
     gives("a number", KIJ_BAD_PROFILE, kij_profile_mistake(wide, &mistake));
     wants("its entry", mistake.line == 0 && strcmp(mistake.reason, "device 1: columns must be 1 to 80") == 0);
     gives("its devices", KIJ_BAD_PROFILE, kij_devices(wide, devices, 4, &count));
-    succeeds("devices", kij_devices("", devices, 4, &count));
+    succeeds("devices", kij_devices(NULL, devices, 4, &count));
     wants("all are counted", count == 5);
     wants("a display", strcmp(devices[2].name, "p1") == 0 && devices[2].category == KIJ_LINE_DISPLAY &&
                            devices[2].rows == 2 && devices[2].columns == 4 && devices[2].chars == 0);
     wants("a printer", strcmp(devices[3].name, "r1") == 0 && devices[3].category == KIJ_POS_PRINTER &&
                            devices[3].chars == 8 && devices[3].near_end == 2);
-    gives("no room", KIJ_BAD_ARGUMENT, kij_devices("", NULL, 1, &count));
+    gives("no room", KIJ_BAD_ARGUMENT, kij_devices(NULL, NULL, 1, &count));
     succeeds("a count alone", kij_devices("[[spare]]\ncategory = \"Scanner\"\n", NULL, 0, &count));
     wants("no devices", count == 0);
+    count = 1;
+    succeeds("an empty profile", kij_devices("", devices, 4, &count));
+    wants("an empty profile has no devices", count == 0);
+    succeeds("an empty profile is sound", kij_profile_mistake("", &mistake));
+}
+
+/* A till over an empty profile, with totals in memory and in a file, has no devices. The file is removed. */
+static void without_devices(const char *path) {
+    const char *const totals[] = {NULL, path};
+    kij_till *till;
+    kij_control *drawer;
+    for (int place = 0; place < 2; place++) {
+        succeeds("a till", kij_open("", totals[place], place == 0 ? KIJ_EXISTING : KIJ_CREATE_NEW, &till));
+        gives("no drawer", KIJ_E_NOEXIST, kij_start(till, KIJ_CASH_DRAWER, "d1", KIJ_UNCLAIMED, &drawer));
+        kij_close(till);
+    }
+    wants("the file is removed", remove(path) == 0);
 }
 
 /* Writes a byte of a file. */
@@ -562,7 +581,7 @@ static void any_of_several(void) {
     kij_control *first, *scanner, *last;
     const char *answer;
     heard all;
-    succeeds("a till", kij_open("", NULL, KIJ_EXISTING, &till));
+    succeeds("a till", kij_open(NULL, NULL, KIJ_EXISTING, &till));
     succeeds("a drawer", kij_start(till, KIJ_CASH_DRAWER, "d1", KIJ_UNCLAIMED, &first));
     succeeds("lines", kij_carry_out(till, lines, KIJ_ZERO_ENDED, &answer));
     succeeds("a scanner", kij_start(till, KIJ_SCANNER, "s1", KIJ_CLAIMED, &scanner));
@@ -595,9 +614,10 @@ int main(int count, char **words) {
     if (count != 2) return 2;
     texts();
     profiles();
+    without_devices(words[1]);
     totals_files(words[1]);
     backups(words[1]);
-    succeeds("a till", kij_open("", NULL, KIJ_EXISTING, &till));
+    succeeds("a till", kij_open(NULL, NULL, KIJ_EXISTING, &till));
     arguments(till);
     opened_on(till);
     times(till);

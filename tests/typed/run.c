@@ -341,8 +341,6 @@ int main(int count, char **words) {
     if (strcmp(words[1], "-") != 0) {
         FILE *file = fopen(words[1], "rb");
         profile = read_all(file, &size);
-        /* An empty text is the built profile, so one without devices has a line feed. */
-        if (size == 0) strcpy(profile, "\n");
         fclose(file);
     }
     kij_result result = kij_open(profile, strcmp(words[2], "-") == 0 ? NULL : words[2], KIJ_EXISTING, &till);

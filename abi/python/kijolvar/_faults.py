@@ -224,7 +224,8 @@ class TooManyControlsError(Error):
 _FAULTS: dict[int, tuple[type[LibraryFault], str]] = {
     KIJOLVAR_NO_MEMORY: (NoMemoryError, "there was no memory, and nothing was done"),
     KIJOLVAR_CUT: (NoMemoryError, "there was no memory for the whole answer"),
-    KIJOLVAR_DISK_FAILED: (DiskError, "the file of the totals failed: the till can only be closed"),
+    KIJOLVAR_DISK_FAILED: (DiskError, "the totals file failed: close the till; before you open the file again, read "
+                           "docs/reference/trouble.md, \"After a failed sync\""),
     KIJOLVAR_FORMATTED: (FormattedError, "the file has totals already"),
     KIJOLVAR_TOO_SMALL: (TooSmallError, "the file is too short for totals"),
     KIJOLVAR_UNFORMATTED: (UnformattedError, "the file isn't formatted: it has no totals"),

@@ -220,9 +220,9 @@ def backup(path: Path, to: Path, library: Path | ctypes.CDLL | None = None) -> N
 def migrate(path: Path, library: Path | ctypes.CDLL | None = None) -> None:
     """Moves the totals in a file to layout 2, in place: their files stay, and may be more and longer from then on.
 
-    A crash at any moment leaves the files by one layout or the other, and you can move the file again.
-    docs/reference/totals-file.md,
-    "The move to layout 2".
+    A crash at any moment leaves the files by one layout or the other, and you can move the file again
+    (docs/reference/totals-file.md, "The move to layout 2"). If it failed, restart the machine first
+    (docs/reference/trouble.md).
 
     Raises:
         MovedError: The totals have layout 2 already.

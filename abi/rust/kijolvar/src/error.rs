@@ -165,6 +165,12 @@ impl fmt::Display for Cause {
             Cause::System(cause) if cause.kind() == io::ErrorKind::WouldBlock => {
                 "the file of the totals is in use: close the other program that has it open"
             }
+            Cause::System(cause) if cause.kind() == io::ErrorKind::NotFound => {
+                "the file of the totals isn't there; if it was to be created, its folder isn't, or /proc"
+            }
+            Cause::System(cause) if cause.kind() == io::ErrorKind::AlreadyExists => {
+                "the file of the totals is there already"
+            }
             Cause::System(cause) => return write!(out, "{cause}"),
             Cause::BadAnswer(text) => return write!(out, "the library answered something unknown: {text}"),
             Cause::BadProfile(mistake) => return write!(out, "the profile is refused: {mistake}"),
@@ -177,7 +183,14 @@ impl fmt::Display for Cause {
             Cause::NoMemory => "there was no memory",
             Cause::NoAnswer => "there was no memory for the answer",
             Cause::TooSmall => "the file is shorter than a disk of totals",
-            Cause::DiskFailed(_) => "the file of the totals couldn't be written",
+            Cause::DiskFailed(fault) => {
+                let why = fault.as_ref().map_or(String::new(), |fault| format!(" ({fault})"));
+                return write!(
+                    out,
+                    "the totals file failed{why}: close the till; before you open the file again, read \
+                     docs/reference/trouble.md, \"After a failed sync\""
+                );
+            }
             Cause::WrongVersion => "the library is of another version",
             Cause::BadArgument => "an argument can't be passed on",
             Cause::NameInUse => "a control has the name already",

@@ -3,7 +3,7 @@ use crate::error::{Cause, Error};
 use crate::raw::{kijolvar_devices, kijolvar_migrate_file, kijolvar_profile_mistake, kijolvar_survey};
 use crate::stack::with_stack;
 use crate::standard::{library, Category};
-use crate::till::{check_version, opening_cause, Inner};
+use crate::till::{check_version, library_text, opening_cause, Inner, BUILT_PROFILE};
 use crate::totals_file::{open_existing, put_new, read_file, read_steady};
 use std::fmt;
 use std::path::Path;
@@ -142,9 +142,9 @@ fn read_device(line: &str) -> Option<ProfileDevice> {
 pub fn devices(profile: &str) -> Result<Vec<ProfileDevice>, Error> {
     let failed = |cause| Error::new("devices", cause);
     check_version().map_err(failed)?;
+    let given = library_text(profile);
     // SAFETY: slices and a place, lent for the call.
-    let found =
-        ask(|text, room, needed| unsafe { kijolvar_devices(profile.as_ptr(), profile.len(), text, room, needed) });
+    let found = ask(|text, room, needed| unsafe { kijolvar_devices(given.as_ptr(), given.len(), text, room, needed) });
     let (code, text) = found.map_err(failed)?;
     match code {
         library::OK => {
@@ -236,7 +236,8 @@ pub fn backup(path: impl AsRef<Path>, to: impl AsRef<Path>) -> Result<(), Error>
 }
 
 /// Moves the totals in a file to layout 2, in place: their files stay, and may be more and longer from then on. A crash
-/// at any moment leaves the files by one layout or the other, and you can move the file again.
+/// at any moment leaves the files by one layout or the other, and you can move the file again. If it failed, restart
+/// the machine first (docs/reference/trouble.md).
 ///
 /// # Errors
 ///
@@ -248,7 +249,7 @@ pub fn migrate(path: impl AsRef<Path>) -> Result<(), Error> {
     check_version().map_err(failed)?;
     let file = open_existing(path.as_ref()).map_err(|cause| failed(Cause::System(cause)))?;
     let bytes = Inner::bytes_of(&file).map_err(failed)?;
-    let mut till = Inner::over_file("", file, bytes, kijolvar_migrate_file).map_err(failed)?;
+    let mut till = Inner::over_file(BUILT_PROFILE, file, bytes, kijolvar_migrate_file).map_err(failed)?;
     till.settle().map_err(|cause| failed(cause.of_file()))
 }
 

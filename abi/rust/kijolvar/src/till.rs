@@ -23,7 +23,43 @@ use std::time::Duration;
 
 /// The text of the built profile: the drawer `d1`, the scanner `s1`, the display `p1` of 2 rows of 4 columns, the
 /// printer `r1` of 8 characters a line with 5 lines of paper, the totals `t1`, and a spare drawer.
-pub const BUILT_PROFILE: &str = "";
+pub const BUILT_PROFILE: &str = r#"[[device]]
+name = "d1"
+category = "CashDrawer"
+
+[[device]]
+name = "s1"
+category = "Scanner"
+
+[[device]]
+name = "p1"
+category = "LineDisplay"
+rows = 2
+columns = 4
+
+[[device]]
+name = "r1"
+category = "POSPrinter"
+chars = 8
+lines = 5
+near = 2
+
+[[device]]
+name = "t1"
+category = "HardTotals"
+
+[[spare]]
+category = "CashDrawer"
+"#;
+
+/// The text by which the library gets a profile: to it an empty one is the built profile.
+pub(crate) fn library_text(profile: &str) -> &str {
+    match profile {
+        BUILT_PROFILE => "",
+        "" => "\n",
+        other => other,
+    }
+}
 
 /// A call of the library that makes a till over a file's bytes.
 type Begin = unsafe extern "C" fn(*const u8, usize, *const u8, usize, *mut *mut c_void) -> u32;
@@ -109,10 +145,11 @@ impl Inner {
 
     /// A till with totals in memory.
     fn in_memory(profile: &str) -> Result<Inner, Cause> {
+        let text = library_text(profile);
         let (code, at) = with_stack(|| {
             let mut at = std::ptr::null_mut();
             // SAFETY: a slice and a place, lent for the call.
-            let code = unsafe { kijolvar_open(profile.as_ptr(), profile.len(), &mut at) };
+            let code = unsafe { kijolvar_open(text.as_ptr(), text.len(), &mut at) };
             (code, Raw(at))
         })?;
         match code {
@@ -123,10 +160,11 @@ impl Inner {
 
     /// A till over a file's bytes, which are the room for its errands from then on.
     pub(crate) fn over_file(profile: &str, file: LockedFile, bytes: Vec<u8>, begin: Begin) -> Result<Inner, Cause> {
+        let text = library_text(profile);
         let (code, at) = with_stack(|| {
             let mut at = std::ptr::null_mut();
             // SAFETY: slices and a place, lent for the call.
-            let code = unsafe { begin(profile.as_ptr(), profile.len(), bytes.as_ptr(), bytes.len(), &mut at) };
+            let code = unsafe { begin(text.as_ptr(), text.len(), bytes.as_ptr(), bytes.len(), &mut at) };
             (code, Raw(at))
         })?;
         match code {
@@ -460,7 +498,7 @@ pub struct Till {
 
 impl Till {
     /// Opens a till over a profile's text (TOML, docs/reference/profile.md; [`BUILT_PROFILE`] is the built one), with
-    /// its totals in memory or in a file.
+    /// its totals in memory or in a file. An empty text is a profile without devices.
     ///
     /// The file is locked until the till is dropped, and a call that changes the totals returns once the change is
     /// synced. A file that isn't formatted opens; enabling its totals is E_NOHARDWARE.

@@ -2,7 +2,7 @@
 use kijolvar::standard::{Category, DrawerStatus, ScrollDirection, State, PTR_CP_FULLCUT};
 use kijolvar::standard::{DisplayAttribute, ErrorLocus, ErrorReply, ExtendedCode, PrinterStation, ResultCode};
 use kijolvar::standard::{PowerNotify, PowerStatus};
-use kijolvar::{backup, check, files, migrate, StatusUpdate, Till, Totals, Value, Work, BUILT_PROFILE};
+use kijolvar::{backup, check, devices, files, migrate, StatusUpdate, Till, Totals, Value, Work, BUILT_PROFILE};
 use kijolvar::{Actor, Asked, CashDrawer, Cause, Error, Event, Events, HardTotals, Order, PosPrinter, PrinterReply};
 use kijolvar::{DisplaySettings, Driver, DriverTill, EscPosPrinter, EscPosSettings, Port, Scan, SerialDisplay};
 use kijolvar::{Property, Scanner, SerialSettings, WedgeScanner, WireSettings};
@@ -65,10 +65,37 @@ fn errors_go_anywhere() {
 }
 
 #[test]
+fn an_empty_profile_has_no_devices() {
+    let place = Place::new("none");
+    assert_eq!(devices("").unwrap(), []);
+    for totals in [Totals::Memory, Totals::create_new(place.file())] {
+        let till = Till::open("", totals).unwrap();
+        assert_eq!(till.cash_drawer("d1").unwrap().enabled().unwrap_err().code(), Some(ResultCode::NoExist));
+    }
+}
+
+#[test]
+fn the_built_profile_has_its_text() {
+    // With a line feed more it is a text as any other.
+    let text = format!("{BUILT_PROFILE}\n");
+    assert_eq!(devices(&text).unwrap(), devices(BUILT_PROFILE).unwrap());
+    let said = |profile: &str| {
+        let till = Till::open(profile, Totals::Memory).unwrap();
+        let mut lines = String::from("new r POSPrinter\nopen r r1\nclaim r 0\nset r DeviceEnabled true\n");
+        for _ in 0..6 {
+            lines += "get r RecNearEnd\ncall r printNormal 2 610a\n";
+        }
+        till.carry_out(&(lines + "detach d1\nattach d1 2\nattach d1 1\nshow p1\nshow r1\n")).unwrap()
+    };
+    assert_eq!(said(&text), said(BUILT_PROFILE));
+}
+
+#[test]
 fn totals_stay_in_their_file() {
     let place = Place::new("stay");
     let missing = Till::open(BUILT_PROFILE, Totals::existing(place.file())).unwrap_err();
     assert_eq!(system_kind(&missing), Some(ErrorKind::NotFound));
+    assert!(missing.to_string().starts_with("Till::open: the file of the totals isn't there; "), "{missing}");
     let refused = Till::open("nonsense", Totals::create(place.file())).unwrap_err();
     let Cause::BadProfile(mistake) = refused.cause() else { panic!("{refused}") };
     assert!(mistake.reason.starts_with("not TOML: ") && mistake.place == Some((1, 9)), "{mistake}");
@@ -79,6 +106,7 @@ fn totals_stay_in_their_file() {
         assert_eq!(system_kind(&in_use), Some(ErrorKind::WouldBlock));
         let taken = Till::open(BUILT_PROFILE, Totals::create_new(place.file())).unwrap_err();
         assert_eq!(system_kind(&taken), Some(ErrorKind::AlreadyExists));
+        assert_eq!(taken.to_string(), "Till::open: the file of the totals is there already");
         let totals = till.hard_totals("t1").unwrap().enabled().unwrap();
         let handle = if round == 1 { totals.create("DAY", 1, false).unwrap() } else { totals.find("DAY").unwrap().0 };
         assert_eq!(totals.read(handle, 0, 1).unwrap(), [round - 1]);
@@ -104,7 +132,10 @@ fn a_forked_process_writes_nothing() {
     assert!(system::is_so_forked(|| {
         let failed = totals.write(day, 0, [7]).is_err_and(|error| {
             let Cause::DiskFailed(Some(fault)) = error.cause() else { return false };
-            fault.to_string() == "another process has opened the till"
+            let said = error.to_string();
+            said.starts_with("write: the totals file failed (another process has opened the till): close the till; ")
+                && said.ends_with("read docs/reference/trouble.md, \"After a failed sync\"")
+                && fault.to_string() == "another process has opened the till"
         });
         let fails = totals.write(day, 0, [8]).is_err_and(|error| matches!(error.cause(), Cause::DiskFailed(None)));
         // SAFETY: the process ends before it would drop them again.

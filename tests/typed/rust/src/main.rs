@@ -8,7 +8,7 @@ mod words;
 
 use kijolvar::standard::ErrorReply;
 use kijolvar::{CashDrawer, Control, Error, Event, HardTotals, LineDisplay, PosPrinter, Property, Scanner};
-use kijolvar::{Till, Totals, Value, Work};
+use kijolvar::{Till, Totals, Value, Work, BUILT_PROFILE};
 use std::collections::HashMap;
 use std::io::{Read, Write};
 use std::ops::Deref;
@@ -199,8 +199,7 @@ impl Run<'_> {
 fn main() -> Result<(), Box<dyn std::error::Error>> {
     let given: Vec<String> = std::env::args().skip(1).collect();
     let [profile, file] = given.as_slice() else { return Err("usage: run PROFILE|- FILE|- < SCRIPT".into()) };
-    // An empty text is the built profile, so one without devices has a line feed.
-    let profile = if profile == "-" { String::new() } else { std::fs::read_to_string(profile)? + "\n" };
+    let profile = if profile == "-" { BUILT_PROFILE.to_string() } else { std::fs::read_to_string(profile)? };
     let till = Till::open(&profile, if file == "-" { Totals::Memory } else { Totals::existing(file) })?;
     let mut script = Vec::new();
     std::io::stdin().read_to_end(&mut script)?;
