@@ -40,7 +40,7 @@ fn main(rt: HostRuntime) -> ExitCode {
     let mut reader = ReaderSource::new(rt.stdin());
     let mut writer = WriterSink::new(rt.stdout());
     let words = read_words(&rt);
-    let mut system = rt.clone();
+    let mut system = rt;
     perform(
         &SystemFiles::of(&rt),
         &mut system,
