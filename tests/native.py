@@ -2459,6 +2459,9 @@ def try_refusals():
         told("no speed of a line", "KIJ_BAD_SETTINGS", host.ask(f"printer r1 {port} serial 9601"))
         told("no time for an order", ["KIJ_BAD_SETTINGS"] * 2,
              [host.ask(f"printer r1 {port} timeout 0"), host.ask(f"display p1 {port} timeout 0")])
+        told("longer times than 2,147,483 seconds", ["KIJ_BAD_SETTINGS"] * 5,
+             [host.ask(f"{words} {port} {key} 2147483001") for key, made in (("timeout", 2), ("pause", 3))
+              for words in ("printer r1", "display p1", "scanner s1")[:made]])
         told("an order that needn't end, and a port that is never tried again", ["KIJ_BAD_SETTINGS"] * 5,
              [host.ask(f"{words} {port} {key} -1") for key, made in (("timeout", 2), ("pause", 3))
               for words in ("printer r1", "display p1", "scanner s1")[:made]])

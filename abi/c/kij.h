@@ -629,8 +629,9 @@ typedef struct kij_escpos_settings {
     /** Whether the printer says nothing by itself, and doesn't know GS ( H. Then it is asked for its status (DLE EOT),
      * and whether an order is printed (GS r). */
     bool is_asked;
-    /** How long the printer may go on without acknowledging a line, 1 or more: an order has to end, so KIJ_FOREVER is
-     * refused. And how long to wait before a lost port is tried again, 0 or more. Both are in milliseconds. */
+    /** How long the printer may go on without acknowledging a line, 1 to 2,147,483,000: an order has to end, so
+     * KIJ_FOREVER is refused. And how long to wait before a lost port is tried again, from 0 on. Both are in
+     * milliseconds. */
     int timeout;
     int pause;
     kij_serial_settings serial;
@@ -646,8 +647,8 @@ typedef enum kij_protocol { KIJ_CD5220 = 0, KIJ_ESCPOS = 1 } kij_protocol;
 /** A customer display. Begin with KIJ_DISPLAY_SETTINGS. */
 typedef struct kij_display_settings {
     kij_protocol protocol;
-    /** How long an order may take, 1 or more: it has to end, so KIJ_FOREVER is refused. And how long to wait before a
-     * lost port is tried again, 0 or more. Both are in milliseconds. */
+    /** How long an order may take, 1 to 2,147,483,000: it has to end, so KIJ_FOREVER is refused. And how long to wait
+     * before a lost port is tried again, from 0 on. Both are in milliseconds. */
     int timeout;
     int pause;
     kij_serial_settings serial;
@@ -664,7 +665,7 @@ typedef struct kij_scanner_settings {
     int type;
     /** Whether the device sends key events, whatever its name. A path of /dev/input/.. always does. */
     bool has_keys;
-    /** How long to wait before a lost port is tried again, in milliseconds, 0 or more. */
+    /** How long to wait before a lost port is tried again, in milliseconds, 0 to 2,147,483,000. */
     int pause;
     kij_serial_settings serial;
 } kij_scanner_settings;
