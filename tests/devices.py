@@ -2411,7 +2411,7 @@ def try_flow():
                     ("a display at a line", SerialDisplay(line).port, True),
                     ("a printer", EscPosPrinter(device.path).link.port, True),
                     ("a scanner", WedgeScanner(device.path).port, True)):
-                told(f"{name}: breaks, parity and flow", (True, False, wanted), flags_of(port))
+                told(f"{name}: breaks, checks and flow", (True, True, wanted), flags_of(port))
         with mock.patch("kijolvar.ports._is_line", side_effect=[False, False, True, True]):
             told("links that lead to a line later", [False, True],
                  [flags_of(port)[2] for port in (SerialDisplay(device.path).port, EscPosPrinter(device.path).link.port)])
@@ -2509,16 +2509,18 @@ def try_lines_in_use():
 
 
 def try_disturbed_bytes():
-    """A byte that came with a wrong parity: a printer's or a display's is dropped, and a scanner's reads as 0."""
+    """A byte that came with a wrong parity, or without its stop bit as at another speed: a printer's or a display's is
+    dropped, and a scanner's reads as 0."""
     for made, wanted in ((EscPosPrinter, True), (SerialDisplay, True), (WedgeScanner, False)):
-        with Scanner(cable()) as device:
-            driver = made(SerialPort(device.path, parity="even"))
-            port = driver.link.port if made is EscPosPrinter else driver.port
-            port.open()
-            flags = termios.tcgetattr(port.fileno())[0]
-            told(f"{made.__name__}: parity counts, and a wrong byte is dropped", (True, wanted),
-                 (bool(flags & termios.INPCK), bool(flags & termios.IGNPAR)))
-            port.close()
+        for parity in ("none", "even"):
+            with Scanner(cable()) as device:
+                driver = made(SerialPort(device.path, parity=parity))
+                port = driver.link.port if made is EscPosPrinter else driver.port
+                port.open()
+                flags = termios.tcgetattr(port.fileno())[0]
+                told(f"{made.__name__}, parity {parity}: bytes are checked, and a wrong one is dropped", (True, wanted),
+                     (bool(flags & termios.INPCK), bool(flags & termios.IGNPAR)))
+                port.close()
 
 
 def try_disturbed_scans():

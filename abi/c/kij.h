@@ -741,7 +741,7 @@ kij_result kij_serial_display_open(kij_till *till, const char *device, const cha
  * system keeps about 16 characters. If it drops some, the scan has failed (kij_input_scan_fault). So has one of more
  * than 4,096 bytes, and one with a key that is neither a character of the layout nor of its keypad, nor Num Lock. The
  * control key and ] are the separator GS. Over a serial line a code with a 0 byte has failed too: the system gives one
- * in place of a byte whose parity is wrong. So has one without a terminator, once the till has looked and nothing has
+ * in place of a byte that was disturbed. So has one without a terminator, once the till has looked and nothing has
  * come for a second, or the port is lost.
  *
  * @param device   the name of a scanner of the profile

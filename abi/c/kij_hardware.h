@@ -40,7 +40,8 @@ typedef struct kij_port {
     unsigned turns;
     /* Whether what was sent may wait for long, as at a printer whose cover is open. */
     bool is_patient;
-    /* Of a serial line: whether a byte whose parity is wrong reads as 0. Otherwise it is dropped. */
+    /* Of a serial line: whether a byte whose parity is wrong, or whose stop bit is missing, reads as 0. Otherwise it is
+       dropped. */
     bool keeps_faults;
     /* Whether reading no bytes means that it is lost, and whether the last reading gave none. */
     bool ends_empty;

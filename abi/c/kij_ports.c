@@ -108,16 +108,15 @@ void kij_internal_port(kij_port *port, const char *name, const kij_serial_settin
     else port->kind = serial->is_serial || is_line_name(name) ? KIJ_PORT_SERIAL : KIJ_PORT_FILE;
 }
 
-/* Takes over how a serial line is set up. A byte whose parity is wrong is dropped, or reads as 0 where that is kept. As
-   a printer's answer a 0 would say that a line is printed, or that all is well. */
+/* Takes over how a serial line is set up. A byte whose parity is wrong, or whose stop bit is missing as at another
+   speed, is dropped, or reads as 0 where that is kept. As a printer's answer a 0 would say that a line is printed, or
+   that all is well. */
 static void take_settings(struct termios *found, const kij_port *port) {
     const kij_serial_settings *serial = &port->serial;
     found->c_cflag &= ~(tcflag_t)(CSIZE | PARENB | PARODD | CMSPAR | CSTOPB | CRTSCTS);
     found->c_cflag |= serial->bits == 8 ? CS8 : CS7;
-    if (serial->parity != KIJ_PARITY_NONE) {
-        found->c_cflag |= PARENB;
-        found->c_iflag |= port->keeps_faults ? INPCK : INPCK | IGNPAR;
-    }
+    found->c_iflag |= port->keeps_faults ? INPCK : INPCK | IGNPAR;
+    if (serial->parity != KIJ_PARITY_NONE) found->c_cflag |= PARENB;
     if (serial->parity == KIJ_PARITY_ODD) found->c_cflag |= PARODD;
     if (serial->stops == 2) found->c_cflag |= CSTOPB;
     if (serial->flow == KIJ_FLOW_RTS_CTS) found->c_cflag |= CRTSCTS;

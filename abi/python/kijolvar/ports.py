@@ -116,8 +116,8 @@ class Port(Unique):
         name: The port's name.
         is_patient: Whether what was sent may wait for long, as at a printer whose cover is open. If not, a TCP port
             whose other end acknowledges nothing for a minute is lost.
-        keeps_faults: Whether a serial line with a parity gives 0 for a byte that came with a wrong one, which a scanner
-            needs. If not, such a byte is dropped: 0 may be a printer's answer that all is well.
+        keeps_faults: Whether a serial line gives 0 for a byte that came with a wrong parity or without its stop bit,
+            which a scanner needs. If not, such a byte is dropped: 0 may be a printer's answer that all is well.
     """
 
     _noun = "a port"
@@ -556,7 +556,8 @@ class SerialPort(FilePort):
         stops: 1 or 2 stop bits.
         flow: How the device says that it can take no more: "rts-cts", "xon-xoff" or "none".
 
-    With a parity, a byte that came with a wrong one is read as 0. One from a printer or a display is dropped.
+    A byte that came with a wrong parity, or without its stop bit as at another speed, is read as 0. One from a printer
+    or a display is dropped.
 
     Raises:
         ValueError: No line has such a setting.
@@ -594,8 +595,8 @@ class SerialPort(FilePort):
             found[0] |= termios.IXON | termios.IXOFF
             # A program that had the line before may have left it others, or none.
             found[6][termios.VSTART], found[6][termios.VSTOP] = _XON, _XOFF
-        faults = termios.INPCK if self.keeps_faults else termios.INPCK | termios.IGNPAR
-        found[0] |= faults if self._parity != "none" else 0
+        # Without a parity, too: a byte that comes at another speed lacks its stop bit.
+        found[0] |= termios.INPCK if self.keeps_faults else termios.INPCK | termios.IGNPAR
         found[2], found[4], found[5] = control, self._speed, self._speed
         termios.tcsetattr(file, termios.TCSANOW, found)
         termios.tcflush(file, termios.TCIOFLUSH)

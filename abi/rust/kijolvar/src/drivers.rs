@@ -767,8 +767,8 @@ impl Driver for SerialDisplay {
 ///
 /// A scan of which characters were dropped has failed, as has a code of more than 4,096 bytes, or with a key that has
 /// no character, but NumLock: the scanner's control gets an ErrorEvent. So it does of a code with a 0 byte over a
-/// serial line, since a byte that was changed on its way reads as 0 if the line has a parity; and of one without a
-/// terminator, once the till has looked and nothing has come for a second, or the port is lost.
+/// serial line, since a byte that was disturbed on its way reads as 0; and of one without a terminator, once the till
+/// has looked and nothing has come for a second, or the port is lost.
 #[derive(Debug)]
 pub struct WedgeScanner {
     port: Reopened,
