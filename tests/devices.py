@@ -1861,6 +1861,33 @@ def try_power_behind_a_cause():
         told("each line is whole", (4, []), (len(items), not_whole(shop.device, items)))
 
 
+def try_off_with_open_cover():
+    """A printer with RTS/CTS is switched off while its cover is open. If it has answered meanwhile, its silence tells
+    that it is off. If it takes nothing while it is offline, it may as well be on."""
+    for kind, made in (("holds", HearingPrinter), ("asked holds", HearingPrinter), ("holds", Printer)):
+        is_hearing = made is HearingPrinter
+        name = f"off with an open cover, over {kind}, hearing {is_hearing}"
+        with contextlib.ExitStack() as stack:
+            shop = Shop(stack, kind, made=made)
+            device, driver = shop.device, shop.driver
+            shop.begins()
+            device.after_characters(4, lambda device=device: device.cover(True))
+            told(f"{name}: its cover is opened in an order", (114, 201), raised(shop.control.print, b"A line\n"))
+            until(lambda: shop.till.run_devices(0.01) is None, 4 * TIMEOUT)
+            told(f"{name}: it is open still", ((114, 201), True),
+                 (raised(shop.control.print, b"A line\n"), driver.is_online))
+            device.pull_plug()
+            is_off = until(lambda: shop.till.run_devices(0.01) is not None and not driver.is_online,
+                           PATIENCE if is_hearing else 4 * TIMEOUT)
+            told(f"{name}: it counts as off", (is_hearing, (108, 0) if is_hearing else (114, 201)),
+                 (is_off, raised(shop.control.print, b"A line\n")))
+            device.cover(False)
+            device.plug_in()
+            told(f"{name}: again", True, until(
+                lambda: shop.till.run_devices(0.01) is not None and raised(shop.control.print, b"A line\n") is None))
+            told(f"{name}: the line is whole", [], not_whole(device, shop.till.device("r1").show().items))
+
+
 def try_cause_behind_a_line():
     """A printer that runs out of paper while it is off, and whose line has kept questions meanwhile. An answer to one
     of them doesn't tell why it is offline."""

@@ -700,7 +700,8 @@ typedef struct kij_scanner_settings {
  * So is what it acknowledges of an order that failed for no reason (KIJ_E_FAILURE) while the till doesn't look for 2
  * seconds (kij_run_devices): it may have been off. An order in which the program stands still for so long, as on a
  * machine that is suspended, fails for that reason. A printer that has said by itself that it is offline, as while its
- * paper feed button is held down, may be silent for longer, since it says that it goes on.
+ * paper feed button is held down, may be silent for longer, since it says that it goes on. If it has answered a
+ * question since, it counts as off once it is silent for the timeout.
  * With `is_asked` the next order waits first for an answer to what was sent before. If none comes for the timeout, it
  * fails, and the one after it is sent.
  *

@@ -192,6 +192,8 @@ typedef struct kij_link {
     kij_told heard[3];
     kij_signs hearing;
     unsigned rounds;
+    /* Whether it has answered a question that was put after it had said that it is offline. */
+    bool is_hearing;
     /* Of one that is asked: how many bytes of an automatic status that has begun still come. */
     unsigned status_left;
 } kij_link;

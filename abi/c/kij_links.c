@@ -458,7 +458,10 @@ static const char *last_line(const char *text) {
 
 /* The printer is as these replies tell. While it is offline, another status doesn't make it so again. */
 static void take_signs(kij_link *link, const kij_signs *signs, const kij_told *told, size_t count) {
-    if (!is_offline(link)) link->offline_at = kij_internal_now();
+    if (!is_offline(link)) {
+        link->offline_at = kij_internal_now();
+        link->is_hearing = false;
+    }
     memcpy(&link->signs, signs, sizeof link->signs);
     memcpy(link->told, told, count * sizeof *told);
     link->told_count = count;
@@ -483,6 +486,7 @@ static void take_part(kij_link *link, const char *line, const kij_told *told) {
     }
     if (link->question == ASKED_NOW) {
         link->asked_why_at = link->statuses;
+        link->is_hearing |= link->questioned_at > link->offline_at;
         memset(&link->hearing, 0, sizeof link->hearing);
     }
     /* It has said it by itself meanwhile. */
@@ -757,13 +761,16 @@ void kij_internal_link_start(kij_link *link) {
 }
 
 /* Asks a printer that has said nothing for a time, and one that says that it can't print, for more. One that may be
-   silent isn't off for that. False if the port is to be opened again: a network printer that lost its power has closed
-   nothing, and the system would send it what comes next for minutes. What is due may still be acknowledged. */
+   silent isn't off for that, unless it has answered since it said so. False if the port is to be opened again: a
+   network printer that lost its power has closed nothing, and the system would send it what comes next for minutes.
+   What is due may still be acknowledged. */
 static bool look_after(kij_link *link) {
     int64_t now = kij_internal_now();
-    bool may_wait = may_be_silent(link), is_late = link->was_asked && now - link->asked_at > link->timeout;
+    bool may_wait = may_be_silent(link) && !link->is_hearing;
+    bool is_late = link->was_asked && now - link->asked_at > link->timeout;
     watch(link, false);
     if (is_late && !may_wait) {
+        if (kij_internal_port_holds_back(&link->port) && is_any_due(link)) lose_sent(link);
         kij_internal_port_resume(&link->port);
         link->is_there = link->is_started = false;
         link->told_count = 0;

@@ -220,6 +220,8 @@ class PrinterLink:
         self._asked_last, self._unanswered, self._questioned_at = _PRINTER, 0, -1e9
         # Whether late answers come, as far as is known, and what was answered since the printer was asked.
         self._is_late = False
+        # Whether it has answered a question that was asked after it had said that it is offline.
+        self._is_hearing = False
         self._heard: dict[int, tuple[Told, dict[str, str]]] = {}
 
     @property
@@ -230,7 +232,7 @@ class PrinterLink:
     def _is_told(self, signs: dict[str, str], told: list[Told]) -> None:
         """The printer is as these replies tell, or it isn't known how it is. Answers to earlier questions are older."""
         if not self._is_offline:
-            self._offline_at = time.monotonic()
+            self._offline_at, self._is_hearing = time.monotonic(), False
         self.signs, self.told = signs, told
         self._heard.clear()
         self.statuses += bool(told)
@@ -528,6 +530,7 @@ class PrinterLink:
             return
         if told.asked == _PRINTER:
             self._heard.clear()
+            self._is_hearing |= self._questioned_at > self._offline_at
         elif not self._heard:
             # The printer has told meanwhile how it is.
             return
@@ -699,11 +702,13 @@ class PrinterLink:
     def _notes_silence(self) -> bool:
         """A printer that hasn't answered for the timeout counts as off, also while orders are tried again and again. By
         then only questions wait in its line. Returns whether it hasn't. One that is offline may take no question from
-        a line that holds it back."""
-        if self._is_offline and self.port.holds_back:
+        a line that holds it back, unless it has answered one since."""
+        if self._is_offline and self.port.holds_back and not self._is_hearing:
             return False
         is_silent = self._asked_at is not None and time.monotonic() - self._asked_at > self.timeout
         if is_silent:
+            if self._may_keep_a_part():
+                self._tears()
             self.port.resume()
             self._is_there = False
             self._is_told({}, [])

@@ -162,6 +162,7 @@ class EscPosPrinter(Driver):
     for no reason (FailureError) while the till doesn't look for 2 seconds, as `run_devices` does: it may have been off.
     The same counts for an order during which the process stands still for 2 seconds, or the machine is suspended. One
     that has said by itself that it is offline may be silent, as while its feed button is held: it says that it goes on.
+    If it has answered a question since, it counts as off once it is silent for the timeout.
 
     Args:
         port: The port, or its name as `port_of` takes it: /dev/usb/lp0, /dev/ttyUSB0, tcp:192.168.1.9:9100.

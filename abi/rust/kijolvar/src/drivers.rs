@@ -371,6 +371,7 @@ fn check(till: &mut DriverTill<'_>, device: &str, settings: &WireSettings, link:
 /// ([`Till::run_devices`](crate::Till::run_devices)), since it may have been off. An order in which the program stands
 /// still for so long, as on a machine that is suspended, fails for that reason. A printer that has said by itself that
 /// it is offline, as while its paper feed button is held down, may be silent for longer, since it says that it goes on.
+/// If it has answered a question since, it counts as off once it is silent for the timeout.
 ///
 /// ```no_run
 /// use kijolvar::{EscPosPrinter, EscPosSettings, Till, Totals, BUILT_PROFILE};

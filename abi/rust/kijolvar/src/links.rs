@@ -197,6 +197,8 @@ pub(crate) struct Link {
     heard: Vec<Told>,
     hearing: Signs,
     rounds: u32,
+    /// Whether it has answered a question that was put after it had said that it is offline.
+    is_hearing: bool,
     /// Of a printer that is asked: how many bytes of an automatic status that has begun still come.
     status_left: usize,
 }
@@ -261,6 +263,7 @@ impl Link {
             heard: Vec::new(),
             hearing: Signs::default(),
             rounds: 0,
+            is_hearing: false,
             status_left: 0,
         }
     }
@@ -505,7 +508,7 @@ impl Link {
     /// The printer is as these replies tell. While it is offline, another status doesn't make it so again.
     fn take_signs(&mut self, signs: Signs, told: Vec<Told>) {
         if !self.is_offline() {
-            self.offline_at = Some(Instant::now());
+            (self.offline_at, self.is_hearing) = (Some(Instant::now()), false);
         }
         (self.signs, self.told) = (signs, told);
         self.statuses += 1;
@@ -556,6 +559,7 @@ impl Link {
         }
         if self.question == 0 {
             self.heard.clear();
+            self.is_hearing |= self.questioned_at > self.offline_at;
         }
         if self.heard.len() != self.question {
             // An automatic status has come meanwhile.
@@ -752,8 +756,12 @@ impl Link {
     /// Whether a line may hold back a part of what is due for a printer that should say something. One that is asked may
     /// also be off and on again after it has told why it is offline, and then doesn't say so.
     fn is_held(&self) -> bool {
-        let is_any = self.due.iter().any(|parcel| parcel.job != 0 && !parcel.is_torn);
-        is_any && self.cable.holds_back() && (self.is_asked || !self.may_be_silent())
+        self.is_any_due() && self.cable.holds_back() && (self.is_asked || !self.may_be_silent())
+    }
+
+    /// Whether something of any order is due, and counts.
+    fn is_any_due(&self) -> bool {
+        self.due.iter().any(|parcel| parcel.job != 0 && !parcel.is_torn)
     }
 
     /// Looks whether the printer has fallen silent while a line may hold something of a job back for it. It is asked
@@ -871,10 +879,14 @@ impl Link {
 
     /// Asks a printer that has said nothing for a time, and one that says that it can't print, for more. One on a
     /// network that doesn't answer is lost, unless something is due: the system might find that much later. One that
-    /// may be silent is asked again, too, since it may have been off meanwhile, where the question was lost.
+    /// may be silent is asked again, too, since it may have been off meanwhile, where the question was lost. It is off
+    /// if it has answered before, though it was offline.
     fn look_after(&mut self) -> Result<(), Lost> {
         let is_late = self.asked_at.is_some_and(|asked_at| asked_at.elapsed() > self.timeout);
-        if is_late && !self.may_be_silent() {
+        if is_late && (self.is_hearing || !self.may_be_silent()) {
+            if self.cable.holds_back() && self.is_any_due() {
+                self.lose_held();
+            }
             self.cable.resume();
             self.is_there = false;
             self.told.clear();
