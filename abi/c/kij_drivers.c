@@ -316,7 +316,10 @@ static bool show(kij_till *till, kij_drive *drive) {
         if (left <= 0) break;
         kij_internal_wait_typing(till, port, true, left, &can_read, &can_write);
         if (can_read && !kij_internal_port_read(port, drive->got, sizeof drive->got, &count)) return false;
-        if (can_write && !kij_internal_port_write(port, bytes->bytes + sent, bytes->size - sent, &count)) return false;
+        if (can_write && !kij_internal_port_write(port, bytes->bytes + sent, bytes->size - sent, &count)) {
+            kij_internal_port_close(port);
+            return false;
+        }
         if (can_write) sent += count;
         else if (can_read && count == 0) kij_internal_rest_typing(till, 1);
     }

@@ -358,7 +358,7 @@ void kij_internal_port_wait(const kij_port *port, bool is_writing, int64_t time,
 /* Reads what has come, which may be nothing. False if the port was lost: it is closed then. */
 bool kij_internal_port_read(kij_port *port, void *bytes, size_t room, size_t *count);
 
-/* Writes what there is room for. False if the port was lost: it is closed then. */
+/* Writes what there is room for. False if the port was lost. It is still open then: what had come can be read. */
 bool kij_internal_port_write(kij_port *port, const void *bytes, size_t size, size_t *count);
 
 /* Whether something that was written hasn't left this machine, if that is known. If the port was lost, it is closed

@@ -732,8 +732,12 @@ static void forget(kij_link *link) {
     if (link->is_asked) lose_due(link);
 }
 
-/* The port was lost, with what wasn't sent. What was sent may still be acknowledged over the next one. */
+/* The port was lost, with what wasn't sent. What was sent may still be acknowledged over the next one. What had come
+   before a write failed counts, unless the port has kept back what it is about. */
 static void lose(kij_link *link) {
+    int why = link->port.error;
+    if (kij_internal_port_is_open(&link->port) && !kij_internal_port_holds_back(&link->port)) (void)receive(link);
+    link->port.error = why;
     kij_internal_port_close(&link->port);
     forget(link);
 }

@@ -751,7 +751,11 @@ class PrinterLink:
         self._ask()
 
     def _lose(self) -> None:
-        """The port was lost, with what wasn't sent. What was sent may still be acknowledged over the next one."""
+        """The port was lost, with what wasn't sent. What was sent may still be acknowledged over the next one. What had
+        come before counts, unless the port has kept back what it is about."""
+        rest = self.port._take_rest()
+        if not self.port.holds_back:
+            self._takes(rest)
         self.port.close()
         self._forget()
 

@@ -134,6 +134,8 @@ class Port(Unique):
         self._waits = select.poll(), select.poll()
         # Whether reading no bytes means that the port is lost, and whether none came the last time.
         self._ends_empty, self._was_empty = True, False
+        # What had come when a write found the port lost, and nobody had read.
+        self._rest = b""
         _ports.add(self)
 
     def __repr__(self) -> str:
@@ -225,7 +227,8 @@ class Port(Unique):
             waits = select.poll(), select.poll()
             waits[False].register(file, select.POLLIN)
             waits[True].register(file, select.POLLIN | select.POLLOUT)
-            self._process, self._waits, self._was_empty, self._file = os.getpid(), waits, False, file
+            self._process, self._waits, self._was_empty, self._rest = os.getpid(), waits, False, b""
+            self._file = file
         except PortError:
             raise
         except (OSError, termios.error) as fault:
@@ -327,7 +330,7 @@ class Port(Unique):
         try:
             return self._put(file, data[:_AT_ONCE])
         except OSError as fault:
-            self._loses(fault)
+            self._loses(fault, is_writing=True)
             return 0
 
     def write(self, data: bytes, seconds: float) -> bool:
@@ -360,12 +363,28 @@ class Port(Unique):
         """
         return self.read_some() if self.ready(False, seconds)[0] else b""
 
-    def _loses(self, fault: Exception) -> None:
+    def _take_rest(self) -> bytes:
+        """Takes what had come when a write found the port lost. Nothing more of it can be read."""
+        rest, self._rest = self._rest, b""
+        return rest
+
+    def _keep_rest(self) -> None:
+        """Keeps what has come to a port that is lost, and is closed then."""
+        with MinorFaults():
+            for _ in range(_MOST_PARTS):
+                found = os.read(self.fileno(), _AT_ONCE)
+                self._rest += found
+                if not found:
+                    break
+
+    def _loses(self, fault: Exception, is_writing: bool = False) -> None:
         """Closes the port and says so, unless the fault means only that there is nothing to do now."""
         if _is_of_handler(fault):
             raise fault
         if isinstance(fault, (BlockingIOError, InterruptedError)):
             return
+        if is_writing:
+            self._keep_rest()
         self.close()
         if isinstance(fault, PortError):
             raise fault

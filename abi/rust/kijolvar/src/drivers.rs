@@ -692,7 +692,10 @@ impl SerialDisplay {
             let ready = till.wait(&self.port.cable, true, left);
             let found = if ready.reading { self.port.read().len() } else { 0 };
             if ready.writing {
-                let Ok(count) = self.port.cable.write(&bytes[sent..]) else { return false };
+                let Ok(count) = self.port.cable.write(&bytes[sent..]) else {
+                    self.port.cable.close();
+                    return false;
+                };
                 sent += count;
             } else if ready.reading && found == 0 {
                 till.rest(MOMENT);

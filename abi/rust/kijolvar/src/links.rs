@@ -849,8 +849,14 @@ impl Link {
         }
     }
 
-    /// The port was lost, with what wasn't sent. What was sent may still be acknowledged over the next one.
-    fn lose(&mut self) {
+    /// The port was lost, with what wasn't sent. What was sent may still be acknowledged over the next one. What had
+    /// come before a write failed counts, unless the port has kept back what it is about.
+    fn lose(&mut self, till: &mut DriverTill<'_>) {
+        let fault = self.cable.fault;
+        if self.cable.is_open() && !self.cable.holds_back() {
+            let _ = self.receive(till);
+        }
+        self.cable.fault = fault;
         self.cable.close();
         self.forget();
     }
@@ -873,7 +879,7 @@ impl Link {
         self.ends_at = end_after(self.timeout);
         self.connect(self.timeout);
         if self.cable.is_open() && self.pump(till, Until::Known, None).is_err() {
-            self.lose();
+            self.lose(till);
         }
     }
 
@@ -924,7 +930,7 @@ impl Link {
                 self.connect(self.timeout.min(QUICKLY));
             }
         } else if self.look(till).is_err() {
-            self.lose();
+            self.lose(till);
         }
     }
 
@@ -1066,7 +1072,7 @@ impl Link {
             .and_then(|()| self.take_up(till, bytes, kind))
             .and_then(|()| self.post(till, kind));
         if done.is_err() {
-            self.lose();
+            self.lose(till);
             return false;
         }
         if self.current(kind).is_done {

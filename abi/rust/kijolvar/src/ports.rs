@@ -484,7 +484,7 @@ pub(crate) struct Cable {
     opening: Option<Opening>,
 }
 
-/// The port was lost. It is closed then.
+/// The port was lost. It is closed then, unless a write has found that.
 #[derive(Debug)]
 pub(crate) struct Lost;
 
@@ -687,7 +687,9 @@ impl Cable {
             Err(fault) => fault,
         };
         self.fault = Some(number_of(&fault));
-        self.close();
+        if is_reading {
+            self.close();
+        }
         Err(Lost)
     }
 
@@ -713,7 +715,7 @@ impl Cable {
         0
     }
 
-    /// Writes what there is room for.
+    /// Writes what there is room for. A port that is found to be lost stays open, so that what had come can be read.
     pub(crate) fn write(&mut self, bytes: &[u8]) -> Result<usize, Lost> {
         let done = match &mut self.stream {
             Some(Stream::File(file)) => file.write(bytes),
