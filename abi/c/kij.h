@@ -688,7 +688,7 @@ typedef struct kij_scanner_settings {
  * does so though other orders were printed at once meanwhile. An application that gives a request up ends that: by
  * clearOutput, or by the reply KIJ_ER_CLEAR to the ErrorEvent of a printer. The same order is a new one then, and is
  * printed from its beginning. Once a line has opened a control (kij_carry_out), each ends it for all printers of the
- * till.
+ * till. An order that is printed at once ends it for others of its kind, unless it puts nothing on the paper.
  *
  * A printer counts as off once it was asked whether it is there, and has answered nothing for the timeout. Over TCP the
  * port is opened again then, unless an order that failed may still be acknowledged: the system finds out then, at most

@@ -933,6 +933,8 @@ bool kij_internal_link_carry_out(kij_link *link, const kijolvar_wire_settings *w
     if (code != KIJOLVAR_OK || link->fresh.size < link->end_size) return false;
     link->fresh.size -= link->end_size;
     memcpy(link->end, link->fresh.bytes + link->fresh.size, link->end_size);
+    /* What puts nothing on the paper, such as a text without a line's end, gives up no order that failed. */
+    is_once = is_once && link->fresh.size > 0;
     kij_job *job = receive(link) ? take_up(link, is_once, is_waiting) : NULL;
     if (job == NULL || !post(link, job)) {
         lose(link);

@@ -322,8 +322,9 @@ class PrinterLink:
         return time.monotonic() < self._ends_at
 
     def _taken_up(self, data: bytes, is_once: bool, is_waiting: bool) -> Job:
-        """The job of an order: the one that failed if the order is the same, and how far that one has come."""
-        if not is_once:
+        """The job of an order: the one that failed if the order is the same, and how far that one has come. An order
+        that puts nothing on the paper, such as a text without a line's end, doesn't give that up."""
+        if not (is_once and data):
             return Job(data, is_once)
         found = [key for key in (is_waiting, not is_waiting) if key in self._failed and self._failed[key].data == data]
         if not found or found[0] != is_waiting:

@@ -363,6 +363,7 @@ fn check(till: &mut DriverTill<'_>, device: &str, settings: &WireSettings, link:
 /// the old one all the same, that counts in
 /// [`DriverState::late_orders`](crate::DriverState::late_orders). Once a line has opened a control
 /// ([`Till::carry_out`](crate::Till::carry_out)), the failed orders of all printers of the till are given up together.
+/// An order that is printed at once gives up another one of its kind, unless it puts nothing on the paper.
 ///
 /// A serial line with flow control holds back what a printer doesn't take, also while the printer is off. So if such a
 /// printer says nothing for 2 seconds, or for the timeout if that is shorter, the lines that it hasn't acknowledged are

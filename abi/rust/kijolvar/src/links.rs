@@ -1066,6 +1066,8 @@ impl Link {
             return false;
         }
         self.end = bytes.split_off(bytes.len() - size);
+        // What puts nothing on the paper, such as a text without a line's end, gives up no order that failed.
+        let kind = if bytes.is_empty() { Kind::Pulse } else { kind };
         let done = self
             .receive(till)
             .and_then(|()| self.await_answer(till))
