@@ -1266,6 +1266,93 @@ def try_immediate_between():
             told(f"{name}: what was late", int(is_given_up), shop.driver.late_orders)
 
 
+def try_another_between():
+    """An order fails and comes out later, and another one is printed before it is tried again: it is a new order then.
+    No driver can know whether it is meant once more. What puts nothing on the paper doesn't come between."""
+    text = [b"First line", b"Second line", b"Third line"]
+    for between, is_new in ((b"Other\n", True), (b"\x1b|100P", True), (b"", False), (b"\x1b|N", False)):
+        name = f"{between} between"
+        with contextlib.ExitStack() as stack:
+            shop = Shop(stack)
+            device = shop.device
+            device.after_characters(3, lambda device=device: device.cover(True))
+            told(f"{name}: it fails", (114, 201), raised(shop.control.print, TEXT))
+            device.cover(False)
+            told(f"{name}: it comes out later", True, until(
+                lambda: shop.till.run_devices(0.01) is not None and not shop.driver.link._due) and shop.settle())
+            told(f"{name}: the other one, and it again", [None] * 2,
+                 [raised(shop.control.print, data) for data in (between, TEXT)])
+            told(f"{name}: the paper", [*text, *[b"Other"] * (b"Other" in between), *text * is_new],
+                 characters_of(device))
+            told(f"{name}: what was late", int(is_new), shop.driver.late_orders)
+
+
+class Losing(Printer):
+    """A printer of whose acknowledgements the next one is lost."""
+
+    is_losing = False
+
+    def _acknowledges(self, answer):
+        was_mute, self.is_mute = self.is_mute, self.is_mute or self.is_losing
+        super()._acknowledges(answer)
+        self.is_mute, self.is_losing = was_mute, False
+
+
+def try_lost_acknowledgement():
+    """The acknowledgement of a line is lost. The line may be, too, so that the order is printed again from it on, also
+    if a later line is acknowledged. An order behind that is printed once."""
+    for kind in ("usb", "tcp", "serial", "asked"):
+        with contextlib.ExitStack() as stack:
+            name, shop = f"a lost acknowledgement over {kind}", Shop(stack, kind, made=Losing)
+            device = shop.device
+
+            def is_done(text):
+                return until(
+                    lambda: shop.till.run_devices(0.01) is not None and raised(shop.control.print, text) is None)
+            shop.begins()
+            device.is_losing = True
+            told(f"{name}: the order, and again", ((111, 0), True),
+                 (raised(shop.control.print, b"One\nTwo\n"), is_done(b"One\nTwo\n")))
+            # One that is asked gets one line at a time.
+            printed = [b"Before", b"One", *[b"Two"] * ("asked" not in kind), b"One", b"Two"]
+            told(f"{name}: the paper", printed, characters_of(device))
+            device.is_losing = True
+            told(f"{name}: another order, and one behind it", ((111, 0), True),
+                 (raised(shop.control.print, b"Three\n"), is_done(b"Four\n")))
+            told(f"{name}: their paper", [*printed, b"Three", b"Four"], characters_of(device))
+
+
+def try_reset_connection():
+    """A network printer has acknowledged lines, and its connection is reset before anybody has read that: the next
+    write fails. What was acknowledged isn't printed again."""
+    text = b"".join(b"Line %02d\n" % number for number in range(40))
+    with contextlib.ExitStack() as stack:
+        shop, waited = Shop(stack, "tcp", timeout=PATIENCE), []
+        device, port = shop.device, shop.driver.link.port
+        shop.begins()
+        device.slow(0.02)
+        write = port.write_some
+
+        def write_late(data):
+            """Nothing is read until the printer has done all that it got."""
+            if b"Line 32" in data and not waited:
+                waited.append(len(device.receipt()))
+                device.slow(0)
+                device.wait(lambda: device.is_idle and not device._sends)
+                with device.lock:
+                    device.cable.reset()
+                ends = select.poll()
+                ends.register(port.fileno(), 0)
+                ends.poll(PATIENCE * 1000)
+            return write(data)
+        stack.enter_context(mock.patch.object(port, "write_some", write_late))
+        told("a connection that is reset in an order", (108, 0), raised(shop.control.print, text))
+        told("some lines were acknowledged and not read", True, waited[0] < 20)
+        told("it is connected again", True, shop.settle())
+        told("the order again", None, raised(shop.control.print, text))
+        shop.same_paper("a connection that is reset: the paper")
+
+
 def try_refused_output():
     """Output that waits and is refused, in the guide's loop: it is tried again, but not at once."""
     with contextlib.ExitStack() as stack:
