@@ -1975,6 +1975,29 @@ def try_off_with_open_cover():
             told(f"{name}: the line is whole", [], not_whole(device, shop.till.device("r1").show().items))
 
 
+def try_questions_behind_a_line():
+    """A printer is off for long, and its line keeps what it is sent: it isn't asked again and again, since it would have
+    to answer each question once it is on."""
+    for kind in ("holds", "asked holds"):
+        with contextlib.ExitStack() as stack:
+            shop = Shop(stack, kind)
+            link, device = shop.driver.link, shop.device
+            shop.begins()
+            device.pull_plug()
+            # A pseudo terminal doesn't tell what it keeps.
+            kept = stack.enter_context(mock.patch.object(
+                kijolvar.SerialPort, "is_holding", mock.PropertyMock(side_effect=lambda: device.cable.waiting() > 0)))
+            with mock.patch.object(link, "_asks", wraps=link._asks) as asks:
+                until(lambda: shop.till.run_devices(0.01) is None, 6 * TIMEOUT)
+                told(f"it is asked once, over {kind}", (True, False), (asks.call_count <= 1, shop.driver.is_online))
+            told(f"the line is looked at, over {kind}", True, kept.called)
+            device.plug_in()
+            told(f"it is back, over {kind}", True, shop.settle())
+            told(f"it prints, over {kind}", True, until(
+                lambda: shop.till.run_devices(0.01) is not None and raised(shop.control.print, TEXT) is None))
+            shop.same_paper(f"off for long, over {kind}: the paper")
+
+
 def try_cause_behind_a_line():
     """A printer that runs out of paper while it is off, and whose line has kept questions meanwhile. An answer to one
     of them doesn't tell why it is offline."""

@@ -764,6 +764,34 @@ def try_off_while_open():
             told(f"{name}: the line is whole", True, ("left", b"A line") in shop.paper())
 
 
+def try_off_behind_questions():
+    """A printer is switched off, and its line with RTS/CTS keeps the questions that it was asked before: it counts as
+    off all the same. It isn't asked again and again, since it would have to answer each question once it is on."""
+    if WORDS.preloaded is None:
+        return
+    for kind in ("holds", "asked holds"):
+        name = f"off behind questions, over {kind}"
+        with contextlib.ExitStack() as stack:
+            held = CHECKS.work / "held"
+            held.unlink(missing_ok=True)
+            shop = Shop(stack, kind, LD_PRELOAD=WORDS.preloaded, HELD=str(held))
+            device, ask = shop.device, shop.host.ask
+            told(f"{name}: an order", "ok", shop.print(b"Before\n"))
+            device.pull_plug()
+            until(lambda: ask("run 10") and device.cable.waiting() > 0)
+            # A pseudo terminal doesn't tell what it keeps.
+            held.touch()
+            told(f"{name}: it is off", True, until(lambda: ask("run 10") and ask("state r1") == "offline 0", 10))
+            waiting, end = device.cable.waiting(), time.monotonic() + 3 * TIMEOUT / 1000
+            until(lambda: ask("run 10") and time.monotonic() > end)
+            told(f"{name}: it isn't asked again", waiting, device.cable.waiting())
+            held.unlink()
+            device.plug_in()
+            told(f"{name}: it is back", True, shop.settle())
+            told(f"{name}: an order then", True, until(lambda: ask("run 10") and shop.print(b"Behind\n") == "ok"))
+            told(f"{name}: the paper", [("left", b"Before"), ("left", b"Behind")], shop.paper())
+
+
 def try_scan_between():
     """A call prints one request, and a code that comes meanwhile is told before the last is printed."""
     with contextlib.ExitStack() as stack:

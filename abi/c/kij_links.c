@@ -787,7 +787,15 @@ static bool look_after(kij_link *link) {
     /* After an order that failed it is asked at once. A question that is out stays, with its time: if each such order
        asked again, a printer that is off would never count as off. */
     bool is_heard = link->is_there && !link->was_silent && now - link->heard_at <= link->timeout;
-    if (!is_heard && (!link->was_asked || is_late) && may_ask(link)) ask(link);
+    if (!is_heard && (!link->was_asked || is_late)) {
+        if (may_ask(link)) {
+            ask(link);
+        } else if (!link->was_asked && link->unanswered > 0 && kij_internal_port_is_holding(&link->port)) {
+            /* A question that waits in the line already counts from now on. */
+            link->was_asked = link->was_sent = true;
+            link->asked_at = now;
+        }
+    }
     if (is_stopped(link) && !link->is_refreshing && now - link->refreshed_at > link->pause && may_ask(link)) {
         link->is_refreshing = true;
         link->refreshed_at = now;

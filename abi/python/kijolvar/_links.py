@@ -629,7 +629,7 @@ class PrinterLink:
     def _asks_on(self) -> None:
         """Asks again once no late answers come any more. Those that haven't come are lost."""
         is_over = self._is_late and time.monotonic() - self._questioned_at >= min(self.timeout / 2, _APART)
-        if is_over and not self._outbox:
+        if is_over and self._may_ask():
             self._unanswered, self._is_late = 0, False
             self._asks(_PRINTER)
 
@@ -691,14 +691,20 @@ class PrinterLink:
             raise PortError(errno.ETIMEDOUT, f"{self.port.name} doesn't answer")
         is_asking = self._asked_at is not None and now - self._asked_at <= self.timeout
         is_heard = self._is_there and now - self._heard_at <= self.timeout
-        if self._outbox:
-            return
         if not (is_heard or is_asking or self._is_late):
-            self._asked_at = None
-            self._ask()
+            if self._may_ask():
+                self._asked_at = None
+                self._ask()
+                self._refreshes(now)
+            elif self._asked_at is None and self._unanswered and self.port.is_holding:
+                # A question that waits in the line already counts from now on.
+                self._asked_at = now
+        elif self.is_stopped and now - self._refreshed_at > self._pause and self._may_ask():
             self._refreshes(now)
-        elif self.is_stopped and now - self._refreshed_at > self._pause:
-            self._refreshes(now)
+
+    def _may_ask(self) -> bool:
+        """Whether a question goes out at once. In a line that holds it back it would only wait with those before it."""
+        return not (self._outbox or self.port.is_holding)
 
     def _notes_silence(self) -> bool:
         """A printer that hasn't answered for the timeout counts as off, also while orders are tried again and again. By
@@ -812,7 +818,7 @@ class AskedLink(PrinterLink):
         """Asks all questions of DLE EOT, one after the other. It begins again if one isn't answered in time."""
         super()._asks_on()
         pause = self.timeout if self._unanswered else _OFTEN
-        if not (self._is_late or self._outbox) and time.monotonic() - self._questioned_at >= pause:
+        if not self._is_late and time.monotonic() - self._questioned_at >= pause and self._may_ask():
             self._asks(_PRINTER)
 
     def _ask(self) -> None:

@@ -172,6 +172,14 @@ class Port(Unique):
         was off meanwhile: a serial line with flow control does."""
         return False
 
+    @property
+    def is_holding(self) -> bool:
+        """Whether something is in a port that holds back which the device hasn't taken yet."""
+        if self._file is not None and self.holds_back:
+            with MinorFaults():
+                return _unsent(self._file) > 0
+        return False
+
     def discard(self) -> None:
         """Drops what a port that holds back keeps, as far as its driver can."""
         if self._file is not None and self.holds_back:

@@ -903,9 +903,14 @@ impl Link {
             }
         }
         let is_heard = self.is_there && !self.was_silent && !is_over(self.heard_at, self.timeout);
-        if !is_heard && (self.asked_at.is_none() || is_late) && self.is_idle() {
-            self.asked_at = None;
-            self.ask();
+        if !is_heard && (self.asked_at.is_none() || is_late) {
+            if self.is_idle() {
+                self.asked_at = None;
+                self.ask();
+            } else if self.unanswered > 0 && self.cable.is_holding() {
+                // A question that waits in the line already counts from now on.
+                self.asked_at.get_or_insert_with(Instant::now);
+            }
         }
         if self.is_stopped() && !self.is_refreshing && is_over(self.refreshed_at, self.pause) && self.is_idle() {
             self.is_refreshing = true;
