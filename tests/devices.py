@@ -1266,6 +1266,93 @@ def try_immediate_between():
             told(f"{name}: what was late", int(is_given_up), shop.driver.late_orders)
 
 
+def try_another_between():
+    """An order fails and comes out later, and another one is printed before it is tried again: it is a new order then.
+    No driver can know whether it is meant once more. What puts nothing on the paper doesn't come between."""
+    text = [b"First line", b"Second line", b"Third line"]
+    for between, is_new in ((b"Other\n", True), (b"\x1b|100P", True), (b"", False), (b"\x1b|N", False)):
+        name = f"{between} between"
+        with contextlib.ExitStack() as stack:
+            shop = Shop(stack)
+            device = shop.device
+            device.after_characters(3, lambda device=device: device.cover(True))
+            told(f"{name}: it fails", (114, 201), raised(shop.control.print, TEXT))
+            device.cover(False)
+            told(f"{name}: it comes out later", True, until(
+                lambda: shop.till.run_devices(0.01) is not None and not shop.driver.link._due) and shop.settle())
+            told(f"{name}: the other one, and it again", [None] * 2,
+                 [raised(shop.control.print, data) for data in (between, TEXT)])
+            told(f"{name}: the paper", [*text, *[b"Other"] * (b"Other" in between), *text * is_new],
+                 characters_of(device))
+            told(f"{name}: what was late", int(is_new), shop.driver.late_orders)
+
+
+class Losing(Printer):
+    """A printer of whose acknowledgements the next one is lost."""
+
+    is_losing = False
+
+    def _acknowledges(self, answer):
+        was_mute, self.is_mute = self.is_mute, self.is_mute or self.is_losing
+        super()._acknowledges(answer)
+        self.is_mute, self.is_losing = was_mute, False
+
+
+def try_lost_acknowledgement():
+    """The acknowledgement of a line is lost. The line may be, too, so that the order is printed again from it on, also
+    if a later line is acknowledged. An order behind that is printed once."""
+    for kind in ("usb", "tcp", "serial", "asked"):
+        with contextlib.ExitStack() as stack:
+            name, shop = f"a lost acknowledgement over {kind}", Shop(stack, kind, made=Losing)
+            device = shop.device
+
+            def is_done(text):
+                return until(
+                    lambda: shop.till.run_devices(0.01) is not None and raised(shop.control.print, text) is None)
+            shop.begins()
+            device.is_losing = True
+            told(f"{name}: the order, and again", ((111, 0), True),
+                 (raised(shop.control.print, b"One\nTwo\n"), is_done(b"One\nTwo\n")))
+            # One that is asked gets one line at a time.
+            printed = [b"Before", b"One", *[b"Two"] * ("asked" not in kind), b"One", b"Two"]
+            told(f"{name}: the paper", printed, characters_of(device))
+            device.is_losing = True
+            told(f"{name}: another order, and one behind it", ((111, 0), True),
+                 (raised(shop.control.print, b"Three\n"), is_done(b"Four\n")))
+            told(f"{name}: their paper", [*printed, b"Three", b"Four"], characters_of(device))
+
+
+def try_reset_connection():
+    """A network printer has acknowledged lines, and its connection is reset before anybody has read that: the next
+    write fails. What was acknowledged isn't printed again."""
+    text = b"".join(b"Line %02d\n" % number for number in range(40))
+    with contextlib.ExitStack() as stack:
+        shop, waited = Shop(stack, "tcp", timeout=PATIENCE), []
+        device, port = shop.device, shop.driver.link.port
+        shop.begins()
+        device.slow(0.02)
+        write = port.write_some
+
+        def write_late(data):
+            """Nothing is read until the printer has done all that it got."""
+            if b"Line 32" in data and not waited:
+                waited.append(len(device.receipt()))
+                device.slow(0)
+                device.wait(lambda: device.is_idle and not device._sends)
+                with device.lock:
+                    device.cable.reset()
+                ends = select.poll()
+                ends.register(port.fileno(), 0)
+                ends.poll(PATIENCE * 1000)
+            return write(data)
+        stack.enter_context(mock.patch.object(port, "write_some", write_late))
+        told("a connection that is reset in an order", (108, 0), raised(shop.control.print, text))
+        told("some lines were acknowledged and not read", True, waited[0] < 20)
+        told("it is connected again", True, shop.settle())
+        told("the order again", None, raised(shop.control.print, text))
+        shop.same_paper("a connection that is reset: the paper")
+
+
 def try_refused_output():
     """Output that waits and is refused, in the guide's loop: it is tried again, but not at once."""
     with contextlib.ExitStack() as stack:
@@ -1861,6 +1948,56 @@ def try_power_behind_a_cause():
         told("each line is whole", (4, []), (len(items), not_whole(shop.device, items)))
 
 
+def try_off_with_open_cover():
+    """A printer with RTS/CTS is switched off while its cover is open. If it has answered meanwhile, its silence tells
+    that it is off. If it takes nothing while it is offline, it may as well be on."""
+    for kind, made in (("holds", HearingPrinter), ("asked holds", HearingPrinter), ("holds", Printer)):
+        is_hearing = made is HearingPrinter
+        name = f"off with an open cover, over {kind}, hearing {is_hearing}"
+        with contextlib.ExitStack() as stack:
+            shop = Shop(stack, kind, made=made)
+            device, driver = shop.device, shop.driver
+            shop.begins()
+            device.after_characters(4, lambda device=device: device.cover(True))
+            told(f"{name}: its cover is opened in an order", (114, 201), raised(shop.control.print, b"A line\n"))
+            until(lambda: shop.till.run_devices(0.01) is None, 4 * TIMEOUT)
+            told(f"{name}: it is open still", ((114, 201), True),
+                 (raised(shop.control.print, b"A line\n"), driver.is_online))
+            device.pull_plug()
+            is_off = until(lambda: shop.till.run_devices(0.01) is not None and not driver.is_online,
+                           PATIENCE if is_hearing else 4 * TIMEOUT)
+            told(f"{name}: it counts as off", (is_hearing, (108, 0) if is_hearing else (114, 201)),
+                 (is_off, raised(shop.control.print, b"A line\n")))
+            device.cover(False)
+            device.plug_in()
+            told(f"{name}: again", True, until(
+                lambda: shop.till.run_devices(0.01) is not None and raised(shop.control.print, b"A line\n") is None))
+            told(f"{name}: the line is whole", [], not_whole(device, shop.till.device("r1").show().items))
+
+
+def try_questions_behind_a_line():
+    """A printer is off for long, and its line keeps what it is sent: it isn't asked again and again, since it would have
+    to answer each question once it is on."""
+    for kind in ("holds", "asked holds"):
+        with contextlib.ExitStack() as stack:
+            shop = Shop(stack, kind)
+            link, device = shop.driver.link, shop.device
+            shop.begins()
+            device.pull_plug()
+            # A pseudo terminal doesn't tell what it keeps.
+            kept = stack.enter_context(mock.patch.object(
+                kijolvar.SerialPort, "is_holding", mock.PropertyMock(side_effect=lambda: device.cable.waiting() > 0)))
+            with mock.patch.object(link, "_asks", wraps=link._asks) as asks:
+                until(lambda: shop.till.run_devices(0.01) is None, 6 * TIMEOUT)
+                told(f"it is asked once, over {kind}", (True, False), (asks.call_count <= 1, shop.driver.is_online))
+            told(f"the line is looked at, over {kind}", True, kept.called)
+            device.plug_in()
+            told(f"it is back, over {kind}", True, shop.settle())
+            told(f"it prints, over {kind}", True, until(
+                lambda: shop.till.run_devices(0.01) is not None and raised(shop.control.print, TEXT) is None))
+            shop.same_paper(f"off for long, over {kind}: the paper")
+
+
 def try_cause_behind_a_line():
     """A printer that runs out of paper while it is off, and whose line has kept questions meanwhile. An answer to one
     of them doesn't tell why it is offline."""
@@ -2411,7 +2548,7 @@ def try_flow():
                     ("a display at a line", SerialDisplay(line).port, True),
                     ("a printer", EscPosPrinter(device.path).link.port, True),
                     ("a scanner", WedgeScanner(device.path).port, True)):
-                told(f"{name}: breaks, parity and flow", (True, False, wanted), flags_of(port))
+                told(f"{name}: breaks, checks and flow", (True, True, wanted), flags_of(port))
         with mock.patch("kijolvar.ports._is_line", side_effect=[False, False, True, True]):
             told("links that lead to a line later", [False, True],
                  [flags_of(port)[2] for port in (SerialDisplay(device.path).port, EscPosPrinter(device.path).link.port)])
@@ -2509,16 +2646,18 @@ def try_lines_in_use():
 
 
 def try_disturbed_bytes():
-    """A byte that came with a wrong parity: a printer's or a display's is dropped, and a scanner's reads as 0."""
+    """A byte that came with a wrong parity, or without its stop bit as at another speed: a printer's or a display's is
+    dropped, and a scanner's reads as 0."""
     for made, wanted in ((EscPosPrinter, True), (SerialDisplay, True), (WedgeScanner, False)):
-        with Scanner(cable()) as device:
-            driver = made(SerialPort(device.path, parity="even"))
-            port = driver.link.port if made is EscPosPrinter else driver.port
-            port.open()
-            flags = termios.tcgetattr(port.fileno())[0]
-            told(f"{made.__name__}: parity counts, and a wrong byte is dropped", (True, wanted),
-                 (bool(flags & termios.INPCK), bool(flags & termios.IGNPAR)))
-            port.close()
+        for parity in ("none", "even"):
+            with Scanner(cable()) as device:
+                driver = made(SerialPort(device.path, parity=parity))
+                port = driver.link.port if made is EscPosPrinter else driver.port
+                port.open()
+                flags = termios.tcgetattr(port.fileno())[0]
+                told(f"{made.__name__}, parity {parity}: bytes are checked, and a wrong one is dropped", (True, wanted),
+                     (bool(flags & termios.INPCK), bool(flags & termios.IGNPAR)))
+                port.close()
 
 
 def try_disturbed_scans():

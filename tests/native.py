@@ -646,6 +646,152 @@ def try_immediate_between():
             told(f"{name}: what was late", str(int(is_given_up)), shop.late())
 
 
+def try_another_between():
+    """An order fails and comes out later, and another one is printed before it is tried again: it is a new order then.
+    No driver can know whether it is meant once more. What puts nothing on the paper doesn't come between."""
+    other = [("left", b"Other")]
+    for between, found, is_new in ((b"Other\n", other, True), (b"", [], False), (b"\x1b|N", [], False)):
+        name = f"{between} between"
+        with contextlib.ExitStack() as stack:
+            shop = Shop(stack, timeout=AMPLE)
+            device, ask = shop.device, shop.host.ask
+            device.after_characters(3, lambda device=device: device.cover(True))
+            told(f"{name}: it fails", "err 114 201", shop.print(TEXT))
+            device.cover(False)
+            told(f"{name}: it comes out later", True, until(lambda: ask("run 10") and len(device.receipt()) == 3))
+            told(f"{name}: that is heard", True, until(
+                lambda: ask("run 10") and not (device._sends or device.cable.unread())) and shop.settle())
+            told(f"{name}: the other one, and it again", ["ok"] * 2,
+                 [shop.host.line(f"call r printNormal 2 {data.hex() or '-'}") for data in (between, TEXT)])
+            told(f"{name}: the paper", [*PRINTED, *found, *PRINTED * is_new], shop.paper())
+            told(f"{name}: what was late", str(int(is_new)), shop.late())
+
+
+class Losing(Printer):
+    """A printer of whose acknowledgements the next one is lost."""
+
+    is_losing = False
+
+    def _acknowledges(self, answer):
+        was_mute, self.is_mute = self.is_mute, self.is_mute or self.is_losing
+        super()._acknowledges(answer)
+        self.is_mute, self.is_losing = was_mute, False
+
+
+def try_lost_acknowledgement():
+    """The acknowledgement of a line is lost. The line may be, too, so that the order is printed again from it on, also
+    if a later line is acknowledged. An order behind that is printed once."""
+    for kind in ("usb", "tcp", "serial", "asked"):
+        with contextlib.ExitStack() as stack:
+            name, shop = f"a lost acknowledgement over {kind}", Shop(stack, kind, made=Losing)
+            device = shop.device
+
+            def is_done(text):
+                return until(lambda: shop.host.ask("run 10") and shop.print(text) == "ok")
+            device.is_losing = True
+            told(f"{name}: the order, and again", ("err 111", True),
+                 (shop.print(b"One\nTwo\n"), is_done(b"One\nTwo\n")))
+            # One that is asked gets one line at a time.
+            printed = [b"One", *[b"Two"] * ("asked" not in kind), b"One", b"Two"]
+            told(f"{name}: the paper", printed, [item.characters for item in device.receipt()])
+            device.is_losing = True
+            told(f"{name}: another order, and one behind it", ("err 111", True),
+                 (shop.print(b"Three\n"), is_done(b"Four\n")))
+            told(f"{name}: their paper", [*printed, b"Three", b"Four"], [item.characters for item in device.receipt()])
+
+
+def try_reset_connection():
+    """A network printer has acknowledged lines, and its connection is reset before anybody has read that: the next
+    write fails. What was acknowledged isn't printed again."""
+    if WORDS.preloaded is None:
+        return
+    lines = [b"Line %02d" % number for number in range(40)]
+    with contextlib.ExitStack() as stack:
+        delayed = CHECKS.work / "delayed"
+        shop = Shop(stack, "tcp", timeout=AMPLE, LD_PRELOAD=WORDS.preloaded, DELAYED=str(delayed))
+        device = shop.device
+        told("an order before", "ok", shop.print(b"Before\n"))
+        device.slow(0.02)
+        device.after_characters(20, delayed.touch)
+
+        def resets():
+            """Lets the printer do all that it got, while nothing more is sent."""
+            until(delayed.exists)
+            device.slow(0)
+            device.wait(lambda: device.is_idle and not device._sends)
+            time.sleep(0.1)
+            told("some lines are still to be sent", True, device.wait(lambda: device.is_idle) and 3 < len(
+                device.receipt()) < len(lines))
+            with device.lock:
+                device.cable.reset()
+            time.sleep(0.1)
+            delayed.unlink()
+        thread = threading.Thread(target=resets)
+        thread.start()
+        told("a connection that is reset in an order", "err 108", shop.print(b"\n".join(lines) + b"\n"))
+        thread.join()
+        told("it is connected again", True, shop.settle())
+        told("the order again", "ok", shop.print(b"\n".join(lines) + b"\n"))
+        told("its paper", [b"Before", *lines], [item[1] for item in shop.paper()])
+
+
+def try_off_while_open():
+    """A printer with RTS/CTS is switched off while its cover is open. If it has answered meanwhile, its silence tells
+    that it is off. If it takes nothing while it is offline, it may as well be on."""
+    for kind, made in (("holds", HearingPrinter), ("asked holds", HearingPrinter), ("holds", Printer)):
+        is_hearing = made is HearingPrinter
+        name = f"off with an open cover, over {kind}, hearing {is_hearing}"
+        with contextlib.ExitStack() as stack:
+            shop = Shop(stack, kind, made=made)
+            device, ask = shop.device, shop.host.ask
+
+            def runs(seconds):
+                end = time.monotonic() + seconds
+                until(lambda: ask("run 10") and time.monotonic() > end)
+            told(f"{name}: an order", "ok", shop.print(b"Before\n"))
+            device.after_characters(4, lambda device=device: device.cover(True))
+            told(f"{name}: its cover is opened in an order", "err 114 201", shop.print(b"A line\n"))
+            runs(4 * TIMEOUT / 1000)
+            told(f"{name}: it is open still", ("err 114 201", "online 0"), (shop.print(b"A line\n"), ask("state r1")))
+            device.pull_plug()
+            is_off = until(lambda: ask("run 10") and ask("state r1") == "offline 0",
+                           PATIENCE if is_hearing else 4 * TIMEOUT / 1000)
+            told(f"{name}: it counts as off", (is_hearing, "err 108" if is_hearing else "err 114 201"),
+                 (is_off, shop.print(b"A line\n")))
+            device.cover(False)
+            device.plug_in()
+            told(f"{name}: again", True, until(lambda: ask("run 10") and shop.print(b"A line\n") == "ok"))
+            told(f"{name}: the line is whole", True, ("left", b"A line") in shop.paper())
+
+
+def try_off_behind_questions():
+    """A printer is switched off, and its line with RTS/CTS keeps the questions that it was asked before: it counts as
+    off all the same. It isn't asked again and again, since it would have to answer each question once it is on."""
+    if WORDS.preloaded is None:
+        return
+    for kind in ("holds", "asked holds"):
+        name = f"off behind questions, over {kind}"
+        with contextlib.ExitStack() as stack:
+            held = CHECKS.work / "held"
+            held.unlink(missing_ok=True)
+            shop = Shop(stack, kind, LD_PRELOAD=WORDS.preloaded, HELD=str(held))
+            device, ask = shop.device, shop.host.ask
+            told(f"{name}: an order", "ok", shop.print(b"Before\n"))
+            device.pull_plug()
+            until(lambda: ask("run 10") and device.cable.waiting() > 0)
+            # A pseudo terminal doesn't tell what it keeps.
+            held.touch()
+            told(f"{name}: it is off", True, until(lambda: ask("run 10") and ask("state r1") == "offline 0", 10))
+            waiting, end = device.cable.waiting(), time.monotonic() + 3 * TIMEOUT / 1000
+            until(lambda: ask("run 10") and time.monotonic() > end)
+            told(f"{name}: it isn't asked again", waiting, device.cable.waiting())
+            held.unlink()
+            device.plug_in()
+            told(f"{name}: it is back", True, shop.settle())
+            told(f"{name}: an order then", True, until(lambda: ask("run 10") and shop.print(b"Behind\n") == "ok"))
+            told(f"{name}: the paper", [("left", b"Before"), ("left", b"Behind")], shop.paper())
+
+
 def try_scan_between():
     """A call prints one request, and a code that comes meanwhile is told before the last is printed."""
     with contextlib.ExitStack() as stack:
@@ -2459,6 +2605,9 @@ def try_refusals():
         told("no speed of a line", "KIJ_BAD_SETTINGS", host.ask(f"printer r1 {port} serial 9601"))
         told("no time for an order", ["KIJ_BAD_SETTINGS"] * 2,
              [host.ask(f"printer r1 {port} timeout 0"), host.ask(f"display p1 {port} timeout 0")])
+        told("longer times than 2,147,483 seconds", ["KIJ_BAD_SETTINGS"] * 5,
+             [host.ask(f"{words} {port} {key} 2147483001") for key, made in (("timeout", 2), ("pause", 3))
+              for words in ("printer r1", "display p1", "scanner s1")[:made]])
         told("an order that needn't end, and a port that is never tried again", ["KIJ_BAD_SETTINGS"] * 5,
              [host.ask(f"{words} {port} {key} -1") for key, made in (("timeout", 2), ("pause", 3))
               for words in ("printer r1", "display p1", "scanner s1")[:made]])

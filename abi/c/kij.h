@@ -630,8 +630,9 @@ typedef struct kij_escpos_settings {
     /** Whether the printer says nothing by itself, and doesn't know GS ( H. Then it is asked for its status (DLE EOT),
      * and whether an order is printed (GS r). */
     bool is_asked;
-    /** How long the printer may go on without acknowledging a line, 1 or more: an order has to end, so KIJ_FOREVER is
-     * refused. And how long to wait before a lost port is tried again, 0 or more. Both are in milliseconds. */
+    /** How long the printer may go on without acknowledging a line, 1 to 2,147,483,000: an order has to end, so
+     * KIJ_FOREVER is refused. And how long to wait before a lost port is tried again, from 0 on. Both are in
+     * milliseconds. */
     int timeout;
     int pause;
     kij_serial_settings serial;
@@ -647,8 +648,8 @@ typedef enum kij_protocol { KIJ_CD5220 = 0, KIJ_ESCPOS = 1 } kij_protocol;
 /** A customer display. Begin with KIJ_DISPLAY_SETTINGS. */
 typedef struct kij_display_settings {
     kij_protocol protocol;
-    /** How long an order may take, 1 or more: it has to end, so KIJ_FOREVER is refused. And how long to wait before a
-     * lost port is tried again, 0 or more. Both are in milliseconds. */
+    /** How long an order may take, 1 to 2,147,483,000: it has to end, so KIJ_FOREVER is refused. And how long to wait
+     * before a lost port is tried again, from 0 on. Both are in milliseconds. */
     int timeout;
     int pause;
     kij_serial_settings serial;
@@ -665,7 +666,7 @@ typedef struct kij_scanner_settings {
     int type;
     /** Whether the device sends key events, whatever its name. A path of /dev/input/.. always does. */
     bool has_keys;
-    /** How long to wait before a lost port is tried again, in milliseconds, 0 or more. */
+    /** How long to wait before a lost port is tried again, in milliseconds, 0 to 2,147,483,000. */
     int pause;
     kij_serial_settings serial;
 } kij_scanner_settings;
@@ -688,7 +689,7 @@ typedef struct kij_scanner_settings {
  * does so though other orders were printed at once meanwhile. An application that gives a request up ends that: by
  * clearOutput, or by the reply KIJ_ER_CLEAR to the ErrorEvent of a printer. The same order is a new one then, and is
  * printed from its beginning. Once a line has opened a control (kij_carry_out), each ends it for all printers of the
- * till.
+ * till. An order that is printed at once ends it for others of its kind, unless it puts nothing on the paper.
  *
  * A printer counts as off once it was asked whether it is there, and has answered nothing for the timeout. Over TCP the
  * port is opened again then, unless an order that failed may still be acknowledged: the system finds out then, at most
@@ -700,7 +701,8 @@ typedef struct kij_scanner_settings {
  * So is what it acknowledges of an order that failed for no reason (KIJ_E_FAILURE) while the till doesn't look for 2
  * seconds (kij_run_devices): it may have been off. An order in which the program stands still for so long, as on a
  * machine that is suspended, fails for that reason. A printer that has said by itself that it is offline, as while its
- * paper feed button is held down, may be silent for longer, since it says that it goes on.
+ * paper feed button is held down, may be silent for longer, since it says that it goes on. If it has answered a
+ * question since, it counts as off once it is silent for the timeout.
  * With `is_asked` the next order waits first for an answer to what was sent before. If none comes for the timeout, it
  * fails, and the one after it is sent.
  *
@@ -741,7 +743,7 @@ kij_result kij_serial_display_open(kij_till *till, const char *device, const cha
  * system keeps about 16 characters. If it drops some, the scan has failed (kij_input_scan_fault). So has one of more
  * than 4,096 bytes, and one with a key that is neither a character of the layout nor of its keypad, nor Num Lock. The
  * control key and ] are the separator GS. Over a serial line a code with a 0 byte has failed too: the system gives one
- * in place of a byte whose parity is wrong. So has one without a terminator, once the till has looked and nothing has
+ * in place of a byte that was disturbed. So has one without a terminator, once the till has looked and nothing has
  * come for a second, or the port is lost.
  *
  * @param device   the name of a scanner of the profile

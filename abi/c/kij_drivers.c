@@ -15,10 +15,12 @@ static kij_result plain(int code) { return kij_internal_result(code, 0, KIJ_NO_C
    a byte a code that has begun has no end, in milliseconds. */
 static const int64_t quickly = 20, briefly = 250, settle = 1000, rest = 100, unseen = 10000, lull = 1000;
 
-/* The longest code of a scanner and the highest type, how many ports are waited for at once, of how many orders of a
-   printer the till keeps the paper, and from how many lines before the near end on a roll is long; as many as a request
-   of line feeds alone feeds. */
+/* The longest timeout or pause, in milliseconds: whole seconds, as in Rust and Python. The longest code of a scanner
+   and the highest type, how many ports are waited for at once, of how many orders of a printer the till keeps the
+   paper, and from how many lines before the near end on a roll is long; as many as a request of line feeds alone
+   feeds. */
 enum {
+    LONGEST_TIME = 2147483000,
     LONGEST_CODE = 4096,
     HIGHEST_TYPE = 999,
     MOST_PORTS = 64,
@@ -314,7 +316,10 @@ static bool show(kij_till *till, kij_drive *drive) {
         if (left <= 0) break;
         kij_internal_wait_typing(till, port, true, left, &can_read, &can_write);
         if (can_read && !kij_internal_port_read(port, drive->got, sizeof drive->got, &count)) return false;
-        if (can_write && !kij_internal_port_write(port, bytes->bytes + sent, bytes->size - sent, &count)) return false;
+        if (can_write && !kij_internal_port_write(port, bytes->bytes + sent, bytes->size - sent, &count)) {
+            kij_internal_port_close(port);
+            return false;
+        }
         if (can_write) sent += count;
         else if (can_read && count == 0) kij_internal_rest_typing(till, 1);
     }
@@ -1100,7 +1105,7 @@ void kij_internal_end_drives(kij_till *till) {
 static int wire_of(const kij_escpos_settings *settings, kijolvar_wire_settings *wire) {
     if (!is_range(settings->width, 0, INT32_MAX) || !is_range(settings->feed, 0, 255) ||
         !is_range(settings->on, 0, 255) || !is_range(settings->off, 0, 255) || !is_range(settings->lines, 0, 100000) ||
-        !is_range(settings->timeout, 1, INT32_MAX) || !is_range(settings->pause, 0, INT32_MAX) ||
+        !is_range(settings->timeout, 1, LONGEST_TIME) || !is_range(settings->pause, 0, LONGEST_TIME) ||
         !kij_internal_is_serial(&settings->serial))
         return KIJ_BAD_SETTINGS;
     memset(wire, 0, sizeof *wire);
@@ -1224,8 +1229,8 @@ kij_result kij_serial_display_open(kij_till *till, const char *device, const cha
     kij_drive *drive = NULL;
     if (settings == NULL) settings = &usual;
     if (port == NULL) return plain(KIJ_BAD_ARGUMENT);
-    if (!is_range((int)settings->protocol, KIJ_CD5220, KIJ_ESCPOS) || !is_range(settings->timeout, 1, INT32_MAX) ||
-        !is_range(settings->pause, 0, INT32_MAX) || !kij_internal_is_serial(&settings->serial) ||
+    if (!is_range((int)settings->protocol, KIJ_CD5220, KIJ_ESCPOS) || !is_range(settings->timeout, 1, LONGEST_TIME) ||
+        !is_range(settings->pause, 0, LONGEST_TIME) || !kij_internal_is_serial(&settings->serial) ||
         !kij_internal_is_port(port))
         return plain(KIJ_BAD_SETTINGS);
     int code = kij_internal_enter(till);
@@ -1247,7 +1252,7 @@ kij_result kij_wedge_scanner_open(kij_till *till, const char *device, const char
     kij_drive *drive = NULL;
     if (settings == NULL) settings = &usual;
     if (port == NULL) return plain(KIJ_BAD_ARGUMENT);
-    if (!is_range(settings->type, 0, HIGHEST_TYPE) || !is_range(settings->pause, 0, INT32_MAX) ||
+    if (!is_range(settings->type, 0, HIGHEST_TYPE) || !is_range(settings->pause, 0, LONGEST_TIME) ||
         !kij_internal_is_serial(&settings->serial) || !kij_internal_is_port(port))
         return plain(KIJ_BAD_SETTINGS);
     int code = kij_internal_enter(till);

@@ -40,7 +40,8 @@ typedef struct kij_port {
     unsigned turns;
     /* Whether what was sent may wait for long, as at a printer whose cover is open. */
     bool is_patient;
-    /* Of a serial line: whether a byte whose parity is wrong reads as 0. Otherwise it is dropped. */
+    /* Of a serial line: whether a byte whose parity is wrong, or whose stop bit is missing, reads as 0. Otherwise it is
+       dropped. */
     bool keeps_faults;
     /* Whether reading no bytes means that it is lost, and whether the last reading gave none. */
     bool ends_empty;
@@ -191,6 +192,8 @@ typedef struct kij_link {
     kij_told heard[3];
     kij_signs hearing;
     unsigned rounds;
+    /* Whether it has answered a question that was put after it had said that it is offline. */
+    bool is_hearing;
     /* Of one that is asked: how many bytes of an automatic status that has begun still come. */
     unsigned status_left;
 } kij_link;
@@ -355,7 +358,7 @@ void kij_internal_port_wait(const kij_port *port, bool is_writing, int64_t time,
 /* Reads what has come, which may be nothing. False if the port was lost: it is closed then. */
 bool kij_internal_port_read(kij_port *port, void *bytes, size_t room, size_t *count);
 
-/* Writes what there is room for. False if the port was lost: it is closed then. */
+/* Writes what there is room for. False if the port was lost. It is still open then: what had come can be read. */
 bool kij_internal_port_write(kij_port *port, const void *bytes, size_t size, size_t *count);
 
 /* Whether something that was written hasn't left this machine, if that is known. If the port was lost, it is closed

@@ -458,7 +458,10 @@ static const char *last_line(const char *text) {
 
 /* The printer is as these replies tell. While it is offline, another status doesn't make it so again. */
 static void take_signs(kij_link *link, const kij_signs *signs, const kij_told *told, size_t count) {
-    if (!is_offline(link)) link->offline_at = kij_internal_now();
+    if (!is_offline(link)) {
+        link->offline_at = kij_internal_now();
+        link->is_hearing = false;
+    }
     memcpy(&link->signs, signs, sizeof link->signs);
     memcpy(link->told, told, count * sizeof *told);
     link->told_count = count;
@@ -483,6 +486,7 @@ static void take_part(kij_link *link, const char *line, const kij_told *told) {
     }
     if (link->question == ASKED_NOW) {
         link->asked_why_at = link->statuses;
+        link->is_hearing |= link->questioned_at > link->offline_at;
         memset(&link->hearing, 0, sizeof link->hearing);
     }
     /* It has said it by itself meanwhile. */
@@ -728,8 +732,12 @@ static void forget(kij_link *link) {
     if (link->is_asked) lose_due(link);
 }
 
-/* The port was lost, with what wasn't sent. What was sent may still be acknowledged over the next one. */
+/* The port was lost, with what wasn't sent. What was sent may still be acknowledged over the next one. What had come
+   before a write failed counts, unless the port has kept back what it is about. */
 static void lose(kij_link *link) {
+    int why = link->port.error;
+    if (kij_internal_port_is_open(&link->port) && !kij_internal_port_holds_back(&link->port)) (void)receive(link);
+    link->port.error = why;
     kij_internal_port_close(&link->port);
     forget(link);
 }
@@ -757,13 +765,16 @@ void kij_internal_link_start(kij_link *link) {
 }
 
 /* Asks a printer that has said nothing for a time, and one that says that it can't print, for more. One that may be
-   silent isn't off for that. False if the port is to be opened again: a network printer that lost its power has closed
-   nothing, and the system would send it what comes next for minutes. What is due may still be acknowledged. */
+   silent isn't off for that, unless it has answered since it said so. False if the port is to be opened again: a
+   network printer that lost its power has closed nothing, and the system would send it what comes next for minutes.
+   What is due may still be acknowledged. */
 static bool look_after(kij_link *link) {
     int64_t now = kij_internal_now();
-    bool may_wait = may_be_silent(link), is_late = link->was_asked && now - link->asked_at > link->timeout;
+    bool may_wait = may_be_silent(link) && !link->is_hearing;
+    bool is_late = link->was_asked && now - link->asked_at > link->timeout;
     watch(link, false);
     if (is_late && !may_wait) {
+        if (kij_internal_port_holds_back(&link->port) && is_any_due(link)) lose_sent(link);
         kij_internal_port_resume(&link->port);
         link->is_there = link->is_started = false;
         link->told_count = 0;
@@ -776,7 +787,15 @@ static bool look_after(kij_link *link) {
     /* After an order that failed it is asked at once. A question that is out stays, with its time: if each such order
        asked again, a printer that is off would never count as off. */
     bool is_heard = link->is_there && !link->was_silent && now - link->heard_at <= link->timeout;
-    if (!is_heard && (!link->was_asked || is_late) && may_ask(link)) ask(link);
+    if (!is_heard && (!link->was_asked || is_late)) {
+        if (may_ask(link)) {
+            ask(link);
+        } else if (!link->was_asked && link->unanswered > 0 && kij_internal_port_is_holding(&link->port)) {
+            /* A question that waits in the line already counts from now on. */
+            link->was_asked = link->was_sent = true;
+            link->asked_at = now;
+        }
+    }
     if (is_stopped(link) && !link->is_refreshing && now - link->refreshed_at > link->pause && may_ask(link)) {
         link->is_refreshing = true;
         link->refreshed_at = now;
@@ -922,6 +941,8 @@ bool kij_internal_link_carry_out(kij_link *link, const kijolvar_wire_settings *w
     if (code != KIJOLVAR_OK || link->fresh.size < link->end_size) return false;
     link->fresh.size -= link->end_size;
     memcpy(link->end, link->fresh.bytes + link->fresh.size, link->end_size);
+    /* What puts nothing on the paper, such as a text without a line's end, gives up no order that failed. */
+    is_once = is_once && link->fresh.size > 0;
     kij_job *job = receive(link) ? take_up(link, is_once, is_waiting) : NULL;
     if (job == NULL || !post(link, job)) {
         lose(link);

@@ -108,16 +108,15 @@ void kij_internal_port(kij_port *port, const char *name, const kij_serial_settin
     else port->kind = serial->is_serial || is_line_name(name) ? KIJ_PORT_SERIAL : KIJ_PORT_FILE;
 }
 
-/* Takes over how a serial line is set up. A byte whose parity is wrong is dropped, or reads as 0 where that is kept. As
-   a printer's answer a 0 would say that a line is printed, or that all is well. */
+/* Takes over how a serial line is set up. A byte whose parity is wrong, or whose stop bit is missing as at another
+   speed, is dropped, or reads as 0 where that is kept. As a printer's answer a 0 would say that a line is printed, or
+   that all is well. */
 static void take_settings(struct termios *found, const kij_port *port) {
     const kij_serial_settings *serial = &port->serial;
     found->c_cflag &= ~(tcflag_t)(CSIZE | PARENB | PARODD | CMSPAR | CSTOPB | CRTSCTS);
     found->c_cflag |= serial->bits == 8 ? CS8 : CS7;
-    if (serial->parity != KIJ_PARITY_NONE) {
-        found->c_cflag |= PARENB;
-        found->c_iflag |= port->keeps_faults ? INPCK : INPCK | IGNPAR;
-    }
+    found->c_iflag |= port->keeps_faults ? INPCK : INPCK | IGNPAR;
+    if (serial->parity != KIJ_PARITY_NONE) found->c_cflag |= PARENB;
     if (serial->parity == KIJ_PARITY_ODD) found->c_cflag |= PARODD;
     if (serial->stops == 2) found->c_cflag |= CSTOPB;
     if (serial->flow == KIJ_FLOW_RTS_CTS) found->c_cflag |= CRTSCTS;
@@ -463,26 +462,28 @@ void kij_internal_port_wait(const kij_port *port, bool is_writing, int64_t time,
     kij_internal_port_is_ready(&waiting, can_read, can_write);
 }
 
-/* What reading or writing came to: false if the port was lost. */
-static bool is_kept(kij_port *port, ssize_t found, bool is_end, size_t *count) {
-    *count = found > 0 ? (size_t)found : 0;
-    if (found > 0 || (found == 0 && !is_end)) return true;
-    if (found < 0 && (errno == EAGAIN || errno == EWOULDBLOCK || errno == EINTR)) return true;
-    port->error = found < 0 ? errno : EPIPE;
-    kij_internal_port_close(port);
-    return false;
+/* Whether reading or writing has failed, and not only as there is nothing to do now. */
+static bool is_lost(ssize_t found) {
+    return found < 0 && errno != EAGAIN && errno != EWOULDBLOCK && errno != EINTR;
 }
 
 bool kij_internal_port_read(kij_port *port, void *bytes, size_t room, size_t *count) {
     ssize_t found = read(port->file, bytes, room);
     port->was_empty = found == 0;
-    return is_kept(port, found, port->ends_empty, count);
+    *count = found > 0 ? (size_t)found : 0;
+    if (!is_lost(found) && !(found == 0 && port->ends_empty)) return true;
+    port->error = found < 0 ? errno : EPIPE;
+    kij_internal_port_close(port);
+    return false;
 }
 
 bool kij_internal_port_write(kij_port *port, const void *bytes, size_t size, size_t *count) {
     ssize_t found = port->kind == KIJ_PORT_TCP ? send(port->file, bytes, size, MSG_NOSIGNAL)
                                                : write(port->file, bytes, size);
-    return is_kept(port, found, false, count);
+    *count = found > 0 ? (size_t)found : 0;
+    if (!is_lost(found)) return true;
+    port->error = errno;
+    return false;
 }
 
 bool kij_internal_port_is_draining(kij_port *port) {

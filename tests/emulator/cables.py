@@ -4,6 +4,7 @@ import errno
 import fcntl
 import os
 import socket
+import struct
 import termios
 import time
 import tty
@@ -123,14 +124,30 @@ class TcpCable:
             self._listener.close()
             self._listener = None
 
-    def settle(self, seconds=0.0):
-        """What was sent arrives, unless there is something that wasn't read."""
+    def settle(self, seconds=1.0):
+        """Waits until what was sent has arrived, but not longer than this. What the host has sent is dropped: it would
+        end the connection at once."""
+        self._arrives(seconds)
         with contextlib.suppress(OSError, AttributeError):
             while self._host.recv(65536):
                 pass
 
+    def _arrives(self, seconds=1.0):
+        """Waits until what was sent has arrived: the system has sent only a part of it as long as nothing is said of
+        that."""
+        end = time.monotonic() + seconds
+        with contextlib.suppress(OSError, AttributeError):
+            while fcntl.ioctl(self._host, termios.TIOCOUTQ, bytes(4)) != bytes(4) and time.monotonic() < end:
+                time.sleep(0.001)
+
     def waiting(self):
         return 0 if self._host is None else count_unread(self._host)
+
+    def reset(self):
+        """Ends the connection so that what the host sends from now on fails. What it was sent before arrives."""
+        self._arrives()
+        self._host.setsockopt(socket.SOL_SOCKET, socket.SO_LINGER, struct.pack("ii", 1, 0))
+        self.drop()
 
     def drop(self):
         """Ends the connection; the device goes on."""

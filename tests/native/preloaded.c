@@ -5,6 +5,7 @@
    REMOVED   It is removed just before it is locked the first time.
    STOPS     Once it is there, the program is stopped (SIGSTOP) where it has waited and nothing has come. It is removed.
    HELD      While it is there, a few bytes haven't left a serial line yet.
+   DELAYED   While it is there, nothing is sent over a connection.
    SUSPENDED While it is there, the machine has been suspended for 15 seconds. */
 #define _GNU_SOURCE
 #include <poll.h>
@@ -14,6 +15,7 @@
 #include <stdlib.h>
 #include <sys/file.h>
 #include <sys/ioctl.h>
+#include <sys/socket.h>
 #include <sys/syscall.h>
 #include <time.h>
 #include <unistd.h>
@@ -34,6 +36,12 @@ int poll(struct pollfd *files, nfds_t count, int time) {
     const char *path = getenv("STOPS");
     if (ready == 0 && time > 0 && path != NULL && unlink(path) == 0) (void)raise(SIGSTOP);
     return ready;
+}
+
+ssize_t send(int file, const void *bytes, size_t size, int flags) {
+    const char *path = getenv("DELAYED");
+    while (path != NULL && access(path, F_OK) == 0) (void)usleep(1000);
+    return syscall(SYS_sendto, file, bytes, size, flags, NULL, 0);
 }
 
 int clock_gettime(clockid_t clock, struct timespec *now) {

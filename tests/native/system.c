@@ -194,7 +194,8 @@ static void try_set_up_fault(void) {
     close(other);
 }
 
-/* A break is no byte. One whose parity is wrong is none, too, or a 0 byte where that is kept, if a line has parity. */
+/* A break is no byte. One whose parity is wrong or whose stop bit is missing is none, too, or a 0 byte where that is
+   kept. */
 static void try_line_settings(void) {
     static char name[64];
     struct termios found;
@@ -210,7 +211,7 @@ static void try_line_settings(void) {
         told("a line with this parity", true, kij_internal_port_open(&port, 100));
         told("its settings", 0, tcgetattr(port.file, &found));
         tcflag_t mask = IGNBRK | BRKINT | IGNPAR | PARMRK | INPCK | ISTRIP;
-        tcflag_t wanted = serial.parity == KIJ_PARITY_NONE ? 0 : way < 3 ? INPCK | IGNPAR : INPCK;
+        tcflag_t wanted = way < 3 ? INPCK | IGNPAR : INPCK;
         told("what it does with breaks and parity", (long)(IGNBRK | wanted), (long)(found.c_iflag & mask));
         kij_internal_port_close(&port);
     }

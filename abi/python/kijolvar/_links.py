@@ -220,6 +220,8 @@ class PrinterLink:
         self._asked_last, self._unanswered, self._questioned_at = _PRINTER, 0, -1e9
         # Whether late answers come, as far as is known, and what was answered since the printer was asked.
         self._is_late = False
+        # Whether it has answered a question that was asked after it had said that it is offline.
+        self._is_hearing = False
         self._heard: dict[int, tuple[Told, dict[str, str]]] = {}
 
     @property
@@ -230,7 +232,7 @@ class PrinterLink:
     def _is_told(self, signs: dict[str, str], told: list[Told]) -> None:
         """The printer is as these replies tell, or it isn't known how it is. Answers to earlier questions are older."""
         if not self._is_offline:
-            self._offline_at = time.monotonic()
+            self._offline_at, self._is_hearing = time.monotonic(), False
         self.signs, self.told = signs, told
         self._heard.clear()
         self.statuses += bool(told)
@@ -320,8 +322,9 @@ class PrinterLink:
         return time.monotonic() < self._ends_at
 
     def _taken_up(self, data: bytes, is_once: bool, is_waiting: bool) -> Job:
-        """The job of an order: the one that failed if the order is the same, and how far that one has come."""
-        if not is_once:
+        """The job of an order: the one that failed if the order is the same, and how far that one has come. An order
+        that puts nothing on the paper, such as a text without a line's end, doesn't give that up."""
+        if not (is_once and data):
             return Job(data, is_once)
         found = [key for key in (is_waiting, not is_waiting) if key in self._failed and self._failed[key].data == data]
         if not found or found[0] != is_waiting:
@@ -528,6 +531,7 @@ class PrinterLink:
             return
         if told.asked == _PRINTER:
             self._heard.clear()
+            self._is_hearing |= self._questioned_at > self._offline_at
         elif not self._heard:
             # The printer has told meanwhile how it is.
             return
@@ -625,7 +629,7 @@ class PrinterLink:
     def _asks_on(self) -> None:
         """Asks again once no late answers come any more. Those that haven't come are lost."""
         is_over = self._is_late and time.monotonic() - self._questioned_at >= min(self.timeout / 2, _APART)
-        if is_over and not self._outbox:
+        if is_over and self._may_ask():
             self._unanswered, self._is_late = 0, False
             self._asks(_PRINTER)
 
@@ -687,23 +691,31 @@ class PrinterLink:
             raise PortError(errno.ETIMEDOUT, f"{self.port.name} doesn't answer")
         is_asking = self._asked_at is not None and now - self._asked_at <= self.timeout
         is_heard = self._is_there and now - self._heard_at <= self.timeout
-        if self._outbox:
-            return
         if not (is_heard or is_asking or self._is_late):
-            self._asked_at = None
-            self._ask()
+            if self._may_ask():
+                self._asked_at = None
+                self._ask()
+                self._refreshes(now)
+            elif self._asked_at is None and self._unanswered and self.port.is_holding:
+                # A question that waits in the line already counts from now on.
+                self._asked_at = now
+        elif self.is_stopped and now - self._refreshed_at > self._pause and self._may_ask():
             self._refreshes(now)
-        elif self.is_stopped and now - self._refreshed_at > self._pause:
-            self._refreshes(now)
+
+    def _may_ask(self) -> bool:
+        """Whether a question goes out at once. In a line that holds it back it would only wait with those before it."""
+        return not (self._outbox or self.port.is_holding)
 
     def _notes_silence(self) -> bool:
         """A printer that hasn't answered for the timeout counts as off, also while orders are tried again and again. By
         then only questions wait in its line. Returns whether it hasn't. One that is offline may take no question from
-        a line that holds it back."""
-        if self._is_offline and self.port.holds_back:
+        a line that holds it back, unless it has answered one since."""
+        if self._is_offline and self.port.holds_back and not self._is_hearing:
             return False
         is_silent = self._asked_at is not None and time.monotonic() - self._asked_at > self.timeout
         if is_silent:
+            if self._may_keep_a_part():
+                self._tears()
             self.port.resume()
             self._is_there = False
             self._is_told({}, [])
@@ -746,7 +758,11 @@ class PrinterLink:
         self._ask()
 
     def _lose(self) -> None:
-        """The port was lost, with what wasn't sent. What was sent may still be acknowledged over the next one."""
+        """The port was lost, with what wasn't sent. What was sent may still be acknowledged over the next one. What had
+        come before counts, unless the port has kept back what it is about."""
+        rest = self.port._take_rest()
+        if not self.port.holds_back:
+            self._takes(rest)
         self.port.close()
         self._forget()
 
@@ -802,7 +818,7 @@ class AskedLink(PrinterLink):
         """Asks all questions of DLE EOT, one after the other. It begins again if one isn't answered in time."""
         super()._asks_on()
         pause = self.timeout if self._unanswered else _OFTEN
-        if not (self._is_late or self._outbox) and time.monotonic() - self._questioned_at >= pause:
+        if not self._is_late and time.monotonic() - self._questioned_at >= pause and self._may_ask():
             self._asks(_PRINTER)
 
     def _ask(self) -> None:

@@ -154,7 +154,8 @@ class EscPosPrinter(Driver):
     control was released or closed meanwhile. Output that waits (AsyncMode) does so though other orders were printed at
     once meanwhile. It is a new order, of which all is printed, if the application has given up the one that failed:
     with `clear_output`, or with the reply ER_CLEAR to its ErrorEvent. Once a line has opened a control
-    (`Till.carry_out`), each gives up the failed orders of all printers.
+    (`Till.carry_out`), each gives up the failed orders of all printers. It is a new one, too, if another order was
+    printed at once meanwhile, but not if that put nothing on the paper.
 
     A serial line with flow control keeps what was sent while the printer is off. If the printer says nothing for 2
     seconds, or for the timeout if that is shorter, the order has failed, and what isn't acknowledged of it is printed
@@ -162,6 +163,7 @@ class EscPosPrinter(Driver):
     for no reason (FailureError) while the till doesn't look for 2 seconds, as `run_devices` does: it may have been off.
     The same counts for an order during which the process stands still for 2 seconds, or the machine is suspended. One
     that has said by itself that it is offline may be silent, as while its feed button is held: it says that it goes on.
+    If it has answered a question since, it counts as off once it is silent for the timeout.
 
     Args:
         port: The port, or its name as `port_of` takes it: /dev/usb/lp0, /dev/ttyUSB0, tcp:192.168.1.9:9100.

@@ -116,8 +116,8 @@ class Port(Unique):
         name: The port's name.
         is_patient: Whether what was sent may wait for long, as at a printer whose cover is open. If not, a TCP port
             whose other end acknowledges nothing for a minute is lost.
-        keeps_faults: Whether a serial line with a parity gives 0 for a byte that came with a wrong one, which a scanner
-            needs. If not, such a byte is dropped: 0 may be a printer's answer that all is well.
+        keeps_faults: Whether a serial line gives 0 for a byte that came with a wrong parity or without its stop bit,
+            which a scanner needs. If not, such a byte is dropped: 0 may be a printer's answer that all is well.
     """
 
     _noun = "a port"
@@ -134,6 +134,8 @@ class Port(Unique):
         self._waits = select.poll(), select.poll()
         # Whether reading no bytes means that the port is lost, and whether none came the last time.
         self._ends_empty, self._was_empty = True, False
+        # What had come when a write found the port lost, and nobody had read.
+        self._rest = b""
         _ports.add(self)
 
     def __repr__(self) -> str:
@@ -168,6 +170,14 @@ class Port(Unique):
     def holds_back(self) -> bool:
         """Whether it keeps what was sent while the device takes nothing, and gives it to the device later, also if that
         was off meanwhile: a serial line with flow control does."""
+        return False
+
+    @property
+    def is_holding(self) -> bool:
+        """Whether something is in a port that holds back which the device hasn't taken yet."""
+        if self._file is not None and self.holds_back:
+            with MinorFaults():
+                return _unsent(self._file) > 0
         return False
 
     def discard(self) -> None:
@@ -225,7 +235,8 @@ class Port(Unique):
             waits = select.poll(), select.poll()
             waits[False].register(file, select.POLLIN)
             waits[True].register(file, select.POLLIN | select.POLLOUT)
-            self._process, self._waits, self._was_empty, self._file = os.getpid(), waits, False, file
+            self._process, self._waits, self._was_empty, self._rest = os.getpid(), waits, False, b""
+            self._file = file
         except PortError:
             raise
         except (OSError, termios.error) as fault:
@@ -327,7 +338,7 @@ class Port(Unique):
         try:
             return self._put(file, data[:_AT_ONCE])
         except OSError as fault:
-            self._loses(fault)
+            self._loses(fault, is_writing=True)
             return 0
 
     def write(self, data: bytes, seconds: float) -> bool:
@@ -360,12 +371,28 @@ class Port(Unique):
         """
         return self.read_some() if self.ready(False, seconds)[0] else b""
 
-    def _loses(self, fault: Exception) -> None:
+    def _take_rest(self) -> bytes:
+        """Takes what had come when a write found the port lost. Nothing more of it can be read."""
+        rest, self._rest = self._rest, b""
+        return rest
+
+    def _keep_rest(self) -> None:
+        """Keeps what has come to a port that is lost, and is closed then."""
+        with MinorFaults():
+            for _ in range(_MOST_PARTS):
+                found = os.read(self.fileno(), _AT_ONCE)
+                self._rest += found
+                if not found:
+                    break
+
+    def _loses(self, fault: Exception, is_writing: bool = False) -> None:
         """Closes the port and says so, unless the fault means only that there is nothing to do now."""
         if _is_of_handler(fault):
             raise fault
         if isinstance(fault, (BlockingIOError, InterruptedError)):
             return
+        if is_writing:
+            self._keep_rest()
         self.close()
         if isinstance(fault, PortError):
             raise fault
@@ -556,7 +583,8 @@ class SerialPort(FilePort):
         stops: 1 or 2 stop bits.
         flow: How the device says that it can take no more: "rts-cts", "xon-xoff" or "none".
 
-    With a parity, a byte that came with a wrong one is read as 0. One from a printer or a display is dropped.
+    A byte that came with a wrong parity, or without its stop bit as at another speed, is read as 0. One from a printer
+    or a display is dropped.
 
     Raises:
         ValueError: No line has such a setting.
@@ -594,8 +622,8 @@ class SerialPort(FilePort):
             found[0] |= termios.IXON | termios.IXOFF
             # A program that had the line before may have left it others, or none.
             found[6][termios.VSTART], found[6][termios.VSTOP] = _XON, _XOFF
-        faults = termios.INPCK if self.keeps_faults else termios.INPCK | termios.IGNPAR
-        found[0] |= faults if self._parity != "none" else 0
+        # Without a parity, too: a byte that comes at another speed lacks its stop bit.
+        found[0] |= termios.INPCK if self.keeps_faults else termios.INPCK | termios.IGNPAR
         found[2], found[4], found[5] = control, self._speed, self._speed
         termios.tcsetattr(file, termios.TCSANOW, found)
         termios.tcflush(file, termios.TCIOFLUSH)

@@ -363,6 +363,7 @@ fn check(till: &mut DriverTill<'_>, device: &str, settings: &WireSettings, link:
 /// the old one all the same, that counts in
 /// [`DriverState::late_orders`](crate::DriverState::late_orders). Once a line has opened a control
 /// ([`Till::carry_out`](crate::Till::carry_out)), the failed orders of all printers of the till are given up together.
+/// An order that is printed at once gives up another one of its kind, unless it puts nothing on the paper.
 ///
 /// A serial line with flow control holds back what a printer doesn't take, also while the printer is off. So if such a
 /// printer says nothing for 2 seconds, or for the timeout if that is shorter, the lines that it hasn't acknowledged are
@@ -371,6 +372,7 @@ fn check(till: &mut DriverTill<'_>, device: &str, settings: &WireSettings, link:
 /// ([`Till::run_devices`](crate::Till::run_devices)), since it may have been off. An order in which the program stands
 /// still for so long, as on a machine that is suspended, fails for that reason. A printer that has said by itself that
 /// it is offline, as while its paper feed button is held down, may be silent for longer, since it says that it goes on.
+/// If it has answered a question since, it counts as off once it is silent for the timeout.
 ///
 /// ```no_run
 /// use kijolvar::{EscPosPrinter, EscPosSettings, Till, Totals, BUILT_PROFILE};
@@ -691,7 +693,10 @@ impl SerialDisplay {
             let ready = till.wait(&self.port.cable, true, left);
             let found = if ready.reading { self.port.read().len() } else { 0 };
             if ready.writing {
-                let Ok(count) = self.port.cable.write(&bytes[sent..]) else { return false };
+                let Ok(count) = self.port.cable.write(&bytes[sent..]) else {
+                    self.port.cable.close();
+                    return false;
+                };
                 sent += count;
             } else if ready.reading && found == 0 {
                 till.rest(MOMENT);
@@ -767,8 +772,8 @@ impl Driver for SerialDisplay {
 ///
 /// A scan of which characters were dropped has failed, as has a code of more than 4,096 bytes, or with a key that has
 /// no character, but NumLock: the scanner's control gets an ErrorEvent. So it does of a code with a 0 byte over a
-/// serial line, since a byte that was changed on its way reads as 0 if the line has a parity; and of one without a
-/// terminator, once the till has looked and nothing has come for a second, or the port is lost.
+/// serial line, since a byte that was disturbed on its way reads as 0; and of one without a terminator, once the till
+/// has looked and nothing has come for a second, or the port is lost.
 #[derive(Debug)]
 pub struct WedgeScanner {
     port: Reopened,

@@ -197,6 +197,8 @@ pub(crate) struct Link {
     heard: Vec<Told>,
     hearing: Signs,
     rounds: u32,
+    /// Whether it has answered a question that was put after it had said that it is offline.
+    is_hearing: bool,
     /// Of a printer that is asked: how many bytes of an automatic status that has begun still come.
     status_left: usize,
 }
@@ -261,6 +263,7 @@ impl Link {
             heard: Vec::new(),
             hearing: Signs::default(),
             rounds: 0,
+            is_hearing: false,
             status_left: 0,
         }
     }
@@ -505,7 +508,7 @@ impl Link {
     /// The printer is as these replies tell. While it is offline, another status doesn't make it so again.
     fn take_signs(&mut self, signs: Signs, told: Vec<Told>) {
         if !self.is_offline() {
-            self.offline_at = Some(Instant::now());
+            (self.offline_at, self.is_hearing) = (Some(Instant::now()), false);
         }
         (self.signs, self.told) = (signs, told);
         self.statuses += 1;
@@ -556,6 +559,7 @@ impl Link {
         }
         if self.question == 0 {
             self.heard.clear();
+            self.is_hearing |= self.questioned_at > self.offline_at;
         }
         if self.heard.len() != self.question {
             // An automatic status has come meanwhile.
@@ -752,8 +756,12 @@ impl Link {
     /// Whether a line may hold back a part of what is due for a printer that should say something. One that is asked may
     /// also be off and on again after it has told why it is offline, and then doesn't say so.
     fn is_held(&self) -> bool {
-        let is_any = self.due.iter().any(|parcel| parcel.job != 0 && !parcel.is_torn);
-        is_any && self.cable.holds_back() && (self.is_asked || !self.may_be_silent())
+        self.is_any_due() && self.cable.holds_back() && (self.is_asked || !self.may_be_silent())
+    }
+
+    /// Whether something of any order is due, and counts.
+    fn is_any_due(&self) -> bool {
+        self.due.iter().any(|parcel| parcel.job != 0 && !parcel.is_torn)
     }
 
     /// Looks whether the printer has fallen silent while a line may hold something of a job back for it. It is asked
@@ -841,8 +849,14 @@ impl Link {
         }
     }
 
-    /// The port was lost, with what wasn't sent. What was sent may still be acknowledged over the next one.
-    fn lose(&mut self) {
+    /// The port was lost, with what wasn't sent. What was sent may still be acknowledged over the next one. What had
+    /// come before a write failed counts, unless the port has kept back what it is about.
+    fn lose(&mut self, till: &mut DriverTill<'_>) {
+        let fault = self.cable.fault;
+        if self.cable.is_open() && !self.cable.holds_back() {
+            let _ = self.receive(till);
+        }
+        self.cable.fault = fault;
         self.cable.close();
         self.forget();
     }
@@ -865,16 +879,20 @@ impl Link {
         self.ends_at = end_after(self.timeout);
         self.connect(self.timeout);
         if self.cable.is_open() && self.pump(till, Until::Known, None).is_err() {
-            self.lose();
+            self.lose(till);
         }
     }
 
     /// Asks a printer that has said nothing for a time, and one that says that it can't print, for more. One on a
     /// network that doesn't answer is lost, unless something is due: the system might find that much later. One that
-    /// may be silent is asked again, too, since it may have been off meanwhile, where the question was lost.
+    /// may be silent is asked again, too, since it may have been off meanwhile, where the question was lost. It is off
+    /// if it has answered before, though it was offline.
     fn look_after(&mut self) -> Result<(), Lost> {
         let is_late = self.asked_at.is_some_and(|asked_at| asked_at.elapsed() > self.timeout);
-        if is_late && !self.may_be_silent() {
+        if is_late && (self.is_hearing || !self.may_be_silent()) {
+            if self.cable.holds_back() && self.is_any_due() {
+                self.lose_held();
+            }
             self.cable.resume();
             self.is_there = false;
             self.told.clear();
@@ -885,9 +903,14 @@ impl Link {
             }
         }
         let is_heard = self.is_there && !self.was_silent && !is_over(self.heard_at, self.timeout);
-        if !is_heard && (self.asked_at.is_none() || is_late) && self.is_idle() {
-            self.asked_at = None;
-            self.ask();
+        if !is_heard && (self.asked_at.is_none() || is_late) {
+            if self.is_idle() {
+                self.asked_at = None;
+                self.ask();
+            } else if self.unanswered > 0 && self.cable.is_holding() {
+                // A question that waits in the line already counts from now on.
+                self.asked_at.get_or_insert_with(Instant::now);
+            }
         }
         if self.is_stopped() && !self.is_refreshing && is_over(self.refreshed_at, self.pause) && self.is_idle() {
             self.is_refreshing = true;
@@ -912,7 +935,7 @@ impl Link {
                 self.connect(self.timeout.min(QUICKLY));
             }
         } else if self.look(till).is_err() {
-            self.lose();
+            self.lose(till);
         }
     }
 
@@ -1048,13 +1071,15 @@ impl Link {
             return false;
         }
         self.end = bytes.split_off(bytes.len() - size);
+        // What puts nothing on the paper, such as a text without a line's end, gives up no order that failed.
+        let kind = if bytes.is_empty() { Kind::Pulse } else { kind };
         let done = self
             .receive(till)
             .and_then(|()| self.await_answer(till))
             .and_then(|()| self.take_up(till, bytes, kind))
             .and_then(|()| self.post(till, kind));
         if done.is_err() {
-            self.lose();
+            self.lose(till);
             return false;
         }
         if self.current(kind).is_done {

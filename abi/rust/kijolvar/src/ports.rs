@@ -344,8 +344,9 @@ fn settings_of(file: RawFd) -> io::Result<Line> {
     Ok(line)
 }
 
-/// Sets up a terminal line, so that bytes pass as they are. A break is no byte. Nor is one with a wrong parity, or it
-/// is 0 if it is kept: as a printer's answer a 0 would say that a line is printed, or that all is well.
+/// Sets up a terminal line, so that bytes pass as they are. A break is no byte. Nor is one with a wrong parity or
+/// without its stop bit, as at another speed, or it is 0 if it is kept: as a printer's answer a 0 would say that a line
+/// is printed, or that all is well.
 fn set_up(file: RawFd, settings: Option<&SerialSettings>, keeps_faults: bool) -> io::Result<()> {
     let mut line = settings_of(file)?;
     (line.input, line.output, line.local) = (IGNBRK, 0, 0);
@@ -363,11 +364,7 @@ fn set_up(file: RawFd, settings: Option<&SerialSettings>, keeps_faults: bool) ->
         };
         line.control |= if settings.stops == 2 { CSTOPB } else { 0 };
         line.control |= if settings.flow == Flow::RtsCts { CRTSCTS } else { 0 };
-        line.input |= match settings.parity {
-            Parity::None => 0,
-            _ if keeps_faults => INPCK,
-            _ => INPCK | IGNPAR,
-        };
+        line.input |= if keeps_faults { INPCK } else { INPCK | IGNPAR };
         if settings.flow == Flow::XonXoff {
             line.input |= IXON | IXOFF;
             // A program that had the line before may have left it others, or none.
@@ -471,7 +468,8 @@ pub(crate) struct Cable {
     usual: SerialSettings,
     /// Whether what was sent may wait for long, as at a printer whose cover is open.
     is_patient: bool,
-    /// Whether a byte of a serial line whose parity is wrong is 0. Otherwise it is dropped.
+    /// Whether a byte of a serial line whose parity is wrong or whose stop bit is missing is 0. Otherwise it is
+    /// dropped.
     keeps_faults: bool,
     /// What is open, and the process that opened it.
     stream: Option<Stream>,
@@ -486,7 +484,7 @@ pub(crate) struct Cable {
     opening: Option<Opening>,
 }
 
-/// The port was lost. It is closed then.
+/// The port was lost. It is closed then, unless a write has found that.
 #[derive(Debug)]
 pub(crate) struct Lost;
 
@@ -689,7 +687,9 @@ impl Cable {
             Err(fault) => fault,
         };
         self.fault = Some(number_of(&fault));
-        self.close();
+        if is_reading {
+            self.close();
+        }
         Err(Lost)
     }
 
@@ -715,7 +715,7 @@ impl Cable {
         0
     }
 
-    /// Writes what there is room for.
+    /// Writes what there is room for. A port that is found to be lost stays open, so that what had come can be read.
     pub(crate) fn write(&mut self, bytes: &[u8]) -> Result<usize, Lost> {
         let done = match &mut self.stream {
             Some(Stream::File(file)) => file.write(bytes),
@@ -959,9 +959,8 @@ mod tests {
 
     #[test]
     fn a_line_ignores_breaks_and_checks_its_parity() {
-        for (parity, dropped, kept) in
-            [(Parity::None, 0, 0), (Parity::Even, INPCK | IGNPAR, INPCK), (Parity::Odd, INPCK | IGNPAR, INPCK)]
-        {
+        for parity in [Parity::None, Parity::Even, Parity::Odd] {
+            let (dropped, kept) = (INPCK | IGNPAR, INPCK);
             let printer = EscPosSettings { timeout: Duration::from_millis(1), ..EscPosSettings::default() };
             let found = [
                 input_of("r1", parity, |port| EscPosPrinter::open(port, printer)),
