@@ -19,7 +19,7 @@ module _ (hosts : Device → Course) where
   pub drivable_is_served : (name : List ℕ) (slots : List (Slot Device)) → is_drivable (served_named name slots) ≡ true
       → is_some (course_named name (hosts_of hosts slots)) ≡ true
   drivable_is_served name [] is = absurd (false≢true is)
-  drivable_is_served name (slot ∷ slots) = by (bytes_eq name slot.name) (drivable_is_served name slots)
+  drivable_is_served name (slot ∷ slots) is = by (bytes_eq name slot.name) (drivable_is_served name slots) is
     where
       by : (same : Bool)
           → (is_drivable (served_named name slots) ≡ true → is_some (course_named name (hosts_of hosts slots)) ≡ true)
