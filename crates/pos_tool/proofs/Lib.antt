@@ -1,3 +1,4 @@
 mod CopyLemmas
 mod NameLemmas
 mod ParseLemmas
+mod ProgramLemmas

@@ -52,16 +52,24 @@ result_text known word = flat_map (explained_as (codes "result code") word) know
 abbrev pub extended_text : List Code → List ℕ → List ℕ
 extended_text known word = flat_map (explained_as (codes "extended code") word) known
 
+-- what a result code means, and then the extended code after it; a fault if one of the words is none's
+abbrev pub TextOfBoth : List Code → List ℕ → List ℕ → Result (List ℕ) Fault → Type 0
+TextOfBoth known word extended (Ok text) = (result_text known word ≢ []) × (extended_text known extended ≢ [])
+    × (text ≡ result_text known word ++ extended_text known extended)
+TextOfBoth known word extended (Err (fault.NoResultCode code)) = (code.now ≡ word) × (result_text known word ≡ [])
+TextOfBoth known word extended (Err (fault.NoExtendedCode code)) =
+    (code.now ≡ extended) × (result_text known word ≢ []) × (extended_text known extended ≡ [])
+TextOfBoth known word extended (Err why) = why ≡ fault.NoMemory
+
+-- a text that was made is printed, or nothing for this fault
+abbrev pub PrintsMade : Result (List ℕ) Fault → Output → Output → Result Finding Fault → Type 0
+PrintsMade (Ok text) old new result = Prints text old new result
+PrintsMade (Err why) old new result = (result ≡ Err why) × (new ≡ old)
+
 -- what a result code means is printed, and then the extended code after it; nothing if one of the words is none's
 abbrev pub ExplainsBoth : List Code → List ℕ → List ℕ → Output → Output → Result Finding Fault → Type 0
-ExplainsBoth known word extended old new (Err (fault.NoResultCode code)) =
-    (code.now ≡ word) × (result_text known word ≡ []) × (new ≡ old)
-ExplainsBoth known word extended old new (Err (fault.NoExtendedCode code)) = (code.now ≡ extended)
-    × (result_text known word ≢ []) × (extended_text known extended ≡ []) × (new ≡ old)
-ExplainsBoth known word extended old new (Err fault.NoMemory) = new ≡ old
-ExplainsBoth known word extended old new result = (result_text known word ≢ [])
-    × (extended_text known extended ≢ [])
-    × Prints (result_text known word ++ extended_text known extended) old new result
+ExplainsBoth known word extended old new result =
+    (made : Result (List ℕ) Fault) × TextOfBoth known word extended made × PrintsMade made old new result
 
 -- what a code means is printed, alone or with the extended code after it
 abbrev pub ExplainsAsked : List Code → List ℕ → Option (Bor (List ℕ)) → Output → Output → Result Finding Fault → Type 0

@@ -1,8 +1,6 @@
 -- What running scripts comes to, to the program (docs/reference/tool.md, "run").
 use Rattle.std.specs.Prelude.{◌≡◌, ◌∷◌, [], ℕ, Bool, true, false, List, Option, None, Result, Ok, Err, bytes_eq, codes}
-use Rattle.std.specs.Prelude.{◌&&◌, not}
 use Rattle.std.specs.Borrow.{Bor}
-use Rattle.std.specs.List.{list_any}
 use Rattle.pos_disk.specs.Memory.{Memory}
 use Rattle.pos_disk.specs.declared.device.Disk.{Ghosts as DiskGhosts}
 use Rattle.pos_file.specs.declared.block_file.BlockFile.{Ghosts as FileGhosts}
@@ -26,10 +24,11 @@ abbrev pub is_typed : List (Bor (List ℕ)) → Bool → Bool → Bool
 is_typed (path ∷ []) false true = bytes_eq path.now (codes "-")
 is_typed paths json is_terminal = false
 
--- a person who types lines waits for them to be run: a terminal is read to its end as a script, and the person sees the
--- errors
+-- a person who types lines waits for them to be run: no script is named, so that a terminal is read to its end, and the
+-- person sees the errors
 abbrev pub is_awaited : List (Bor (List ℕ)) → Bool → Bool → Bool
-is_awaited paths typed is_watched = is_watched && not typed && list_any (λ path. bytes_eq path.now (codes "-")) paths
+is_awaited (path ∷ []) false true = bytes_eq path.now (codes "-")
+is_awaited paths typed is_watched = false
 
 -- how the answers of scripts are told
 abbrev pub form_of : Bool → AnswerFormat

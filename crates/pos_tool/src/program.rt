@@ -4,7 +4,8 @@ ghost use Rattle.std.specs.Process.{exit_status};
 ghost use Rattle.pos_tool.specs.Faults.{status_of};
 ghost use Rattle.pos_shell.specs.Outputs.{output_of, streams_of};
 ghost use Rattle.pos_tool.specs.Program.{Completes, DoesAsAsked, DoesTask, Explains, ExplainsAsked, ExplainsBoth};
-ghost use Rattle.pos_tool.specs.Program.{Performs, are_both, fault_of_unread, is_watched};
+ghost use Rattle.pos_tool.specs.Program.{Performs, TextOfBoth, are_both, fault_of_unread, is_watched};
+ghost use Rattle.pos_program.specs.Answers.{bytes_of};
 
 use crate::answers::{print, print_file, write_difference};
 use crate::commands::{Task, choice};
@@ -92,16 +93,14 @@ fn explain_one<'a, W: Sink>(
     print(writer, &text)
 }
 
-// Prints what a result code means, and the extended code after it.
-fn explain_both<'a, W: Sink>(
+// What a result code means, and the extended code after it.
+fn text_of_both<'a>(
     alloc: Global,
-    writer: &mut W,
     codes: &[Code<'_>],
     code: &'a str,
     extended: &'a str,
-) -> Result<Finding, Fault<'a>>
-    ensures { ExplainsBoth codes.now code.entry.now extended.entry.now (output_of W.Sink writer.old)
-        (output_of W.Sink writer.new) result }
+) -> Result<Vec<u8>, Fault<'a>>
+    ensures { TextOfBoth codes.now code.entry.now extended.entry.now (bytes_of result) }
 {
     let Ok(mut text) = explained_as(alloc, codes, "result code", code) else {
         return Err(Fault::NoMemory);
@@ -118,7 +117,24 @@ fn explain_both<'a, W: Sink>(
     let Ok(()) = text.extend_from_slice(&more) else {
         return Err(Fault::NoMemory);
     };
-    print(writer, &text)
+    Ok(text)
+}
+
+// Prints what a result code means, and the extended code after it.
+fn explain_both<'a, W: Sink>(
+    alloc: Global,
+    writer: &mut W,
+    codes: &[Code<'_>],
+    code: &'a str,
+    extended: &'a str,
+) -> Result<Finding, Fault<'a>>
+    ensures { ExplainsBoth codes.now code.entry.now extended.entry.now (output_of W.Sink writer.old)
+        (output_of W.Sink writer.new) result }
+{
+    match text_of_both(alloc, codes, code, extended) {
+        Ok(text) => print(writer, &text),
+        Err(fault) => Err(fault),
+    }
 }
 
 // Prints what a code means, alone or with the extended code after it.

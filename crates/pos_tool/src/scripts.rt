@@ -51,12 +51,12 @@ fn is_typed(scripts: &[&str], json: bool, is_terminal: bool) -> bool
     is_terminal && !json && scripts.len() == 1 && scripts[0] == "-"
 }
 
-// Whether a person who types lines waits for them to be run: a terminal is read to its end as a script, and the person
-// sees the errors.
+// Whether a person who types lines waits for them to be run: no script is named, so that a terminal is read to its end,
+// and the person sees the errors.
 fn is_awaited(scripts: &[&str], typed: bool, is_watched: bool) -> bool
     ensures { result ≡ is_awaited scripts.now typed is_watched }
 {
-    is_watched && !typed && scripts.iter().any(|path| *path == "-")
+    is_watched && !typed && scripts.len() == 1 && scripts[0] == "-"
 }
 
 // Tells a person who types lines when they are run, among the errors: no prompt asks for them.
