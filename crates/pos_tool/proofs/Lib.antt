@@ -1,4 +1,3 @@
 mod CopyLemmas
 mod NameLemmas
 mod ParseLemmas
-mod ProgramLemmas

@@ -1,4 +1,4 @@
-use Rattle.std.proofs.Common.{Bool, Ok, subst, sym, true}
+use Rattle.std.proofs.Common.{Bool, Ok, subst, sym}
 use Rattle.pos_tool.specs.Copies.{PutsBack}
 use Rattle.pos_tool.specs.Whole.{Replaces}
 use Rattle.pos_tool.proofs.copies.put.Goals as goal
