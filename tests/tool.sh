@@ -485,9 +485,9 @@ same 'that old file stays' other.totals.old kept
 told 'restore leaves nothing beside it' '' "$(ls ./*.part 2> /dev/null)"
 rm other.totals.old
 strace -f -e trace=flock,rename,renameat,renameat2,close -o trace "$tool" restore copy.totals other.totals --replace
-held=$(sed -n 's/.*flock(\([0-9]*\), LOCK_EX.*/\1/p' trace | tail -n 1)
+number=$(sed -n 's/.*flock(\([0-9]*\), LOCK_EX.*/\1/p' trace | tail -n 1)
 told 'restore, replacing, has the old file locked until the new one has its place' 'flock rename close' \
-  "$(sed -n "/flock($held, LOCK_EX/,\$ { s/.*\(flock\)(.*/\1/p; s/.*\(rename\)[a-z0-9]*(.*/\1/p; s/.*\(close\)($held).*/\1/p; }" trace |
+  "$(sed -n "/flock($number, LOCK_EX/,\$ { s/.*\(flock\)(.*/\1/p; s/.*\(rename\)[a-z0-9]*(.*/\1/p; s/.*\(close\)($number).*/\1/p; }" trace |
     tr '\n' ' ' | sed 's/ $//')"
 ends 'restore, replacing no file' 4 "kijolvar: new: $unopened: $none"$'\n'"$hint_path" '' restore copy.totals new --replace
 ends 'restore of no file' 4 "kijolvar: none.totals: $unread: $none"$'\n'"$hint_path" '' restore none.totals new
