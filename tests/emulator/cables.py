@@ -136,7 +136,8 @@ class TcpCable:
         """Waits until what was sent has arrived: the system has sent only a part of it as long as nothing is said of
         that."""
         end = time.monotonic() + seconds
-        with contextlib.suppress(OSError, AttributeError):
+        # TypeError: no host has connected.
+        with contextlib.suppress(OSError, TypeError):
             while fcntl.ioctl(self._host, termios.TIOCOUTQ, bytes(4)) != bytes(4) and time.monotonic() < end:
                 time.sleep(0.001)
 

@@ -70,7 +70,7 @@ fn an_empty_profile_has_no_devices() {
     assert_eq!(devices("").unwrap(), []);
     for totals in [Totals::Memory, Totals::create_new(place.file())] {
         let till = Till::open("", totals).unwrap();
-        assert_eq!(till.cash_drawer("d1").unwrap().enabled().unwrap_err().code(), Some(ResultCode::NoExist));
+        assert_eq!(till.cash_drawer("d1").err().and_then(|fault| fault.code()), Some(ResultCode::NoExist));
     }
 }
 
