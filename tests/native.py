@@ -98,14 +98,16 @@ class Host:
     """A program with a till. It has the terminal of a file, if one is given, and these variables too."""
 
     def __init__(self, stack, profile=PROFILE, *totals, terminal=None, **variables):
-        path = CHECKS.work / "profile"
-        path.write_text(profile)
+        # Another program may still be reading its profile: one is written once.
+        self.profile = CHECKS.work / f"profile {hash(profile)}"
+        if not self.profile.exists():
+            self.profile.write_text(profile)
         pipes = {"stdin": subprocess.PIPE, "stdout": subprocess.PIPE, "text": True, "bufsize": 1,
                  "env": os.environ | variables}
         if terminal is not None:
             pipes |= {"start_new_session": True, "pass_fds": [terminal],
                       "preexec_fn": lambda: fcntl.ioctl(terminal, termios.TIOCSCTTY, 0)}
-        self.program = subprocess.Popen([WORDS.host, path, *totals], **pipes)
+        self.program = subprocess.Popen([WORDS.host, self.profile, *totals], **pipes)
         stack.callback(self.close)
 
     def ask(self, command):
@@ -2223,8 +2225,8 @@ def try_replaced():
     told("the change is in the new ones", False, path.read_bytes() == other.read_bytes())
     for number in range(1, 30):
         shutil.copy(other, f"{path}.{number}")
-    found = subprocess.run([WORDS.host, CHECKS.work / "profile", path], stdin=subprocess.DEVNULL, capture_output=True,
-                           text=True, env=os.environ | variables)
+    found = subprocess.run([WORDS.host, host.profile, path], stdin=subprocess.DEVNULL, capture_output=True, text=True,
+                           env=os.environ | variables)
     told("one that is replaced again and again is in use", (True, True),
          (found.returncode > 0, "in use" in found.stderr or "WouldBlock" in found.stderr))
     told("it isn't tried for ever", True, pathlib.Path(f"{path}.29").exists())
