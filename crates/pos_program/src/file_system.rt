@@ -69,8 +69,8 @@ pub trait FileSystem {
     fn link_target(&self, path: &str) -> io::Result<Option<String>>
         ensures { leads self.now path.now (text_in result) };
 
-    /// Makes the entries of the folder at a path stay after a crash, that of an open file among them. By the file a
-    /// contract says when this is done, as before the file grows.
+    /// Makes the entries of the folder at a path stay after a crash, among them that of an open file. Contracts name
+    /// the file with the calls that it was asked before, and so say that its folder is synced before it grows.
     ///
     /// # Errors
     ///

@@ -34,7 +34,7 @@ survey_data it = object (member (codes "files") (files_data it.directory.files)
     (member (codes "sequence") (number (unsigned it.sequence))
     (member (codes "slot") (number (unsigned (start it.slot))) no_members))))))
 
--- The text is one line: the JSON without spaces of all that the survey has. It reads as just that.
+-- The text is one line: the compact JSON of all that the survey has. It reads as just that.
 pub record IsJsonOf (it : Survey) (text : List ℕ) : Type 0 where
   pub text_is : text ≡ compact_text (survey_data it) ++ codes "\n"
   pub reads : read (compact_text (survey_data it)) ≡ Some (survey_data it)

@@ -110,14 +110,20 @@ Puts system folder below them later path bytes result = LacksMemory them later r
     ⊎ UsesPart system folder below them later (path ++ codes ".part") true bytes
     (λ made written. LinksPart system folder below made later written (path ++ codes ".part") path result) result
 
+-- what follows once an open file was to get its name: that is made to stay; or the file beside it is removed
+abbrev pub SettlesNamed : {S F : Type 0} → SystemGhosts S F → FolderGhosts S → S → S → F → List ℕ → List ℕ
+    → Result (Unit {0}) Error → Result (Unit {0}) WholeFault → Type 0
+SettlesNamed system folder them later written part path named result =
+    Follows fault.Link (Settles system them written path result × (later ≡ them)) (Removes folder them later part)
+    named result
+
 -- what putting an open file that is whole in the place of what has its name comes to
 abbrev pub RenamesPart : {S F : Type 0} → SystemGhosts S F → FolderGhosts S → FileGhosts F → S → S → F → List ℕ
     → List ℕ → Result (Unit {0}) WholeFault → Type 0
 RenamesPart {S} system folder below them later written part path result =
     (renamed : Result (Unit {0}) Error) × (named : S)
     × folder.renames them named (below.calls written) part path renamed
-    × Follows fault.Link (Settles system named written path result × (later ≡ named)) (Removes folder named later part)
-    renamed result
+    × SettlesNamed system folder named later written part path renamed result
 
 -- what checking comes to that a name is free or a file's
 abbrev pub ChecksFile : {S : Type 0} → FolderGhosts S → S → List ℕ → Result (Unit {0}) WholeFault → Type 0
@@ -157,8 +163,7 @@ abbrev pub ReplacesOpen : {S F : Type 0} → SystemGhosts S F → FolderGhosts S
 ReplacesOpen {S} system folder below them later written held part path result =
     (replaced : Result (Unit {0}) Error) × (named : S)
     × folder.replaces them named (below.calls written) (below.calls held) part path replaced
-    × Follows fault.Link (Settles system named written path result × (later ≡ named)) (Removes folder named later part)
-    replaced result
+    × SettlesNamed system folder named later written part path replaced result
 
 -- what becomes of the second name of an open file: it loses it if no other one could take its place
 abbrev pub EndsAside : {S : Type 0} → FolderGhosts S → S → S → List ℕ → Result (Unit {0}) WholeFault

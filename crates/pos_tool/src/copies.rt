@@ -24,7 +24,7 @@ use std::io;
 // How many bytes a totals file has that are looked at.
 const LENGTH: usize = 327_680;
 
-// How often a file is read twice that changes from one reading to the next.
+// How often at most a file is read twice, as long as the two readings differ.
 const TURNS: usize = 1_000;
 
 // Reads the bytes of a totals file, by one read.

@@ -1,8 +1,8 @@
 //! Files that appear whole or not at all.
 ghost use Rattle.std.specs.Prelude.{◌≡◌, ◌++◌, IfOk, string_bytes};
 ghost use Rattle.pos_tool.specs.Whole.{ChecksFile, ChecksReport, LinksPart, Puts, PutsInstead, PutsReport};
-ghost use Rattle.pos_tool.specs.Whole.{RenamesPart, Replaces, ReplacesOpen, SetsAside, Settles, WritesPart};
-ghost use Rattle.pos_tool.specs.Whole.{WritesWhole, is_report, to_make};
+ghost use Rattle.pos_tool.specs.Whole.{RenamesPart, Replaces, ReplacesOpen, SetsAside, Settles, SettlesNamed};
+ghost use Rattle.pos_tool.specs.Whole.{WritesPart, WritesWhole, is_report, to_make};
 
 use crate::folder::Folder;
 use pos_file::BlockFile;
@@ -176,6 +176,23 @@ fn check_file<S: Folder>(system: &S, path: &str) -> Result<(), WholeFault>
     }
 }
 
+// Makes the new name of an open file stay. If it didn't get that name, the file beside it is removed again.
+fn settle_named<S: FileSystem + Folder>(
+    system: &mut S,
+    file: &S::File,
+    named: io::Result<()>,
+    part: &str,
+    path: &str,
+) -> Result<(), WholeFault>
+    ensures { SettlesNamed S.FileSystem S.Folder system.old system.new file.now part.now path.now named result }
+{
+    if let Err(cause) = named {
+        let _ = system.remove(part);
+        return Err(WholeFault::Link(cause));
+    }
+    settle(system, file, path)
+}
+
 // Puts an open file that is whole in the place of what has its name.
 fn rename_part<S: FileSystem + Folder>(
     system: &mut S,
@@ -186,11 +203,8 @@ fn rename_part<S: FileSystem + Folder>(
     ensures { RenamesPart S.FileSystem S.Folder ⟦<S::File as BlockFile>⟧ system.old system.new file.now part.now
         path.now result }
 {
-    if let Err(cause) = system.rename(file, part, path) {
-        let _ = system.remove(part);
-        return Err(WholeFault::Link(cause));
-    }
-    settle(system, file, path)
+    let named = system.rename(file, part, path);
+    settle_named(system, file, named, part, path)
 }
 
 // Whether bytes are those of a report, or none.
@@ -248,11 +262,8 @@ fn replace_open<S: FileSystem + Folder>(
     ensures { ReplacesOpen S.FileSystem S.Folder ⟦<S::File as BlockFile>⟧ system.old system.new file.now held.now
         part.now path.now result }
 {
-    if let Err(cause) = system.replace(file, held, part, path) {
-        let _ = system.remove(part);
-        return Err(WholeFault::Link(cause));
-    }
-    settle(system, file, path)
+    let named = system.replace(file, held, part, path);
+    settle_named(system, file, named, part, path)
 }
 
 // Keeps the open file `held` under a second name, and then puts another one in its place, with its owner and mode. If
