@@ -5,7 +5,6 @@ use Rattle.pos_common.proofs.Common.{ℕ, ◌≡◌}
 use Rattle.pos_common.specs.OwnCalls.{OwnCall, OwnOrders, own_refusals}
 use Rattle.pos_service.specs.Controls.{open_place}
 use Rattle.pos_service.specs.Actions.{Does, MayWantFor, OrdersBy, may_want}
-use Rattle.pos_service.specs.Peripherals.{counted}
 use Rattle.pos_service.specs.declared.answer.Answer.TheVariants as answer
 use Rattle.pos_service.specs.declared.call.Call.{Call}
 use Rattle.pos_service.specs.declared.category.Category.{Category}
@@ -13,7 +12,6 @@ use Rattle.pos_service.specs.declared.code.Code.{Code}
 use Rattle.pos_service.specs.declared.action.Action.{Action}
 use Rattle.pos_service.specs.declared.action.Action.TheVariants as action
 use Rattle.std.proofs.Common.{inl}
-use Rattle.std.specs.Prelude.{◌⊎◌}
 use Rattle.pos_common.proofs.CheckLemmas.{refused}
 
 module _ (k : Category) (n : ℕ) (claims : List (Option ℕ)) (asked : Call) (olds : List Control) (one : Control)
@@ -54,10 +52,16 @@ module _ (k : Category) (n : ℕ) (claims : List (Option ℕ)) (asked : Call) (o
   -- and gives its orders
   pub done_orders : (d : Action) (outcome : Result Answer NoMemory) (old new : ℕ) → first_refusal refusals ≡ None
       → comes_to one ≡ Some d → OrdersBy d outcome old new → Ordered outcome old new
-  done_orders d (Ok result) old new none comes gives = rw (found, none, comes) gives
-  done_orders d (Err want) old new none comes gives = rw (found, none) (by_action d gives)
+  done_orders d outcome old new none comes gives = rw (found, none, comes) gives
+
+  -- or finds no memory before it gives any
+  pub starved_orders : (want : NoMemory) (orders : ℕ) → first_refusal refusals ≡ None
+      → Ordered (Err want) orders orders
+  starved_orders want orders none = rw (found, none) (by_action (comes_to one))
     where
-      by_action : (d : Action) → OrdersBy {T = Answer} d (Err want) old new → (new ≡ old) ⊎ (new ≡ counted old)
-      by_action (action.Gives given what) gives = gives
-      by_action (action.Changes what) gives = inl gives
-      by_action (action.Queues given) gives = inl gives
+      by_action : (comes : Option Action) → MatchOption comes (orders ≡ orders)
+          (λ action. OrdersBy {T = Answer} action (Err want) orders orders)
+      by_action None = refl
+      by_action (Some (action.Gives given what)) = inl refl
+      by_action (Some (action.Changes what)) = refl
+      by_action (Some (action.Queues given)) = refl

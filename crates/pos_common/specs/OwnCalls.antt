@@ -1,5 +1,5 @@
 -- The calls of a category's own, at the device of the control that makes them (common chapter).
-use Rattle.std.specs.Prelude.{◌≡◌, ◌⊎◌, ℕ, true, List, ◌∷◌, Option, Some, None, Result, IsTrue, MatchOption}
+use Rattle.std.specs.Prelude.{◌≡◌, ℕ, true, List, ◌∷◌, Option, Some, None, Result, IsTrue, MatchOption}
 use Rattle.std.specs.Prelude.{MatchResult, is_none}
 use Rattle.pos_service.specs.declared.answer.Answer.{Answer}
 use Rattle.pos_service.specs.declared.answer.Answer.TheVariants as answer
@@ -15,7 +15,6 @@ use Rattle.pos_service.specs.Controls.{Control, open_place}
 use Rattle.pos_service.specs.Actions.{Does, OrdersBy}
 use Rattle.pos_service.specs.Hardware.{Effect, SameHardware}
 use Rattle.pos_service.specs.Needs.{table}
-use Rattle.pos_service.specs.Peripherals.{counted}
 use Rattle.pos_service.specs.Refusals.{Row, Decided, first_refusal, when}
 
 -- the refusals of a call of a category's own on the control with a number: that it has no device with a place open,
@@ -53,10 +52,8 @@ OwnCall c rows comes_to number claims asked outcome control old before new after
 -- how many orders the peripheral was given before and after: none by a call that its table refuses, otherwise those of
 -- what it comes to
 abbrev pub OwnOrders : Category → List Row → Option Action → ℕ → List (Option ℕ) → Call → Result Answer NoMemory
-    → Control
-    → ℕ → ℕ → Type 0
+    → Control → ℕ → ℕ → Type 0
 OwnOrders c rows comes_to number claims asked outcome control old new =
     MatchOption (first_refusal (own_refusals c rows number claims asked control))
-    (MatchResult outcome (λ result. MatchOption comes_to ⊥ (λ action. OrdersBy action outcome old new))
-    (λ want. (new ≡ old) ⊎ (new ≡ counted old)))
+    (MatchOption comes_to (new ≡ old) (λ action. OrdersBy action outcome old new))
     (λ refusal. new ≡ old)

@@ -33,6 +33,7 @@ pub fn take_input<P: Peripheral>(
     ensures taken { let state = P.Peripheral.state in
         TakenAt input.now place result (controls_of controls.old) (hardware_of (state peripheral.old))
         (controls_of controls.new) (hardware_of (state peripheral.new)) }
+    ensures orders { let state = P.Peripheral.state in (state peripheral.new).orders ≡ (state peripheral.old).orders }
     ensures in_service { let state = P.Peripheral.state in
         StaysInService (state peripheral.old) (state peripheral.new) }
 {

@@ -3,7 +3,7 @@ use Rattle.pos_counter.proofs.Common.{Action, AllByRecursion, Answer, Answered, 
 use Rattle.pos_counter.proofs.Common.{CallOf, Category, Changes, Control, Counter, Detach, Detaches, Done, Empty, Err}
 use Rattle.pos_counter.proofs.Common.{Ghosts, Gives, GivesOrders, IsServed, Queues, answered, attached, detached}
 use Rattle.pos_counter.proofs.Common.{hardware_of, machine, set}
-use Rattle.pos_counter.proofs.Common.{KeptControl, Kind, List, MatchOption, MatchOption-at_some, MatchResult, Machine}
+use Rattle.pos_counter.proofs.Common.{KeptControl, Kind, List, MatchOption, MatchOption-at_some, Machine}
 use Rattle.pos_counter.proofs.Common.{NoMemory, None, Ok, Option, PeripheralState, Registered, Result, Row, Some}
 use Rattle.pos_counter.proofs.Common.{TotalsPart, [], ap, ap₂, arith, controls_of, device_action, device_rows}
 use Rattle.pos_counter.proofs.Common.{devices_of, false, first_refusal, inl, inr, is_common, is_some, kind_of}
@@ -61,6 +61,11 @@ pub leaves_others : {o : Option ℕ} (list : List Registered) {new : List Regist
     (x : Option PeripheralState) → o ≡ Some place → new ≡ with_peripheral list place x
     → LeavesOthers o (orders_of list) (orders_of new)
 leaves_others list place x at is = rw at (count_of x, ap orders_of is ∙ other_orders list place x)
+
+-- an input gives no order
+pub input_orders : (list new : List Registered) (place : ℕ) → CountsAt list place (λ k was now. now ≡ was) new
+    → orders_of new ≡ orders_of list
+input_orders list new place at = ap orders_of at.others ∙ same_orders list place at.was at.now at.stood at.counts
 
 -- what the peripheral at a place counts, and no other
 pub counts_there : (list : List Registered) {new : List Registered} (place : ℕ) (was now : PeripheralState)
@@ -153,8 +158,7 @@ module _ (hs : List KeptControl) (list new : List Registered) (cl : List (Option
   -- how many orders the device's peripheral was given, by what refuses the call and what it comes to
   abbrev Counts : Result Answer NoMemory → Option Answer → Option Action → ℕ → ℕ → Type 0
   Counts r refusal does was now = MatchOption refusal
-      (MatchResult r (λ result. MatchOption does ⊥ (λ given. OrdersBy given r was now))
-      (λ want. (now ≡ was) ⊎ (now ≡ counted was)))
+      (MatchOption does (now ≡ was) (λ given. OrdersBy given r was now))
       (λ refused. now ≡ was)
 
   module _ (r : Result Answer NoMemory) (at : CountsAt list place (OrdersAt n cl asked r (controls_of hs)) new)
@@ -166,23 +170,28 @@ module _ (hs : List KeptControl) (list new : List Registered) (cl : List (Option
     more_given e = ap orders_of at.others ∙ more_orders list place at.was at.now at.stood e
         ∙ ap (λ d. given_at (open_place d) (orders_of list)) (sym device)
 
+    -- the counts after the orders at a place, if that is where the call gives them
+    asked_there : (o : Option ℕ) → orders_of new ≡ given_at o (orders_of list) → asked_place m n c asked ≡ o
+        → orders_of new ≡ given_at (asked_place m n c asked) (orders_of list)
+    asked_there o is to = is ∙ ap (λ p. given_at p (orders_of list)) (sym to)
+
     by_outcome : (o : Result Answer NoMemory) (refusal : Option Answer) (does : Option Action)
         → Counts o refusal does at.was.orders at.now.orders
         → asked_place m n c asked ≡ place_by refusal does (open_place c.device)
         → OrdersOfControl m n c asked o (orders_of list) (orders_of new)
-    by_outcome (Ok result) (Some refusal) does h to = same_there h ∙ ap (λ p. given_at p (orders_of list)) (sym to)
-    by_outcome (Ok result) None None h to = absurd h
-    by_outcome (Ok result) None (Some (Gives given what)) h to =
-        more_given h ∙ ap (λ p. given_at p (orders_of list)) (sym to)
-    by_outcome (Ok result) None (Some (Changes what)) h to =
-        same_there h ∙ ap (λ p. given_at p (orders_of list)) (sym to)
-    by_outcome (Ok result) None (Some (Queues given)) h to =
-        same_there h ∙ ap (λ p. given_at p (orders_of list)) (sym to)
+    by_outcome (Ok result) (Some refusal) does h to = asked_there None (same_there h) to
+    by_outcome (Ok result) None None h to = asked_there None (same_there h) to
+    by_outcome (Ok result) None (Some (Gives given what)) h to = asked_there (open_place c.device) (more_given h) to
+    by_outcome (Ok result) None (Some (Changes what)) h to = asked_there None (same_there h) to
+    by_outcome (Ok result) None (Some (Queues given)) h to = asked_there None (same_there h) to
     by_outcome (Err want) (Some refusal) does h to = inl (same_there h)
-    by_outcome (Err want) None does h to = elim h [
+    by_outcome (Err want) None None h to = inl (same_there h)
+    by_outcome (Err want) None (Some (Gives given what)) h to = elim h [
       | inl e ↦ inl (same_there e)
-      | inr e ↦ inr (more_given e)
+      | inr e ↦ inr (asked_there (open_place c.device) (more_given e) to)
     ]
+    by_outcome (Err want) None (Some (Changes what)) h to = inl (same_there h)
+    by_outcome (Err want) None (Some (Queues given)) h to = inl (same_there h)
 
   -- a call of a category's own gives its device as many orders as the category says
   pub device_orders : (r : Result Answer NoMemory) → is_common asked ≡ false → slice_get (controls_of hs) n ≡ Some c

@@ -16,8 +16,8 @@ use Rattle.pos_service.specs.declared.kind.Kind.{Kind}
 use Rattle.pos_service.specs.declared.peripheral.Peripheral.{Ghosts}
 use Rattle.pos_common.specs.OwnCalls.{OwnOrders}
 use Rattle.pos_counter.specs.Machine.{Machine, kind_of, place_of}
-use Rattle.pos_counter.specs.Steps.{device_action, device_rows, refusals, Request, Response, CallOf, InputTo, WorkOn}
-use Rattle.pos_counter.specs.Steps.{Attach, Detach, Answered, TakenIn, Worked, Attached, Detached, OutOfMemory}
+use Rattle.pos_counter.specs.Steps.{device_action, device_rows, refusals, Request, Response, CallOf, WorkOn}
+use Rattle.pos_counter.specs.Steps.{Attach, Detach, Answered, Worked, Attached, Detached, OutOfMemory}
 use Rattle.pos_counter.specs.declared.devices.Devices.{Devices}
 use Rattle.pos_counter.specs.declared.faults.WorkFault.{WorkFault}
 use Rattle.pos_counter.specs.declared.faults.WorkFault.TheVariants as work_fault
@@ -57,13 +57,13 @@ asked_place machine number control asked =
     then open_place control.device else None)
 
 -- how many orders each peripheral was given before and after the call of a control: one by a call that gives an order,
--- to its device, and none by any other; if memory ran out, one or none
+-- to its device, and none by any other; if memory ran out, perhaps none
 abbrev pub OrdersOfControl : Machine → ℕ → Control → Call → Result Answer NoMemory → List (Option ℕ)
     → List (Option ℕ) → Type 0
 OrdersOfControl machine number control asked (Ok result) old new =
     new ≡ given_at (asked_place machine number control asked) old
 OrdersOfControl machine number control asked (Err want) old new =
-    (new ≡ old) ⊎ (new ≡ given_at (open_place control.device) old)
+    (new ≡ old) ⊎ (new ≡ given_at (asked_place machine number control asked) old)
 
 -- the same of a call on the control with a number: none is given if there is no such control
 abbrev pub OrdersOfCall : Machine → ℕ → Call → Result Answer NoMemory → List (Option ℕ) → List (Option ℕ) → Type 0
@@ -94,10 +94,7 @@ OrdersOfStep machine (WorkOn name) (Worked result) old new =
     OrdersOfWorkAt (place_of machine.devices name) (Ok result) old new
 OrdersOfStep machine (WorkOn name) OutOfMemory old new =
     OrdersOfWorkAt (place_of machine.devices name) (Err work_fault.NoMemory) old new
--- an input comes to its device alone
-OrdersOfStep machine (InputTo name input) TakenIn old new = LeavesOthers (place_of machine.devices name) old new
-OrdersOfStep machine (InputTo name input) OutOfMemory old new = LeavesOthers (place_of machine.devices name) old new
--- so does a peripheral, which has its count from before, and it takes the count with it
+-- a peripheral comes to its device alone, with its count from before, and it takes the count with it
 OrdersOfStep machine (Attach name hardware) Attached old new = LeavesOthers (place_of machine.devices name) old new
 OrdersOfStep machine (Detach name) (Detached hardware) old new =
     LeavesOthers (place_of machine.devices name) old new

@@ -1,5 +1,5 @@
 //! What happens at devices from outside, and their snapshots.
-ghost use Rattle.std.specs.Prelude.{◌≡◌, ◌<◌, Some, false, true, ⊤};
+ghost use Rattle.std.specs.Prelude.{◌≡◌, ◌<◌, Some, false, true};
 ghost use Rattle.pos_service.specs.Hardware.{StaysInService, TakenAt, hardware_of};
 ghost use Rattle.pos_service.specs.Peripherals.{input_fits};
 ghost use Rattle.pos_common.specs.KeptControls.{controls_of};
@@ -88,7 +88,7 @@ fn input_there<P: Peripheral>(
     requires fits { FitsAt (devices_in P.Peripheral devices.old) place input.now }
     ensures done { IsDoneAt (devices_in P.Peripheral devices.old) place (TakenAt input.now place result)
         controls.old controls.new (devices_in P.Peripheral devices.new) }
-    ensures orders { CountsAt (registered P.Peripheral devices.old.registry) place (λ _ _ _. ⊤)
+    ensures orders { CountsAt (registered P.Peripheral devices.old.registry) place (λ _ was now. now ≡ was)
         (registered P.Peripheral devices.new.registry) }
     ensures sound { AreDevicesSound P.Peripheral devices.new }
 {
@@ -113,6 +113,7 @@ fn input_at<P: Peripheral>(
     ensures taken { let state = P.Peripheral.state in TakenAt input.now place result
         (controls_of controls.old) (hardware_of (state peripheral.old))
         (controls_of controls.new) (hardware_of (state peripheral.new)) }
+    ensures orders { let state = P.Peripheral.state in (state peripheral.new).orders ≡ (state peripheral.old).orders }
     ensures in_service { let state = P.Peripheral.state in
         StaysInService (state peripheral.old) (state peripheral.new) }
 {

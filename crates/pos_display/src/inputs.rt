@@ -29,6 +29,7 @@ pub fn input<P: Peripheral>(
     ensures taken { let state = P.Peripheral.state in TakenAt input.now place result
         (controls_of controls.old) (hardware_of (state display.old))
         (controls_of controls.new) (hardware_of (state display.new)) }
+    ensures orders { let state = P.Peripheral.state in (state display.new).orders ≡ (state display.old).orders }
     ensures in_service { let state = P.Peripheral.state in
         StaysInService (state display.old) (state display.new) }
 {

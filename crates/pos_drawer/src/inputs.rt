@@ -29,6 +29,7 @@ pub fn input<P: Peripheral>(
     ensures taken { let state = P.Peripheral.state in TakenAt input.now place result
         (controls_of controls.old) (hardware_of (state drawer.old))
         (controls_of controls.new) (hardware_of (state drawer.new)) }
+    ensures orders { let state = P.Peripheral.state in (state drawer.new).orders ≡ (state drawer.old).orders }
     ensures in_service { let state = P.Peripheral.state in
         StaysInService (state drawer.old) (state drawer.new) }
 {

@@ -28,6 +28,7 @@ pub fn input<P: Peripheral>(
     ensures taken { let state = P.Peripheral.state in TakenAt input.now place result
         (controls_of controls.old) (hardware_of (state printer.old))
         (controls_of controls.new) (hardware_of (state printer.new)) }
+    ensures orders { let state = P.Peripheral.state in (state printer.new).orders ≡ (state printer.old).orders }
     ensures in_service { let state = P.Peripheral.state in
         StaysInService (state printer.old) (state printer.new) }
 {

@@ -34,6 +34,7 @@ pub fn input<P: Peripheral>(
     ensures taken { let state = P.Peripheral.state in TakenAt input.now place result
         (controls_of controls.old) (hardware_of (state scanner.old))
         (controls_of controls.new) (hardware_of (state scanner.new)) }
+    ensures orders { let state = P.Peripheral.state in (state scanner.new).orders ≡ (state scanner.old).orders }
     ensures in_service { let state = P.Peripheral.state in
         StaysInService (state scanner.old) (state scanner.new) }
 {
