@@ -1,9 +1,7 @@
 -- How gates are closed, one after another.
-use Rattle.std.proofs.Common.{◌≡◌, ◌++◌, ◌∷◌, [], ◌∙◌, ◌-◌, ◌<◌, ◌≤◌, ℕ, List, Ok, false, length, replicate, ap, arith}
-use Rattle.std.proofs.Common.{length-append, subst, sym}
-use Rattle.std.proofs.lemmas.List.{length-replicate, length-set}
+use Rattle.std.proofs.Common.{◌≡◌, ◌++◌, ◌∷◌, [], ◌∙◌, ◌<◌, ℕ, List, Ok, false, length, ap, subst, sym}
+use Rattle.std.proofs.lemmas.List.{length-set}
 use Rattle.std.specs.Prelude.{slice_set, true}
-use Rattle.pos_image.specs.Layout.{disk_size}
 use Rattle.pos_survey.specs.Damages.{Breaks}
 use Rattle.pos_survey.specs.declared.fault.SurveyFault.{SurveyFault}
 use Rattle.pos_survey.specs.declared.fault.SurveyFault.TheVariants.{Damaged}
@@ -45,13 +43,6 @@ fails source old said fault is breaks ends = record {
   breaks = breaks;
   ends = ends;
 }
-
--- padded bytes are as long as totals
-pub padded_length : (source : List ℕ) → disk_size ≤ length (padded source)
-padded_length source =
-    let zeros : List ℕ = replicate (disk_size - length source) 0 in
-    let missing : length zeros ≡ disk_size - length source = length-replicate (disk_size - length source) 0 in
-    omega (arith, length-append source zeros, missing)
 
 -- bytes with one gate more closed are as long as before
 pub same_length : (old said new told : List ℕ) → Steps old said (Ok false) new told → length new ≡ length old
