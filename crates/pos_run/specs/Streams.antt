@@ -1,5 +1,5 @@
 -- How a script is read and its answers are written (docs/reference/console.md, "The program").
-use Rattle.std.specs.Prelude.{◌≡◌, ℕ, zero, suc, ◌+◌, ◌≤◌, ◌⊎◌, Bool, true, false, List, [], length, take, None, Result}
+use Rattle.std.specs.Prelude.{◌≡◌, ℕ, zero, suc, ◌+◌, ◌≤◌, ◌⊎◌, Bool, true, false, List, [], length, take, Result}
 use Rattle.std.specs.Prelude.{Ok, Err, nat_lt, is_err}
 use Rattle.std.specs.Bool.{MatchBool}
 use Rattle.pos_streams.specs.declared.sink.Sink.{Ghosts as SinkGhosts}
@@ -7,7 +7,7 @@ use Rattle.pos_streams.specs.declared.sink.WriteFault.{WriteFault}
 use Rattle.pos_streams.specs.declared.source.ReadFault.{ReadFault}
 use Rattle.pos_streams.specs.declared.source.Source.{Ghosts as SourceGhosts}
 use Rattle.pos_streams.specs.Streams.{Appends, Fails, Given, IsWhole, Taken, TakesBytes, end_after, given_after}
-use Rattle.pos_streams.specs.Streams.{given_with, read_fault_after, taken_after, taken_with}
+use Rattle.pos_streams.specs.Streams.{read_fault_after, taken_after}
 use Rattle.pos_run.specs.declared.answers.AnswerWriter.{AnswerWriter}
 use Rattle.pos_run.specs.declared.script_reader.ReadState.{ReadState}
 use Rattle.pos_run.specs.declared.script_reader.ReadState.TheVariants.{Open, Ended, Failed}
@@ -118,12 +118,3 @@ streams_of source reader reader_after sink writer writer_after = record {
 -- nothing was read, and nothing was written
 abbrev pub AreUntouched : Streams → Type 0
 AreUntouched streams = (streams.reader_after ≡ streams.reader) × (streams.writer_after ≡ streams.writer)
-
--- These are the states after a run over a reader and a writer of which nothing was read or written before.
-abbrev pub begun_streams : Reading → Writing → Streams
-begun_streams reading writing = record {
-  reader = record { taken = taken_with [] 0 0 None; reads = 0; state = Open };
-  reader_after = reading;
-  writer = record { given = given_with [] 0; held = []; unflushed = [] };
-  writer_after = writing;
-}

@@ -33,7 +33,7 @@ pub use mount::{AsSimulated, Mount};
 pub use names::Names;
 pub use profile_run::{run_over_profile, simulate_profile};
 pub use script_reader::ScriptReader;
-pub use scripts::{RunFault, StreamRun, run, run_streams};
+pub use scripts::{RunFault, run};
 pub use spares::Spares;
 pub use waiting_lines::{LineProgress, carry_on};
 pub use wrapped::Wrapped;

@@ -1,5 +1,5 @@
 //! Runs of a script.
-ghost use Rattle.std.specs.Prelude.{◌≡◌, [], IfOk, OnErr};
+ghost use Rattle.std.specs.Prelude.{[]};
 ghost use Rattle.pos_counter.specs.Counters.{IsCounterSound, IsRun};
 ghost use Rattle.pos_run.specs.LineRuns.{RunsEnd, RunsLast, RunsPiece, RunsPrinted, RunsWholeScript, session_of};
 ghost use Rattle.pos_run.specs.Names.{ControlNames};
@@ -7,7 +7,7 @@ ghost use Rattle.pos_run.specs.Runs.{RunsScript};
 ghost use Rattle.pos_script.specs.LineBuffers.{StandsFor};
 ghost use Rattle.pos_run.specs.Spares.{AreSparesSound, spares_in};
 ghost use Rattle.pos_run.specs.Sessions.{IsSessionSound, KeepsSession, session_in};
-ghost use Rattle.pos_run.specs.Streams.{begun_streams, reading_of, streams_of, writing_of};
+ghost use Rattle.pos_run.specs.Streams.{streams_of, writing_of};
 ghost use Rattle.pos_run.specs.Transcript.{begun_session, session_with};
 
 use crate::answers::AnswerWriter;
@@ -19,10 +19,9 @@ use crate::spares::Spares;
 use pos_counter::Counter;
 use pos_disk::Disk;
 use pos_script::{Line, LineBuffer, LineReply, print_reply};
-use pos_service::{Ends, NoMemory, Peripheral};
-use pos_streams::{ReaderSource, Sink, Source, WriteFault, WriterSink};
+use pos_service::{Ends, Peripheral};
+use pos_streams::{Sink, Source, WriteFault};
 use std::alloc::Global;
-use std::io::{Read, Write};
 use thiserror::Error;
 
 /// Why a run of a script stopped.
@@ -259,51 +258,4 @@ pub fn run<R: Source, W: Sink, D: Disk, P: Peripheral + Ends>(
         &mut names,
         spares,
     )
-}
-
-/// What a run over a reader and a writer leaves: both, with all that was read and written.
-#[derive(Drop)]
-pub struct StreamRun<R, W> {
-    /// The reader of the script.
-    pub reader: ScriptReader<ReaderSource<R>>,
-    /// The writer of the answers.
-    pub writer: AnswerWriter<WriterSink<W>>,
-    /// Why the run stopped, if it did before the end.
-    pub outcome: Result<(), RunFault>,
-}
-
-/// Runs the lines of a script from any reader, and writes what each prints to any writer, as `run` does.
-///
-/// # Errors
-///
-/// `NoMemory` if memory ran out for the answers. Then nothing was read, and nothing has changed. `outcome` has the
-/// faults of `run`.
-pub fn run_streams<R: Read + Drop, W: Write + Drop, D: Disk, P: Peripheral + Ends>(
-    alloc: Global,
-    reader: R,
-    writer: W,
-    counter: &mut Counter<D, P>,
-    spares: &mut Spares<P>,
-) -> Result<StreamRun<R, W>, NoMemory>
-    requires sound { IsCounterSound P.Peripheral counter.old }
-    requires spares { AreSparesSound P.Peripheral spares.old }
-    ensures script { IfOk result (λ left. (names : ControlNames) × RunsWholeScript D.Disk P.Peripheral counter.old
-        (begun_session (spares_in P.Peripheral spares.old))
-        (begun_streams (reading_of ⟦<ReaderSource<R> as Source>⟧ left.reader)
-        (writing_of ⟦<WriterSink<W> as Sink>⟧ left.writer)) left.outcome
-        (session_with names (spares_in P.Peripheral spares.new)) counter.new) }
-    ensures stays { OnErr result ((counter.new ≡ counter.old) × (spares.new ≡ spares.old)) }
-    ensures sound { IsCounterSound P.Peripheral counter.new }
-    ensures spares { AreSparesSound P.Peripheral spares.new }
-{
-    let Ok(mut writer) = AnswerWriter::new(alloc, WriterSink::new(writer)) else {
-        return Err(NoMemory);
-    };
-    let mut reader = ScriptReader::new(ReaderSource::new(reader));
-    let outcome = run(alloc, &mut reader, &mut writer, counter, spares);
-    Ok(StreamRun {
-        reader,
-        writer,
-        outcome,
-    })
 }
