@@ -10,8 +10,6 @@ use Rattle.pos_service.specs.declared.call.Call.{Call}
 use Rattle.pos_service.specs.declared.category.Category.{Category}
 use Rattle.pos_service.specs.declared.code.Code.{Code}
 use Rattle.pos_service.specs.declared.action.Action.{Action}
-use Rattle.pos_service.specs.declared.action.Action.TheVariants as action
-use Rattle.std.proofs.Common.{inl}
 use Rattle.pos_common.proofs.CheckLemmas.{refused}
 
 module _ (k : Category) (n : ℕ) (claims : List (Option ℕ)) (asked : Call) (olds : List Control) (one : Control)
@@ -53,15 +51,3 @@ module _ (k : Category) (n : ℕ) (claims : List (Option ℕ)) (asked : Call) (o
   pub done_orders : (d : Action) (outcome : Result Answer NoMemory) (old new : ℕ) → first_refusal refusals ≡ None
       → comes_to one ≡ Some d → OrdersBy d outcome old new → Ordered outcome old new
   done_orders d outcome old new none comes gives = rw (found, none, comes) gives
-
-  -- or finds no memory before it gives any
-  pub starved_orders : (want : NoMemory) (orders : ℕ) → first_refusal refusals ≡ None
-      → Ordered (Err want) orders orders
-  starved_orders want orders none = rw (found, none) (by_action (comes_to one))
-    where
-      by_action : (comes : Option Action) → MatchOption comes (orders ≡ orders)
-          (λ action. OrdersBy {T = Answer} action (Err want) orders orders)
-      by_action None = refl
-      by_action (Some (action.Gives given what)) = inl refl
-      by_action (Some (action.Changes what)) = refl
-      by_action (Some (action.Queues given)) = refl
