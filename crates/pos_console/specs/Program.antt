@@ -25,6 +25,7 @@ use Rattle.pos_run.specs.Streams.{AreUntouched, IsFlushed, Streams, Writing}
 use Rattle.pos_console.specs.Service.{Serves}
 use Rattle.pos_console.specs.Surveys.{IsBroken, IsTold}
 use Rattle.pos_console.specs.TotalsRuns.{TotalsLeave}
+use Rattle.pos_console.specs.declared.file_closer.FileCloser.{Ghosts as CloserGhosts}
 
 -- what the end of a run is to the program
 abbrev pub fault_of_run : Result (Unit {0}) RunFault → Result (Unit {0}) Fault
@@ -84,19 +85,22 @@ TellsBytes path bytes (Err (fault.Disk at cause)) = (at.now ≡ path) × IsBroke
 TellsBytes path bytes (Err other) = ⊥
 
 -- what it tells of totals that were only read: of the bytes that the one read of their file gave, which was closed
--- then; or why they can't be read
-abbrev pub TellsOpened : {B : Type 0} → FileGhosts B → List ℕ → Result (Mirror (FileDisk B)) FileFault
-    → Result (List ℕ) Fault → Type 0
-TellsOpened below path (Ok totals) told =
-    AreRead below.calls totals × below.closed totals.below.file × TellsBytes path totals.memory.present.reading told
-TellsOpened below path (Err cause) (Err (fault.Disk at why)) = (at.now ≡ path) × (why ≡ cause)
-TellsOpened below path (Err cause) other = ⊥
+-- while the writer stood like this, and thus before it was given more; or why they can't be read
+abbrev pub TellsOpened : {F B : Type 0} → CloserGhosts F → FileGhosts B → F → Writing → List ℕ
+    → Result (Mirror (FileDisk B)) FileFault → Result (List ℕ) Fault → Type 0
+TellsOpened closer below them writer path (Ok totals) told =
+    AreRead below.calls totals × below.closed totals.below.file
+    × closer.closes them (below.calls totals.below.file) writer
+    × TellsBytes path totals.memory.present.reading told
+TellsOpened closer below them writer path (Err cause) (Err (fault.Disk at why)) = (at.now ≡ path) × (why ≡ cause)
+TellsOpened closer below them writer path (Err cause) other = ⊥
 
 -- what it tells of the totals file at a path
-abbrev pub TellsFile : {F B : Type 0} → Ghosts F B → FileGhosts B → F → List ℕ → Result (List ℕ) Fault → Type 0
-TellsFile {F} {B} files below them path told =
+abbrev pub TellsFile : {F B : Type 0} → Ghosts F B → CloserGhosts F → FileGhosts B → F → Writing → List ℕ
+    → Result (List ℕ) Fault → Type 0
+TellsFile {F} {B} files closer below them writer path told =
     (opened : Result (Mirror (FileDisk B)) FileFault) × files.reads_disk them path opened
-    × TellsOpened below path opened told
+    × TellsOpened closer below them writer path opened told
 
 -- A text is printed, by how its writer stood before, and after, as far as it can be written. Where there is none,
 -- nothing is written.
@@ -105,54 +109,56 @@ PrintsTold (Ok text) old new (Ok u) = IsWritten old new text
 PrintsTold (Ok text) old new (Err why) = (why ≡ fault.Write) × IsCutOff old new text
 PrintsTold (Err why) old new result = (result ≡ Err why) × (new ≡ old)
 
--- it tells what the totals file at a path holds, and prints that
-abbrev pub PrintsFile : {F B : Type 0} → Ghosts F B → FileGhosts B → F → List ℕ → Writing → Writing
+-- it tells what the totals file at a path holds, which is closed before, and prints that
+abbrev pub PrintsFile : {F B : Type 0} → Ghosts F B → CloserGhosts F → FileGhosts B → F → List ℕ → Writing → Writing
     → Result (Unit {0}) Fault → Type 0
-PrintsFile files below them path old new result =
-    (told : Result (List ℕ) Fault) × TellsFile files below them path told × PrintsTold told old new result
+PrintsFile files closer below them path old new result =
+    (told : Result (List ℕ) Fault) × TellsFile files closer below them old path told
+    × PrintsTold told old new result
 
 -- what it does for a task, over these files: by how its reader and its writer stood before, and after
-abbrev pub Does : {F B : Type 0} → Ghosts F B → FileGhosts B → DiskGhosts (Mirror (FileDisk B)) → F → Task → Streams
-    → Result (Unit {0}) Fault → Type 0
-Does files below mirrors them Demo streams result = EndsRun (Serves streams) result
-Does files below mirrors them (Run profile disk) streams result =
+abbrev pub Does : {F B : Type 0} → Ghosts F B → CloserGhosts F → FileGhosts B → DiskGhosts (Mirror (FileDisk B)) → F
+    → Task → Streams → Result (Unit {0}) Fault → Type 0
+Does files closer below mirrors them Demo streams result = EndsRun (Serves streams) result
+Does files closer below mirrors them (Run profile disk) streams result =
     RunsFiles files below mirrors them profile.now disk.now streams result
-Does files below mirrors them (Format disk) streams result =
+Does files closer below mirrors them (Format disk) streams result =
     EndsFormat files below them disk.now result × AreUntouched streams
-Does files below mirrors them (Migrate disk) streams result =
+Does files closer below mirrors them (Migrate disk) streams result =
     EndsMove files below them disk.now result × AreUntouched streams
-Does files below mirrors them (Files disk) streams result =
-    PrintsFile files below them disk.now streams.writer streams.writer_after result
+Does files closer below mirrors them (Files disk) streams result =
+    PrintsFile files closer below them disk.now streams.writer streams.writer_after result
     × (streams.reader_after ≡ streams.reader)
 
 -- what it does for what the words ask for: nothing where they ask for nothing
-abbrev pub DoesChosen : {F B : Type 0} → Ghosts F B → FileGhosts B → DiskGhosts (Mirror (FileDisk B)) → F
-    → Result Task ChoiceFault → Streams → Result (Unit {0}) Fault → Type 0
-DoesChosen files below mirrors them (Ok task) streams result =
-    Does files below mirrors them task streams result
-DoesChosen files below mirrors them (Err why) streams result =
+abbrev pub DoesChosen : {F B : Type 0} → Ghosts F B → CloserGhosts F → FileGhosts B
+    → DiskGhosts (Mirror (FileDisk B)) → F → Result Task ChoiceFault → Streams → Result (Unit {0}) Fault → Type 0
+DoesChosen files closer below mirrors them (Ok task) streams result =
+    Does files closer below mirrors them task streams result
+DoesChosen files closer below mirrors them (Err why) streams result =
     (result ≡ Err (fault.Words why)) × AreUntouched streams
 
 -- what it does for words
-abbrev pub DoesAsAsked : {F B : Type 0} → Ghosts F B → FileGhosts B → DiskGhosts (Mirror (FileDisk B)) → F
-    → List (List ℕ) → Streams → Result (Unit {0}) Fault → Type 0
-DoesAsAsked files below mirrors them words streams result =
+abbrev pub DoesAsAsked : {F B : Type 0} → Ghosts F B → CloserGhosts F → FileGhosts B
+    → DiskGhosts (Mirror (FileDisk B)) → F → List (List ℕ) → Streams → Result (Unit {0}) Fault → Type 0
+DoesAsAsked files closer below mirrors them words streams result =
     (chosen : Result Task ChoiceFault) × Chooses words chosen
-    × DoesChosen files below mirrors them chosen streams result
+    × DoesChosen files closer below mirrors them chosen streams result
 
 -- what it does for words that were read, or not
-abbrev pub DoesAsRead : {F B S A : Type 0} → Ghosts F B → FileGhosts B → DiskGhosts (Mirror (FileDisk B)) → F
-    → (S → List ℕ) → Result (Vec S A) ChoiceFault → Streams → Result (Unit {0}) Fault → Type 0
-DoesAsRead files below mirrors them text (Ok words) streams result =
-    DoesAsAsked files below mirrors them (map text words.items) streams result
-DoesAsRead files below mirrors them text (Err why) streams result =
+abbrev pub DoesAsRead : {F B S A : Type 0} → Ghosts F B → CloserGhosts F → FileGhosts B
+    → DiskGhosts (Mirror (FileDisk B)) → F → (S → List ℕ) → Result (Vec S A) ChoiceFault → Streams
+    → Result (Unit {0}) Fault → Type 0
+DoesAsRead files closer below mirrors them text (Ok words) streams result =
+    DoesAsAsked files closer below mirrors them (map text words.items) streams result
+DoesAsRead files closer below mirrors them text (Err why) streams result =
     (result ≡ Err (fault.Words why)) × AreUntouched streams
 
 -- The whole program, by its words, its files, how its reader and its writer stood before and after, and the status
 -- that it ends with.
-pub record Performs {F B S A : Type 0} (files : Ghosts F B) (below : FileGhosts B)
+pub record Performs {F B S A : Type 0} (files : Ghosts F B) (closer : CloserGhosts F) (below : FileGhosts B)
     (mirrors : DiskGhosts (Mirror (FileDisk B))) (them : F) (text : S → List ℕ)
     (words : Result (Vec S A) ChoiceFault) (streams : Streams) (status : ℕ) : Type 0 where
   pub outcome : Result (Unit {0}) Fault
-  pub done : DoesAsRead files below mirrors them text words streams outcome
+  pub done : DoesAsRead files closer below mirrors them text words streams outcome
   pub ends : status ≡ status_of outcome

@@ -5,8 +5,9 @@ ghost use Rattle.pos_run.specs.Streams.{writing_of};
 ghost use Rattle.pos_console.specs.Program.{IsCutOff, IsWritten, PrintsFile, TellsBytes, TellsFile};
 ghost use Rattle.pos_console.specs.Surveys.{IsBroken, IsTold, PrintsBreak};
 
+use crate::file_closer::FileCloser;
 use pos_file::BlockFile;
-use pos_program::{Fault, FileFault, NamedFiles, close_totals};
+use pos_program::{Fault, FileFault, NamedFiles};
 use pos_run::AnswerWriter;
 use pos_script::write_bytes;
 use pos_streams::{Sink, WriteFault};
@@ -63,19 +64,21 @@ fn text_of_bytes<'a>(alloc: Global, path: &'a str, bytes: &[u8]) -> Result<Vec<u
     }
 }
 
-/// Returns what the totals file at a path holds, as lines of text. The file is closed then: whoever reads the text may
-/// take long, and a till can't open a file that is locked.
-fn text_of_file<'a, F: NamedFiles>(
+/// Returns what the totals file at a path holds, as lines of text. The file is closed then, before the writer is used:
+/// whoever reads the text may take long, and a till can't open a file that is locked.
+fn text_of_file<'a, F: NamedFiles + FileCloser, W: Sink>(
     alloc: Global,
     files: &F,
+    writer: &AnswerWriter<W>,
     path: &'a str,
 ) -> Result<Vec<u8>, Fault<'a>>
-    ensures { TellsFile F.NamedFiles ⟦<F::File as BlockFile>⟧ files.now path.entry.now (bytes_of result) }
+    ensures { TellsFile F.NamedFiles F.FileCloser ⟦<F::File as BlockFile>⟧ files.now (writing_of W.Sink writer.now)
+        path.entry.now (bytes_of result) }
 {
     match files.read_disk(path) {
         Ok(totals) => {
             let told = text_of_bytes(alloc, path, totals.bytes());
-            close_totals(totals);
+            files.close_before(totals, writer);
             told
         }
         Err(cause) => Err(Fault::Disk { path, cause }),
@@ -89,16 +92,16 @@ fn text_of_file<'a, F: NamedFiles>(
 ///
 /// - `Disk` if the file can't be read, or breaks a rule of the format: the fault says which rule, and where.
 /// - `Write` if the text can't be written.
-pub fn print_file<'a, F: NamedFiles, W: Sink>(
+pub fn print_file<'a, F: NamedFiles + FileCloser, W: Sink>(
     alloc: Global,
     files: &F,
     writer: &mut AnswerWriter<W>,
     path: &'a str,
 ) -> Result<(), Fault<'a>>
-    ensures { PrintsFile F.NamedFiles ⟦<F::File as BlockFile>⟧ files.now path.entry.now
+    ensures { PrintsFile F.NamedFiles F.FileCloser ⟦<F::File as BlockFile>⟧ files.now path.entry.now
         (writing_of W.Sink writer.old) (writing_of W.Sink writer.new) result }
 {
-    let text = match text_of_file(alloc, files, path) {
+    let text = match text_of_file(alloc, files, writer, path) {
         Ok(text) => text,
         Err(fault) => return Err(fault),
     };

@@ -9,6 +9,7 @@
 //! of their answers. docs/reference/console.md says it in words.
 #![tactic(auto)]
 
+mod file_closer;
 mod files;
 mod program;
 mod scripts;

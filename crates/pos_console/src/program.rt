@@ -6,6 +6,7 @@ ghost use Rattle.pos_run.specs.Streams.{streams_of};
 ghost use Rattle.pos_console.specs.Program.{Does, DoesAsAsked, EndsAtDisk, EndsFormat, EndsMove, Performs, RunsFiles};
 ghost use Rattle.pos_console.specs.Program.{fault_of_run};
 
+use crate::file_closer::FileCloser;
 use crate::files::print_file;
 use crate::scripts::serve_built;
 use crate::totals_run::run_over_totals;
@@ -76,15 +77,15 @@ fn migrate<'a, F: NamedFiles>(alloc: Global, files: &F, path: &'a str) -> Result
 }
 
 /// Does the task that the words of the command line ask for.
-fn perform_task<'a, F: NamedFiles, R: Source, W: Sink>(
+fn perform_task<'a, F: NamedFiles + FileCloser, R: Source, W: Sink>(
     alloc: Global,
     files: &F,
     reader: &mut ScriptReader<R>,
     writer: &mut AnswerWriter<W>,
     task: Task<'a>,
 ) -> Result<(), Fault<'a>>
-    ensures { Does F.NamedFiles ⟦<F::File as BlockFile>⟧ ⟦<TotalsDisk<F::File> as Disk>⟧ files.now task.entry
-        (streams_of R.Source reader.old reader.new W.Sink writer.old writer.new) result }
+    ensures { Does F.NamedFiles F.FileCloser ⟦<F::File as BlockFile>⟧ ⟦<TotalsDisk<F::File> as Disk>⟧ files.now
+        task.entry (streams_of R.Source reader.old reader.new W.Sink writer.old writer.new) result }
 {
     match task {
         Task::Demo => ended(serve_built(alloc, reader, writer)),
@@ -96,14 +97,14 @@ fn perform_task<'a, F: NamedFiles, R: Source, W: Sink>(
 }
 
 /// Does what the words of the command line ask for, if they ask for something.
-fn perform_words<'a, F: NamedFiles, S: AsStr, R: Source, W: Sink>(
+fn perform_words<'a, F: NamedFiles + FileCloser, S: AsStr, R: Source, W: Sink>(
     alloc: Global,
     files: &F,
     reader: &mut ScriptReader<R>,
     writer: &mut AnswerWriter<W>,
     words: &'a [S],
 ) -> Result<(), Fault<'a>>
-    ensures { DoesAsAsked F.NamedFiles ⟦<F::File as BlockFile>⟧ ⟦<TotalsDisk<F::File> as Disk>⟧ files.now
+    ensures { DoesAsAsked F.NamedFiles F.FileCloser ⟦<F::File as BlockFile>⟧ ⟦<TotalsDisk<F::File> as Disk>⟧ files.now
         (map S.text words.entry.now) (streams_of R.Source reader.old reader.new W.Sink writer.old writer.new) result }
 {
     match choice(alloc, words) {
@@ -127,7 +128,7 @@ pub fn end<E: Eprint>(errors: &E, outcome: Result<(), Fault<'_>>) -> ExitCode
 /// Does what the words ask for, if they could be read, and returns the exit status, 0 or 2 to 6. It works over the
 /// files that the words name, a script to read, a writer for the answers and one for a fault.
 /// docs/reference/console.md, "The program".
-pub fn perform<F: NamedFiles, E: Eprint, S: AsStr + Drop, R: Source, W: Sink>(
+pub fn perform<F: NamedFiles + FileCloser, E: Eprint, S: AsStr + Drop, R: Source, W: Sink>(
     alloc: Global,
     files: &F,
     errors: &E,
@@ -135,8 +136,8 @@ pub fn perform<F: NamedFiles, E: Eprint, S: AsStr + Drop, R: Source, W: Sink>(
     writer: &mut AnswerWriter<W>,
     words: Result<Vec<S>, ChoiceFault>,
 ) -> ExitCode
-    ensures { Performs F.NamedFiles ⟦<F::File as BlockFile>⟧ ⟦<TotalsDisk<F::File> as Disk>⟧ files.now S.text
-        words (streams_of R.Source reader.old reader.new W.Sink writer.old writer.new) (exit_status result) }
+    ensures { Performs F.NamedFiles F.FileCloser ⟦<F::File as BlockFile>⟧ ⟦<TotalsDisk<F::File> as Disk>⟧ files.now
+        S.text words (streams_of R.Source reader.old reader.new W.Sink writer.old writer.new) (exit_status result) }
 {
     match words {
         Ok(words) => {

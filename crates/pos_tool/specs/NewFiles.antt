@@ -4,7 +4,7 @@ use Rattle.std.specs.declared.io.Error.{Error}
 use Rattle.pos_file.specs.declared.block_file.BlockFile.{Ghosts as FileGhosts}
 use Rattle.pos_file.specs.declared.file_disk.FileDisk.{FileDisk}
 use Rattle.pos_mirror.specs.Mirror.{Mirror}
-use Rattle.pos_program.specs.TotalsDisks.{AreRead, ReadsTotals}
+use Rattle.pos_program.specs.TotalsDisks.{ReadsTotals}
 use Rattle.pos_program.specs.declared.file_fault.FileFault.{FileFault}
 use Rattle.pos_program.specs.declared.file_fault.FileFault.TheVariants as file
 use Rattle.pos_program.specs.declared.file_system.FileSystem.{Ghosts as SystemGhosts}
@@ -16,7 +16,7 @@ use Rattle.pos_report.specs.declared.salvage.Salvaged.{Salvaged}
 use Rattle.pos_survey.specs.declared.fault.SurveyFault.{SurveyFault}
 use Rattle.pos_tool.specs.Copies.{EndsCopy, EndsUnsound, PutsNew}
 use Rattle.pos_shell.specs.Outputs.{Output}
-use Rattle.pos_tool.specs.Surveys.{EndsAtFile, Prints}
+use Rattle.pos_tool.specs.Surveys.{ClosesBefore, EndsAtFile, Prints}
 use Rattle.pos_tool.specs.Whole.{Puts}
 use Rattle.pos_tool.specs.declared.fault.Fault.{Fault}
 use Rattle.pos_tool.specs.declared.fault.Fault.TheVariants as fault
@@ -55,11 +55,11 @@ SalvagesBytes system folder below them later from to bytes old new result =
     (made : Result Salvaged SurveyFault) × MakesSalvage bytes made
     × PutsMade system folder below them later from to made old new result
 
--- what is made of damaged totals that were only read, whose file was closed then; or why they can't be read
+-- what is made of damaged totals that were only read, whose file was closed before; or why they can't be read
 abbrev pub SalvagesOpened : {S F : Type 0} → SystemGhosts S F → FolderGhosts S → FileGhosts F → S → S → List ℕ → List ℕ
     → Result (Mirror (FileDisk F)) FileFault → Output → Output → Result Finding Fault → Type 0
 SalvagesOpened system folder below them later from to (Ok totals) old new result =
-    AreRead below.calls totals × below.closed totals.below.file
+    ClosesBefore below folder them old totals
     × SalvagesBytes system folder below them later from to totals.memory.present.reading old new result
 SalvagesOpened system folder below them later from to (Err cause) old new result =
     EndsAtFile from cause result × (new ≡ old) × (later ≡ them)

@@ -110,7 +110,7 @@ Does files below mirrors memories them system folder under it later pages termin
 Does files below mirrors memories them system folder under it later pages terminals (Explain code extended) old new
     result = ExplainsAsked pages.codes.now code.now extended old new result × (later ≡ it)
 Does files below mirrors memories them system folder under it later pages terminals (Ask file question) old new
-    result = PrintsFile files below them file.now question old new result × (later ≡ it)
+    result = PrintsFile files below them folder it file.now question old new result × (later ≡ it)
 Does files below mirrors memories them system folder under it later pages terminals (Create file) old new result =
     Creates system under it file.now result × (new ≡ old) × (later ≡ it)
 Does files below mirrors memories them system folder under it later pages terminals (Migrate file) old new result =
@@ -120,7 +120,7 @@ Does files below mirrors memories them system folder under it later pages termin
 Does files below mirrors memories them system folder under it later pages terminals (Restore from file replaces) old
     new result = Restores system folder under it later from.now file.now replaces result × (new ≡ old)
 Does files below mirrors memories them system folder under it later pages terminals (Diff file other) old new result =
-    WritesDifference files below them file.now other.now old new result × (later ≡ it)
+    WritesDifference files below them folder it file.now other.now old new result × (later ≡ it)
 Does files below mirrors memories them system folder under it later pages terminals (Load text file) old new result =
     Loads system folder under it later text.now file.now result × (new ≡ old)
 Does files below mirrors memories them system folder under it later pages terminals (Salvage file to) old new result =

@@ -11,6 +11,7 @@ use Rattle.pos_shell.specs.Outputs.{IsCutOff, IsWritten, Output}
 use Rattle.pos_report.specs.declared.answers.AnswerFault.TheVariants as answer
 use Rattle.pos_tool.specs.declared.fault.Fault.{Fault}
 use Rattle.pos_tool.specs.declared.fault.Fault.TheVariants as fault
+use Rattle.pos_tool.specs.declared.folder.Folder.{Ghosts as FolderGhosts}
 use Rattle.pos_report.specs.declared.question.Finding.{Finding}
 use Rattle.pos_report.specs.declared.question.Finding.TheVariants.{Good}
 use Rattle.pos_report.specs.declared.question.Question.{Question}
@@ -50,21 +51,25 @@ abbrev pub EndsAt : List ℕ → Result (Unit {0}) FileFault → Result Finding 
 EndsAt path (Ok u) result = result ≡ Ok Good
 EndsAt path (Err cause) result = EndsAtFile path cause result
 
+-- the file of totals that were only read was closed while an output stood like this, and thus before it was given more
+abbrev pub ClosesBefore : {S B : Type 0} → FileGhosts B → FolderGhosts S → S → Output → Mirror (FileDisk B) → Type 0
+ClosesBefore below folder it output totals = AreRead below.calls totals × below.closed totals.below.file
+    × folder.closes it (below.calls totals.below.file) output
+
 -- what is answered of totals that were only read: of the bytes that the one read of their file gave, which was closed
--- then; or why they can't be read
-abbrev pub AnswersOpened : {B : Type 0} → FileGhosts B → List ℕ → Question → Result (Mirror (FileDisk B)) FileFault
-    → Result (Finding × List ℕ) Fault → Type 0
-AnswersOpened below path question (Ok totals) result =
-    AreRead below.calls totals × below.closed totals.below.file
-    × AnswersBytes path question totals.memory.present.reading result
-AnswersOpened below path question (Err cause) result = EndsAtFile path cause result
+-- while an output stood like this; or why they can't be read
+abbrev pub AnswersOpened : {S B : Type 0} → FileGhosts B → FolderGhosts S → S → Output → List ℕ → Question
+    → Result (Mirror (FileDisk B)) FileFault → Result (Finding × List ℕ) Fault → Type 0
+AnswersOpened below folder it output path question (Ok totals) result =
+    ClosesBefore below folder it output totals × AnswersBytes path question totals.memory.present.reading result
+AnswersOpened below folder it output path question (Err cause) result = EndsAtFile path cause result
 
 -- what is answered of the totals file at a path
-abbrev pub AnswersFile : {F B : Type 0} → Ghosts F B → FileGhosts B → F → List ℕ → Question
-    → Result (Finding × List ℕ) Fault → Type 0
-AnswersFile {F} {B} files below them path question result =
+abbrev pub AnswersFile : {F B S : Type 0} → Ghosts F B → FileGhosts B → F → FolderGhosts S → S → Output → List ℕ
+    → Question → Result (Finding × List ℕ) Fault → Type 0
+AnswersFile {F} {B} files below them folder it output path question result =
     (opened : Result (Mirror (FileDisk B)) FileFault) × files.reads_disk them path opened
-    × AnswersOpened below path question opened result
+    × AnswersOpened below folder it output path question opened result
 
 -- what is printed of an answer, by how the output stood before, and after: the answer, as far as it can be written; or
 -- nothing, if there is none
@@ -73,9 +78,9 @@ PrintsAnswer (Ok found) old new (Ok finding) = (finding ≡ found.0) × IsWritte
 PrintsAnswer (Ok found) old new (Err why) = (why ≡ fault.Write) × IsCutOff old new found.1
 PrintsAnswer (Err why) old new result = (result ≡ Err why) × (new ≡ old)
 
--- what is printed of the totals file at a path
-abbrev pub PrintsFile : {F B : Type 0} → Ghosts F B → FileGhosts B → F → List ℕ → Question → Output → Output
-    → Result Finding Fault → Type 0
-PrintsFile files below them path question old new result =
-    (found : Result (Finding × List ℕ) Fault) × AnswersFile files below them path question found
+-- what is printed of the totals file at a path, which is closed before
+abbrev pub PrintsFile : {F B S : Type 0} → Ghosts F B → FileGhosts B → F → FolderGhosts S → S → List ℕ → Question
+    → Output → Output → Result Finding Fault → Type 0
+PrintsFile files below them folder it path question old new result =
+    (found : Result (Finding × List ℕ) Fault) × AnswersFile files below them folder it old path question found
     × PrintsAnswer found old new result

@@ -6,8 +6,9 @@ ghost use Rattle.pos_tool.specs.Differences.{difference_finding};
 ghost use Rattle.pos_tool.specs.Surveys.{AnswersBytes, AnswersFile, Prints, PrintsFile, finding_and_text, name_in};
 
 use crate::fault::Fault;
+use crate::folder::Folder;
 use pos_file::BlockFile;
-use pos_program::{NamedFiles, close_totals};
+use pos_program::NamedFiles;
 use pos_report::{AnswerFault, Finding, Question, answer, difference_text};
 use pos_shell::write_text;
 use pos_streams::Sink;
@@ -43,21 +44,23 @@ fn answer_bytes<'a>(
     }
 }
 
-// What is answered to a question about the totals file at a path. The file is closed then: whoever reads the answer may
-// take long, and a till can't open a file that is locked.
-fn answer_file<'a, F: NamedFiles>(
+// What is answered to a question about the totals file at a path. The file is closed then, before the output is written
+// to: whoever reads the answer may take long, and a till can't open a file that is locked.
+fn answer_file<'a, F: NamedFiles, S: Folder, W: Sink>(
     alloc: Global,
     files: &F,
+    system: &S,
+    writer: &W,
     path: &'a str,
     question: Question<'a>,
 ) -> Result<(Finding, Vec<u8>), Fault<'a>>
-    ensures { AnswersFile F.NamedFiles ⟦<F::File as BlockFile>⟧ files.now path.entry.now question.entry
-        (finding_and_text result) }
+    ensures { AnswersFile F.NamedFiles ⟦<F::File as BlockFile>⟧ files.now S.Folder system.now
+        (output_of W.Sink writer.now) path.entry.now question.entry (finding_and_text result) }
 {
     match files.read_disk(path) {
         Ok(totals) => {
             let found = answer_bytes(alloc, path, question, totals.bytes());
-            close_totals(totals);
+            system.close_before(totals, writer);
             found
         }
         Err(cause) => Err(Fault::File { path, cause }),
@@ -70,17 +73,18 @@ fn answer_file<'a, F: NamedFiles>(
 /// # Errors
 ///
 /// `File` if the file can't be read, `Totals` and `NoFile` as `answer` has them, and `Write`.
-pub(crate) fn print_file<'a, F: NamedFiles, W: Sink>(
+pub(crate) fn print_file<'a, F: NamedFiles, S: Folder, W: Sink>(
     alloc: Global,
     files: &F,
+    system: &S,
     writer: &mut W,
     path: &'a str,
     question: Question<'a>,
 ) -> Result<Finding, Fault<'a>>
-    ensures { PrintsFile F.NamedFiles ⟦<F::File as BlockFile>⟧ files.now path.entry.now question.entry
-        (output_of W.Sink writer.old) (output_of W.Sink writer.new) result }
+    ensures { PrintsFile F.NamedFiles ⟦<F::File as BlockFile>⟧ files.now S.Folder system.now path.entry.now
+        question.entry (output_of W.Sink writer.old) (output_of W.Sink writer.new) result }
 {
-    let (finding, text) = match answer_file(alloc, files, path, question) {
+    let (finding, text) = match answer_file(alloc, files, system, writer, path, question) {
         Ok(found) => found,
         Err(fault) => return Err(fault),
     };
@@ -114,18 +118,21 @@ fn survey_bytes<'a>(alloc: Global, path: &'a str, bytes: &[u8]) -> Result<Survey
     }
 }
 
-// What a survey of the totals file at a path tells.
-fn survey_file<'a, F: NamedFiles>(
+// What a survey of the totals file at a path tells. The file is closed then, before the output is written to.
+fn survey_file<'a, F: NamedFiles, S: Folder, W: Sink>(
     alloc: Global,
     files: &F,
+    system: &S,
+    writer: &W,
     path: &'a str,
 ) -> Result<Survey, Fault<'a>>
-    ensures { SurveysFile F.NamedFiles ⟦<F::File as BlockFile>⟧ files.now path.entry.now result }
+    ensures { SurveysFile F.NamedFiles ⟦<F::File as BlockFile>⟧ files.now S.Folder system.now
+        (output_of W.Sink writer.now) path.entry.now result }
 {
     match files.read_disk(path) {
         Ok(totals) => {
             let told = survey_bytes(alloc, path, totals.bytes());
-            close_totals(totals);
+            system.close_before(totals, writer);
             told
         }
         Err(cause) => Err(Fault::File { path, cause }),
@@ -161,26 +168,27 @@ fn print_surveys<'a, W: Sink>(
     }
 }
 
-/// Prints how the files of two totals files differ, which are only read.
+/// Prints how the files of two totals files differ, which are only read, and closed before anything is printed.
 ///
 /// # Errors
 ///
 /// `File` and `Totals` for the first of them that can't be read or isn't sound, `NoMemory` and `Write`.
-pub(crate) fn write_difference<'a, F: NamedFiles, W: Sink>(
+pub(crate) fn write_difference<'a, F: NamedFiles, S: Folder, W: Sink>(
     alloc: Global,
     files: &F,
+    system: &S,
     writer: &mut W,
     first: &'a str,
     second: &'a str,
 ) -> Result<Finding, Fault<'a>>
-    ensures { WritesDifference F.NamedFiles ⟦<F::File as BlockFile>⟧ files.now first.entry.now second.entry.now
-        (output_of W.Sink writer.old) (output_of W.Sink writer.new) result }
+    ensures { WritesDifference F.NamedFiles ⟦<F::File as BlockFile>⟧ files.now S.Folder system.now first.entry.now
+        second.entry.now (output_of W.Sink writer.old) (output_of W.Sink writer.new) result }
 {
-    let one = match survey_file(alloc, files, first) {
+    let one = match survey_file(alloc, files, system, writer, first) {
         Ok(survey) => survey,
         Err(fault) => return Err(fault),
     };
-    match survey_file(alloc, files, second) {
+    match survey_file(alloc, files, system, writer, second) {
         Ok(other) => print_surveys(alloc, writer, &one, &other),
         Err(fault) => Err(fault),
     }

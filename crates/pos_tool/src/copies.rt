@@ -3,8 +3,7 @@ ghost use Rattle.std.specs.Prelude.{IfErr, IfOk};
 ghost use Rattle.pos_program.specs.Answers.{bytes_of};
 ghost use Rattle.pos_tool.specs.Copies.{BacksUp, ChecksSound, CopiesTo, EndsCopy, IsUnread, IsUnreadTwice, PutsBack};
 ghost use Rattle.pos_tool.specs.Copies.{ReadsFront, ReadsSteady, ReadsTwice, Restores, TakesSnapshot, lent};
-ghost use Rattle.pos_tool.specs.NewFiles.{Loads, LoadsText, MakesLoad, MakesSalvage, PutsSalvaged, Salvages};
-ghost use Rattle.pos_tool.specs.NewFiles.{SalvagesBytes};
+ghost use Rattle.pos_tool.specs.NewFiles.{Loads, LoadsText, MakesLoad, MakesSalvage, PutsMade, PutsSalvaged, Salvages};
 ghost use Rattle.pos_tool.specs.Surveys.{EndsAtFile};
 ghost use Rattle.pos_program.specs.declared.file_fault.FileFault.TheVariants.{Unreadable};
 ghost use Rattle.pos_shell.specs.Outputs.{output_of};
@@ -219,25 +218,25 @@ fn put_salvaged<'a, S: FileSystem + Folder + AllocGlobal, W: Sink>(
     }
 }
 
-// Makes sound totals of the bytes of damaged ones at a path.
-fn salvage_bytes<'a, S: FileSystem + Folder + AllocGlobal, W: Sink>(
+// Makes a file of what was salvaged, if anything could be had of the damaged totals at a path.
+fn put_made<'a, S: FileSystem + Folder + AllocGlobal, W: Sink>(
     system: &mut S,
     writer: &mut W,
     from: &'a str,
-    bytes: &[u8],
+    made: Result<Salvaged, SurveyFault>,
     to: &'a str,
 ) -> Result<Finding, Fault<'a>>
-    ensures { SalvagesBytes S.FileSystem S.Folder ⟦<S::File as BlockFile>⟧ system.old system.new from.entry.now
-        to.entry.now bytes.now (output_of W.Sink writer.old) (output_of W.Sink writer.new) result }
+    ensures { PutsMade S.FileSystem S.Folder ⟦<S::File as BlockFile>⟧ system.old system.new from.entry.now
+        to.entry.now made (output_of W.Sink writer.old) (output_of W.Sink writer.new) result }
 {
-    match make_salvage(system.alloc(), bytes) {
+    match made {
         Ok(made) => put_salvaged(system, writer, &made, to),
         Err(cause) => Err(Fault::Totals { path: from, cause }),
     }
 }
 
-/// Makes sound totals of damaged ones, which are only read, at a path where no file is; and prints what was lost.
-/// docs/reference/tool.md, "salvage".
+/// Makes sound totals of damaged ones, which are only read, and closed before anything is made or printed, at a path
+/// where no file is; and prints what was lost. docs/reference/tool.md, "salvage".
 ///
 /// # Errors
 ///
@@ -254,9 +253,9 @@ pub(crate) fn salvage<'a, S: FileSystem + Folder + AllocGlobal, W: Sink>(
 {
     match read_totals(system, from) {
         Ok(totals) => {
-            let answer = salvage_bytes(system, writer, from, totals.bytes(), to);
-            close_totals(totals);
-            answer
+            let made = make_salvage(system.alloc(), totals.bytes());
+            system.close_before(totals, writer);
+            put_made(system, writer, from, made, to)
         }
         Err(cause) => Err(Fault::File { path: from, cause }),
     }

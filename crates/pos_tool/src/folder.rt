@@ -1,10 +1,13 @@
-//! What the program asks of folders.
+//! What the program asks of folders, and how it closes a file that it prints of.
 ghost use Rattle.std.specs.Prelude.{Bool, List, Option, Result, ℕ, ⊤};
 ghost use Rattle.std.specs.declared.io.Error.{Error};
 ghost use Rattle.pos_file.specs.Calls.{Call};
+ghost use Rattle.pos_shell.specs.Outputs.{Output, output_of};
 ghost use Rattle.pos_tool.specs.Texts.{Done, names_in};
 
 use pos_file::BlockFile;
+use pos_program::{TotalsDisk, close_totals};
+use pos_streams::Sink;
 use std::os::unix::fs::{MetadataExt, chown};
 use std::rt::Files;
 use std::{fs, io};
@@ -12,7 +15,7 @@ use std::{fs, io};
 /// The folders of a file system, and the names in them. Each call that changes a name leads from one state to the next,
 /// so that contracts of functions over a folder say in which order such calls are made, and that no others are. They
 /// say what is made of what a folder answers; what it answers itself is for each such type to say. Of the system's own
-/// no contract can say anything.
+/// no contract can say anything. A file that text is printed of is closed by it too, so that contracts say when.
 pub trait Folder {
     /// What giving a file a second name may answer, and lead to, by the calls that the file was asked before.
     ghost links: { Self → Self → List Call → List ℕ → List ℕ → Done → Type 0 } = { λ _ _ _ _ _ _. ⊤ };
@@ -34,6 +37,10 @@ pub trait Folder {
 
     /// What listing a folder may answer: the names in it, or none if the path is no folder's.
     ghost lists: { Self → List ℕ → Result (Option (List (List ℕ))) Error → Type 0 } = { λ _ _ _. ⊤ };
+
+    /// What is known of a file that was closed while an output stood like this, by the calls that the file was asked:
+    /// nothing, where a type doesn't say more.
+    ghost closes: { Self → List Call → Output → Type 0 } = { λ _ _ _. ⊤ };
 
     /// Gives an open file, which is at a path, a second name, which isn't in use.
     ///
@@ -90,6 +97,12 @@ pub trait Folder {
     /// What the system says, also if a name isn't UTF-8.
     fn names(&self, path: &str) -> io::Result<Option<Vec<String>>>
         ensures { lists self.now path.now (names_in result) };
+
+    /// Closes totals that were only read. Contracts name the output as it stands, and so say that what is printed of
+    /// the totals is printed afterwards: code over any folder has that only from here.
+    fn close_before<F: BlockFile + Drop, W: Sink>(&self, totals: TotalsDisk<F>, writer: &W)
+        ensures closed { F.closed totals.below.file }
+        ensures before { closes self.now (F.calls totals.below.file) (output_of W.Sink writer.now) };
 }
 
 impl<R: Files + AllocGlobal + Clone + Drop> Folder for R {
@@ -145,5 +158,9 @@ impl<R: Files + AllocGlobal + Clone + Drop> Folder for R {
             names.push(String::from_str(self.alloc(), entry?.file_name())?)?;
         }
         Ok(Some(names))
+    }
+
+    fn close_before<F: BlockFile + Drop, W: Sink>(&self, totals: TotalsDisk<F>, _writer: &W) {
+        close_totals(totals);
     }
 }

@@ -201,7 +201,7 @@ fn perform_task<
         Task::Help => print(writer, pages.help.as_bytes()),
         Task::Version => print(writer, pages.version_line.as_bytes()),
         Task::Explain { code, extended } => explain(alloc, writer, pages.codes, code, extended),
-        Task::Ask { file, question } => print_file(alloc, files, writer, file, question),
+        Task::Ask { file, question } => print_file(alloc, files, system, writer, file, question),
         Task::Create { file } => create(system, file),
         Task::Migrate { file } => at_file(file, migrate_file(alloc, files, file)),
         Task::Backup { file, to } => back_up(system, file, to),
@@ -210,7 +210,7 @@ fn perform_task<
             file,
             replaces,
         } => restore(system, from, file, replaces),
-        Task::Diff { file, other } => write_difference(alloc, files, writer, file, other),
+        Task::Diff { file, other } => write_difference(alloc, files, system, writer, file, other),
         Task::Load { text, file } => load(system, text, file),
         Task::Salvage { file, to } => salvage(system, writer, file, to),
         Task::Run {

@@ -11,7 +11,7 @@ returns-in-Err g c =
     let outcome = Err (fault.Words c.in-Err.fault) in
     record {
       outcome = outcome;
-      done = subst (λ words. DoesAsRead g.F.NamedFiles g.F.File.BlockFile _ c.args.files.now g.S.AsStr.text words
-          streams outcome) (sym c.in-Err.is) (refl, (refl, refl));
+      done = subst (λ words. DoesAsRead g.F.NamedFiles g.F.FileCloser g.F.File.BlockFile _ c.args.files.now
+          g.S.AsStr.text words streams outcome) (sym c.in-Err.is) (refl, (refl, refl));
       ends = c.end-in-Err.ensures;
     }
