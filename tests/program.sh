@@ -183,7 +183,7 @@ formats 'a lock that fails' flock:error=ENOLCK 4 "can't be locked: No locks avai
 told 'a file without a lock is asked nothing' 'statxflock' "$(sed -n 's/(.*INJECTED.*//p; t; s/(.*//p' trace | grep -v '^+' | tr -d '\n')"
 told 'a file without a lock stays empty' 0 "$(wc -c < faulty.disk)"
 formats 'a lock without memory' flock:error=ENOMEM 6 'no memory to open it'
-formats 'a length that is not told' statx:error=EIO 4 "its length can't be told: Input/output error (os error 5)"
+formats 'a length that is not told' statx:error=EIO 4 "its length can't be read: Input/output error (os error 5)"
 formats 'a file of whose name nothing is told' statx:error=EIO:when=3 4 "$opened: Input/output error (os error 5)"
 formats 'a file that has no name any more' statx:error=ENOENT:when=3 4 "$in_use"
 formats 'a file that is told of no second time' statx:error=EIO:when=4 4 "$opened: Input/output error (os error 5)"

@@ -57,12 +57,12 @@ script() {
 }
 
 hint_words='hint: `kijolvar help` lists the commands'
-hint_path='hint: check the path, and who may read and write it'
+hint_path='hint: check the path, who may read and write it, and if its file system is read-only'
 hint_rights="hint: run it as the old file's owner, or as root"
 hint_link='hint: if a file is there, give another path; `restore` has --replace; the disk must have hard links'
 hint_create='hint: is it the right file? Restore a copy if it had totals'
 hint_salvage='hint: `kijolvar salvage FILE TO` makes a sound file of what can be had'
-hint_stop='hint: a till that runs locks its totals file: stop it first'
+hint_stop='hint: a till that runs locks its totals file: stop it first (`fuser -v FILE` lists who has it)'
 none='No such file or directory (os error 2)'
 unread="can't be read"
 unopened="can't be opened for reading and writing"

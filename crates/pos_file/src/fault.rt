@@ -14,7 +14,7 @@ pub enum DiskFileFault {
     #[error("it can't be locked: {0}")]
     Lock(io::Error),
     /// The system doesn't report its length.
-    #[error("its length can't be told: {0}")]
+    #[error("its length can't be read: {0}")]
     Measure(io::Error),
     /// It can't be lengthened.
     #[error("it can't be lengthened: {0}")]

@@ -22,7 +22,7 @@ pub enum FileFault {
     #[error("can't be locked: {0}")]
     Lock(io::Error),
     /// The system doesn't report how long it is.
-    #[error("its length can't be told: {0}")]
+    #[error("its length can't be read: {0}")]
     Measure(io::Error),
     /// The folder that it is in can't be opened or synced.
     #[error("its folder can't be opened and synced: {0}")]

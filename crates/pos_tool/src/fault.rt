@@ -281,11 +281,11 @@ fn hint_of_words(fault: &WordsFault) -> &'static str {
 // What to do about a fault of a totals file.
 fn hint_of_file(cause: &FileFault) -> &'static str {
     match cause {
-        FileFault::InUse => "a till that runs locks its totals file: stop it first",
+        FileFault::InUse => "a till that runs locks its totals file: stop it first (`fuser -v FILE` lists who has it)",
         FileFault::Unsteady =>
             "`backup` works beside a till that runs, if it doesn't write all the time",
         FileFault::Open(_) | FileFault::Unreadable(_) | FileFault::Folder(_) => {
-            "check the path, and who may read and write it"
+            "check the path, who may read and write it, and if its file system is read-only"
         }
         FileFault::Unformatted => {
             "is it the right file? If it had totals, restore a copy of it, or salvage what is left"

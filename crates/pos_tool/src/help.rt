@@ -58,7 +58,7 @@ usage: kijolvar COMMAND ..
 
 statuses:
   0  done; of check: sound
-  1  no totals, or in them no such file; no such code or shell; of diff and test: they differ
+  1  no totals, file in them, dump, code, shell or scripts; of diff and test: they differ
   2  damaged totals
   3  the command line is wrong
   4  a file can't be read or written, is there already, is in use, or is no profile

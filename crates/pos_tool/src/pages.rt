@@ -175,7 +175,7 @@ Prints the commands.
 Done; of check: sound.
 .TP
 .B 1
-No totals, or in them no such file; no such code or shell; of diff and test: they differ.
+No totals, file in them, dump, code, shell or scripts; of diff and test: they differ.
 .TP
 .B 2
 Damaged totals.
@@ -196,9 +196,14 @@ There wasn't enough memory.
 .RS
 kijolvar check till.totals
 kijolvar backup till.totals monday.totals
+kijolvar salvage till.totals found.totals
+kijolvar restore found.totals till.totals \-\-replace
 printf 'new d CashDrawer\\nopen d d1\\n' | kijolvar run
 .RE
 .fi
 .SH SEE ALSO
 .BR pos_console (1)
+.PP
+The documents of Kijolvar, in share/doc/kijolvar/docs: reference/tool.md has each command, and reference/trouble.md what
+to do about a message.
 "#;
