@@ -103,10 +103,6 @@ module _ {D P : Type 0} (bound : DiskGhosts D) (peripherals : Ghosts P) {old new
   same_sound sound = subst (IsCounterSound peripherals) (sym is.same)
       (over_sound bound peripherals old new.totals.disk is.disk sound)
 
-  pub same_leaves : (left : List Standing) → Leaves bound old.totals left → Leaves bound new.totals left
-  same_leaves left leaves = subst (λ (c : Counter D P). Leaves bound c.totals left) (sym is.same)
-      (over_leaves bound peripherals old new.totals.disk is.disk left leaves)
-
   pub same_before : (first : Counter D P) (left : List Standing) (steps : List (Request × Response))
       → RunsFrom bound peripherals left first steps old → RunsFrom bound peripherals left first steps new
   same_before first left steps runs = subst (λ (c : Counter D P). RunsFrom bound peripherals left first steps c)

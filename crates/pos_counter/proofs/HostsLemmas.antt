@@ -8,14 +8,12 @@ use Rattle.std.proofs.Common.{Global, Vec, option_and_then}
 use Rattle.pos_drive.specs.Courses.{handed_out_course, reported_course, settled_course}
 use Rattle.pos_drive.specs.declared.courses.Course.{Course}
 use Rattle.pos_drive.specs.declared.courses.Course.TheVariants as course
-use Rattle.pos_drive.specs.declared.courses.Progress.{Progress}
-use Rattle.pos_drive.specs.declared.courses.Progress.TheVariants as progress
 use Rattle.pos_profile.specs.Lending.{slot_with, slots_with}
 use Rattle.pos_profile.specs.Registries.{devices_of as registered_of, peripheral_at}
 use Rattle.pos_profile.specs.declared.slot.Slot.{Slot}
 use Rattle.pos_service.specs.declared.peripheral.Peripheral.{Ghosts}
 use Rattle.pos_counter.specs.Counters.{IsCounterSound}
-use Rattle.pos_counter.specs.HostTallies.{LeavesHostAlone, forgets}
+use Rattle.pos_counter.specs.HostTallies.{LeavesHostAlone}
 use Rattle.pos_counter.specs.declared.host_tally.HostTally.{HostTally}
 use Rattle.pos_counter.specs.Hosts.{Host, IsFirstPending, IsNamedAt, NonePending, changed_all, changed_at, changed_host}
 use Rattle.pos_counter.specs.Hosts.{changed_named, changed_pending, course_named, has_pending, host_of, hosts_of}
@@ -398,15 +396,3 @@ alone_same is = record {
   done = ap (λ (t : HostTally). t.done) is;
   not_done = ap (λ (t : HostTally). t.not_done) is;
 }
-
--- nor does it where orders are settled
-pub settled_alone : (far : Progress) {old new : HostTally} → new ≡ forgets far old → LeavesHostAlone old new
-settled_alone progress.Reported is = record {
-  given = ap (λ (t : HostTally). t.given) is;
-  done = ap (λ (t : HostTally). t.done) is;
-  not_done = ap (λ (t : HostTally). t.not_done) is;
-}
-settled_alone progress.Free is = alone_same is
-settled_alone progress.Ready is = alone_same is
-settled_alone progress.Waits is = alone_same is
-settled_alone progress.HandedOut is = alone_same is

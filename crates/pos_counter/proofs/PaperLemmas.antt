@@ -1,6 +1,6 @@
 -- The printed paper of a device is taken away.
 use Rattle.pos_counter.proofs.Common.{Err, List, None, Ok, Option, PeripheralState, Registered, Result, Some, [], ap}
-use Rattle.pos_counter.proofs.Common.{false, refl, standing_at, suc, with_peripheral, zero, ℕ, ◌∙◌, ◌∷◌, ◌≡◌}
+use Rattle.pos_counter.proofs.Common.{refl, standing_at, suc, with_peripheral, zero, ℕ, ◌∙◌, ◌∷◌, ◌≡◌}
 use Rattle.pos_counter.proofs.Common.{AllByRecursion, IsServed, MatchResult, hardware_of}
 use Rattle.pos_common.specs.KeptControls.{KeptControl}
 use Rattle.pos_counter.proofs.DeviceListLemmas.{done_there}
@@ -13,14 +13,7 @@ use Rattle.pos_counter.specs.KeptDevices.{devices_of}
 use Rattle.pos_counter.specs.Paper.{IsTorn}
 use Rattle.pos_counter.specs.Steps.{OnHardware}
 use Rattle.pos_drive.specs.Papers.{TearsOff}
-use Rattle.pos_service.specs.Hardware.{StaysInService}
 use Rattle.pos_service.specs.declared.faults.NoMemory.{NoMemory}
-
--- a peripheral whose paper is taken away stays in service
-pub stays_in_service : {was now : PeripheralState} (outcome : Result (Unit {0}) NoMemory) → was.is_parked ≡ false
-    → TearsOff was outcome now → StaysInService was now
-stays_in_service (Ok done) unparked torn = rw torn (record { unparked = unparked; kind = refl })
-stays_in_service (Err want) unparked same = rw same (record { unparked = unparked; kind = refl })
 
 -- what becomes of the devices
 pub torn_there : (list : List Registered) {new : List Registered} (place : ℕ) {was : PeripheralState}

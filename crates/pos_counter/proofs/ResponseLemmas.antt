@@ -1,5 +1,5 @@
 -- What a counter's methods answer is the same response whatever its peripherals are.
-use Rattle.pos_counter.proofs.Common.{Err, HandsOut, Ok, answered, refl, response_of, ℕ, ◌≡◌}
+use Rattle.pos_counter.proofs.Common.{Err, HandsOut, Ok, refl, response_of, ℕ, ◌≡◌}
 use Rattle.std.specs.Prelude.{Result}
 use Rattle.pos_counter.specs.Responses.{made, shown, taken_in, worked}
 use Rattle.pos_counter.specs.declared.faults.ControlFault.{ControlFault}
@@ -10,7 +10,6 @@ use Rattle.pos_counter.specs.declared.faults.SnapshotFault.{SnapshotFault}
 use Rattle.pos_counter.specs.declared.faults.SnapshotFault.TheVariants as snapshot_fault
 use Rattle.pos_counter.specs.declared.faults.WorkFault.{WorkFault}
 use Rattle.pos_counter.specs.declared.faults.WorkFault.TheVariants as work_fault
-use Rattle.pos_service.specs.declared.answer.Answer.{Answer}
 use Rattle.pos_service.specs.declared.faults.NoMemory.{NoMemory}
 use Rattle.pos_service.specs.declared.peripheral.Peripheral.{Ghosts}
 use Rattle.pos_service.specs.declared.plant.Snapshot.{Snapshot}
@@ -29,10 +28,6 @@ module _ {P : Type 0} (peripherals : Ghosts P) where
   plain_control (Ok number) = record { same = refl; handed_out = tt }
   plain_control (Err control_fault.Full) = record { same = refl; handed_out = tt }
   plain_control (Err control_fault.NoMemory) = record { same = refl; handed_out = tt }
-
-  pub plain_call : (answer : Result Answer NoMemory) → IsPlain peripherals (answered answer) (answered answer)
-  plain_call (Ok answer) = record { same = refl; handed_out = tt }
-  plain_call (Err want) = record { same = refl; handed_out = tt }
 
   pub plain_input : (answer : Result (Unit {0}) InputFault) → IsPlain peripherals (taken_in answer) (taken_in answer)
   plain_input (Ok u) = record { same = refl; handed_out = tt }

@@ -218,12 +218,6 @@ released_beside device m n = grind (arith, totals_beside, claims_beside, length-
 dropped_beside : (device : Option OpenDevice) (m : Machine) (n : ℕ) → Beside m (dropped device m n)
 dropped_beside device m n = grind (arith, totals_beside, without_rest, claims_beside, length-set)
 
--- nor does a call of another category, or one that all have
-pub none_of_totals : (k : Category) (asked : Call) → (k ≡ HardTotals → ⊥)
-    → (is_common asked ≡ false → has_call k asked ≡ true) → file_call asked ≡ Nothing
-none_of_totals HardTotals asked other has = absurd (other refl)
-none_of_totals k asked other has = grind arith
-
 -- nor does one that comes to something at a device
 none_at_devices : (k : Category) (at : Option Kind) (c : Control) (asked : Call) (R : Action → Type 0)
     → has_call k asked ≡ true → MatchOption (device_action k at c asked) ⊥ R → file_call asked ≡ Nothing

@@ -9,8 +9,6 @@ use Rattle.pos_image.proofs.Common.{log_size, part, part-part, refl, slot_size, 
 use Rattle.pos_image.proofs.Common.{spliced_within, start, started, sym, weaker, within_here, within_write, ℕ, ⊤, ◌+◌}
 use Rattle.pos_image.proofs.Common.{◌-◌, ◌<◌, ◌^◌, ◌↔◌, ◌∙◌, ◌≡◌, ◌≤◌}
 use Rattle.std.proofs.lemmas.List.{ext_get_or, get_or_past}
-use Rattle.pos_disk.proofs.SameDiskLemmas.{same_rest}
-use Rattle.pos_disk.specs.Keeps.{KeepsState}
 use Rattle.pos_image.proofs.ChangeLemmas.{ready}
 use Rattle.pos_image.proofs.CurrentImageLemmas.{HasBody, OpensNone, current_stands, kept_away, kept_body, kept_head}
 use Rattle.pos_image.proofs.LogLemmas.{log_here}
@@ -243,28 +241,3 @@ pub image_length : (layout : Layout) (body : List ℕ) (sequence : ℕ) (bytes :
     → ShowsImage layout body sequence bytes → length (log_of bytes) ≡ log_size layout
 unfolding log_of
 image_length layout body sequence bytes shows = grind (arith, cases_lt, short_stands, places, length-part, shown_layout)
-
--- writable images stay writable where all that is known of the disk is as it was
-pub same_writable : {D : Type 0} (bound : Ghosts D) (images : View D) (disk : D) → KeepsState bound images.disk disk
-    → IsWritable bound images → IsWritable bound (record images { disk = disk })
-same_writable bound images disk keeps was =
-    writable bound (record images { disk = disk }) (omega (arith, was.large, keeps.size)) was.counted (λ now.
-    let before = keeps.honest.1 now in
-    let same = keeps.same before in
-    let held =
-    looked_held {new = bound.state disk} (was.held before) same.reading (λ i loose. (same.loose i).1 loose) in
-    record { loose = held.loose; current = held.current; prepared = held.prepared })
-
--- and ready ones ready
-pub same_ready : {D : Type 0} (bound : Ghosts D) (images : View D) (disk : D) → KeepsState bound images.disk disk
-    → IsReady bound images → IsReady bound (record images { disk = disk })
-same_ready bound images disk keeps was =
-    ready bound (record images { disk = disk }) (omega (arith, was.large, keeps.size)) was.counted (λ now.
-    let before = keeps.honest.1 now in
-    let same = keeps.same before in
-    let sound = was.sound before in
-    record {
-      at_rest = same_rest _ _ same sound.at_rest;
-      current = rw same.reading sound.current;
-      prepared = rw same.reading sound.prepared;
-    })

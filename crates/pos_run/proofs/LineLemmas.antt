@@ -2,7 +2,7 @@
 use Rattle.pos_run.proofs.Common.{Appends-nil, Appends-trans, RunsLine, Err, Fails-trans, Finishes, FinishesUnflushed}
 use Rattle.pos_run.proofs.Common.{Given, Leads, LineBecomes, LinesPrint, List, MatchResult, Ok, Option, Request}
 use Rattle.pos_run.proofs.Common.{Response, Result, RunFault, ScriptLeaves, Session, Stops, Writes, Writing, [], ap}
-use Rattle.pos_run.proofs.Common.{append-nil, append_assoc, carried_steps, inl, inr, refl, sym, write_fault_after, ℕ}
+use Rattle.pos_run.proofs.Common.{append-nil, append_assoc, carried_steps, inl, inr, refl, sym, ℕ}
 use Rattle.pos_run.proofs.Common.{◌++◌, ◌∙◌, ◌∷◌, ◌≡◌, ◌⊎◌}
 use Rattle.pos_script.specs.Text.{printed}
 use Rattle.pos_run.specs.Runs.{StopsAt}
@@ -57,13 +57,6 @@ module _ {C : Type 0} {Runs : Leads C} {old : C} {session : Session} where
       → Finishes Runs old session lines before mid left new → after ≡ mid
       → Finishes Runs old session lines before after left new
   finishes_flushed done same = record { text = done.text; transcript = done.transcript; written = same ∙ done.written }
-
-  -- or it failed
-  pub finishes_unflushed : {lines : List (List ℕ)} {before mid after : Given} {left : Session} {new : C}
-      → Finishes Runs old session lines before mid left new → after ≡ write_fault_after mid
-      → FinishesUnflushed Runs old session lines before after left new
-  finishes_unflushed done failed =
-      record { text = done.text; transcript = done.transcript; failed = failed ∙ ap write_fault_after done.written }
 
   -- no line yet
   pub finishes_none : Runs old [] old → (given : Given) → Finishes Runs old session [] given given session old

@@ -1,6 +1,5 @@
 use Rattle.pos_common.proofs.Common.{HasRoom, KeptControl, arith, controls_of, drop_more, input_events, length-map}
-use Rattle.pos_common.proofs.Common.{take_all}
-use Rattle.std.proofs.lemmas.List.{append-nil, append_assoc, drop_all}
+use Rattle.std.proofs.lemmas.List.{append_assoc}
 use Rattle.pos_common.proofs.KeptLemmas.{control_at, front_after_set, same_control}
 use Rattle.pos_common.proofs.controls.copy_for_all.Goals as goal
 use Rattle.pos_common.proofs.controls.copy_for_all.Goals.{then-listens+in_ok-room+in_ok-reserve+in_ok-copy_of, else-listens}
@@ -19,11 +18,3 @@ loop-number-preserved c =
           grind (arith, w, at, count, next, append_assoc, same_control hs, roomy)
       | else-listens w ↦ grind (arith, w, at, count, next, same_control hs, roomy)
     ]
-
-pub returns-clause-room : goal.returns-clause-room
-returns-clause-room c = grind (arith, take_all)
-
-pub returns-clause-copies : goal.returns-clause-copies
-returns-clause-copies c =
-    let count = length-map c.loop-number.controls (λ (h : KeptControl). h.control) in
-    grind (arith, count, drop_all, append-nil)

@@ -1,8 +1,6 @@
 -- A crash of a counter's disk leaves a prefix of the history.
-use Rattle.pos_counter.proofs.Common.{rules}
 use Rattle.pos_counter.proofs.PrefixRunLemmas.{has_begun, keeps_prefix, keeps_prefixes}
 use Rattle.pos_counter.proofs.RunLemmas.{runs_from}
-use Rattle.pos_counter.proofs.ServiceLemmas.{beside_is_step}
 use Rattle.pos_counter.proofs.laws.crash_leaves_a_prefix.Goals as goal
 
 pub returns-clause-begins : goal.returns-clause-begins
@@ -18,6 +16,3 @@ returns-clause-list g c layout start sequence steps more old =
 
 pub returns-clause-moments : goal.returns-clause-moments
 returns-clause-moments g c left steps old = runs_from g.D.Disk _ old c.args.counter.now steps left g.met.D.Disk.only_now
-
-pub returns-clause-beside : goal.returns-clause-beside
-returns-clause-beside g c old request response step = search (rules, beside_is_step, g.met.D.Disk.only_now)

@@ -1,12 +1,9 @@
 -- What is taken out of a counter's disk leaves it the same.
-use Rattle.pos_counter.proofs.ErrandLemmas.{runs_on, same_after, same_before, same_leaves, same_run, same_sound}
+use Rattle.pos_counter.proofs.ErrandLemmas.{runs_on, same_after, same_before, same_run, same_sound}
 use Rattle.pos_counter.proofs.laws.errands_change_nothing.Goals as goal
 
 pub returns-clause-sound : goal.returns-clause-sound
 returns-clause-sound g c old same = same_sound g.D.Disk _ same
-
-pub returns-clause-leaves : goal.returns-clause-leaves
-returns-clause-leaves g c left old same = same_leaves g.D.Disk g.P.Peripheral same left
 
 pub returns-clause-past : goal.returns-clause-past
 returns-clause-past g c layout start sequence steps old same = same_run g.D.Disk _ same layout start sequence steps

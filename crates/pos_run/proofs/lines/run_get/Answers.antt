@@ -1,4 +1,4 @@
-use Rattle.pos_run.proofs.Common.{Err, Ok, Option, None, Some, ◌≡◌, refl}
+use Rattle.pos_run.proofs.Common.{Err, Option, None, Some, ◌≡◌, refl}
 use Rattle.std.specs.Prelude.{option_map}
 use Rattle.pos_counter.specs.Steps.{CallOf}
 use Rattle.pos_script.specs.Arguments.{Reading, become, one}
@@ -18,12 +18,6 @@ twice make first (Some a) = refl
 become_twice : {A B C : Type 0} (make : B → C) (first : A → B) (reading : Reading A)
     → become make (become first reading) ≡ become (λ a. make (first a)) reading
 become_twice make first reading = rw (twice make first reading.value) refl
-
-pub returns-in-Ok-clause-line : goal.returns-in-Ok-clause-line
-returns-in-Ok-clause-line g c = rw (become_twice {C = LineRequest}
-    (λ called. CallOf c.args.name.now called) call.Get (one property_shape (words_of c.args.words.now)))
-    (asks_by_words _ _ _ _ _ _ _ _ _ (λ property. CallOf c.args.name.now (call.Get property))
-    (one property_shape (words_of c.args.words.now)) (Ok c.in-Ok.property) c.in-Ok.ensures c.run_called.ensures.line)
 
 pub returns-in-Err-clause-line : goal.returns-in-Err-clause-line
 returns-in-Err-clause-line g c = rw (become_twice {C = LineRequest} (λ called. CallOf c.args.name.now called) call.Get

@@ -113,14 +113,3 @@ returns-clause-made g c =
       sound = c.loop-entry.invariant.sound;
       in_service = c.new-3.ensures.sound;
     }
-
-pub returns-clause-mounted : goal.returns-clause-mounted
-returns-clause-mounted g c =
-    let spares = c.args.profile.now.spares in
-    let j = c.loop-entry-2.entry-index in
-    let every : length spares ≤ j =
-    subst (λ xs. length xs ≤ j) c.spares-entry-items.ensures (omega (arith, c.loop-entry-2-test.false)) in
-    record {
-      devices = c.loop-entry.invariant.mounted;
-      left = rw c.new-3.ensures.kept (rw (take_all j spares every) at c.loop-entry-2.invariant.mounted);
-    }

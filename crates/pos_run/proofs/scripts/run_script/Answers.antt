@@ -1,7 +1,7 @@
 use Rattle.pos_run.proofs.Common.{[], answers_of, arith, inl, inr, reading_of, refl, runs_join, take, taken_none, ◌++◌}
-use Rattle.pos_run.proofs.LineLemmas.{fault_join, finishes_flushed, finishes_join, finishes_none, finishes_unflushed}
+use Rattle.pos_run.proofs.LineLemmas.{fault_join, finishes_flushed, finishes_join, finishes_none}
 use Rattle.pos_run.proofs.LineLemmas.{stops_join}
-use Rattle.pos_run.proofs.ReadLemmas.{ends, fails, goes_on, same_lines}
+use Rattle.pos_run.proofs.ReadLemmas.{ends, goes_on}
 use Rattle.pos_run.proofs.SessionLemmas.{keeps_here, keeps_on}
 use Rattle.pos_run.proofs.scripts.run_script.Goals as goal
 
@@ -15,33 +15,6 @@ loop-reader-init g c = (
   (λ failed. (refl, refl)),
   finishes_none refl (answers_of g.W.Sink c.args.writer.now),
 )
-
-pub returns-in_default-clause-script : goal.returns-in_default-clause-script
-returns-in_default-clause-script g c =
-    let (keeps, input, took, stands, same, failed, done) = c.loop-reader.invariant in
-    record {
-      input = input;
-      reader = (inl took, λ broken. (failed broken).0);
-      run = inr (rw same (finishes_unflushed done c.in_default.ensures.given));
-    }
-
-pub returns-in_default-read-clause-script : goal.returns-in_default-read-clause-script
-returns-in_default-read-clause-script g c =
-    let (keeps, input, took, stands, same, failed, done) = c.loop-reader.invariant in
-    let first = reading_of g.R.Source c.args.reader.now in
-    let old = reading_of g.R.Source c.loop-reader.reader in
-    let new = reading_of g.R.Source c.read.new.self in
-    let fault = c.in_default-read.field-0 in
-    let reads = c.in_default-read.ensures in
-    record {
-      input = input;
-      reader = fails first old new input c.read.new.buffer took _ refl failed reads;
-      run = (
-        rw (same_lines first old new input c.read.new.buffer took fault _ refl reads same)
-            (finishes_flushed done c.in-Ok.ensures.given),
-        c.in-Ok.ensures.flushed,
-      );
-    }
 
 pub returns-in-Ok-run_end-clause-script : goal.returns-in-Ok-run_end-clause-script
 returns-in-Ok-run_end-clause-script g c =

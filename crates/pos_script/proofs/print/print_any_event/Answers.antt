@@ -5,10 +5,3 @@ returns-in-StatusUpdate g c = rw (c.in-StatusUpdate.is, ← c.format.ensures.tex
 
 pub returns-in-Data : goal.returns-in-Data
 returns-in-Data g c = rw c.in-Data.is c.write_parts-in-Data.ensures
-
-pub returns-in-Error : goal.returns-in-Error
-returns-in-Error g c = rw c.in-Error.is c.print_error.ensures
-
-pub returns-in-OutputComplete : goal.returns-in-OutputComplete
-returns-in-OutputComplete g c =
-    rw (c.in-OutputComplete.is, ← c.format-in-OutputComplete.ensures.text) c.write_parts-in-OutputComplete.ensures

@@ -8,10 +8,6 @@ use Rattle.pos_counter.specs.Orders.{orders_in}
 use Rattle.pos_service.specs.declared.code.Code.TheVariants.{Closed}
 use Rattle.pos_counter.proofs.counter.Counter.call_category.Goals as goal
 
-pub call_totals-requires-clause-totals : goal.call_totals-requires-clause-totals
-call_totals-requires-clause-totals g c = rw (kept_at _ _ _ c.requires.in_range c.index.ensures)
-    (sym c.in-Some-Totals.ensures ∙ ap Some c.in-Some-Totals.field-0-is)
-
 pub returns-in-None : goal.returns-in-None
 returns-in-None g c =
     let old = c.args.self.now in

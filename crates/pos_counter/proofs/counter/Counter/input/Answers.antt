@@ -1,16 +1,8 @@
-use Rattle.pos_counter.proofs.Common.{Ok, TakenAt, hardware_of, refl, rules, sym, ◌∙◌}
+use Rattle.pos_counter.proofs.Common.{Ok, TakenAt, hardware_of, refl, sym, ◌∙◌}
 use Rattle.pos_counter.proofs.HardwareLemmas.{kept_in_place, on_hardware, unchanged}
 use Rattle.pos_counter.proofs.OrderLemmas.{input_orders}
 use Rattle.pos_counter.proofs.ServiceLemmas.{steps_beside}
 use Rattle.pos_counter.proofs.counter.Counter.input.Goals as goal
-
-pub returns-then-not-fits-clause-step : goal.returns-then-not-fits-clause-step
-returns-then-not-fits-clause-step g c =
-    search (rules, c.kind.ensures.kind, c.fits.ensures, c.if-not-fits.true, c.in-Some.ensures.0, c.in-Some.ensures.1)
-
-pub input_there-requires-clause-fits : goal.input_there-requires-clause-fits
-input_there-requires-clause-fits g c =
-    search (rules, c.in-Some.ensures.1, c.kind.ensures.kind, c.fits.ensures, c.if-not-fits.false)
 
 pub returns-in-Ok : goal.returns-in-Ok
 returns-in-Ok g c =

@@ -1,24 +1,8 @@
-use Rattle.pos_counter.proofs.Common.{All-nil, Device, HasItsDevice, IsSound, KeptControl, List, None, Option, [], ap}
-use Rattle.pos_counter.proofs.Common.{devices_in, length, length-replicate, machine_with, planned_of, profile_devices}
-use Rattle.pos_counter.proofs.Common.{registered, replicate, subst, sym, ℕ, ◌∙◌}
+use Rattle.pos_counter.proofs.Common.{All-nil, HasItsDevice, IsSound, KeptControl, List, None, ap}
+use Rattle.pos_counter.proofs.Common.{devices_in, length, length-replicate, machine_with, planned_of}
+use Rattle.pos_counter.proofs.Common.{registered, subst, sym, ◌∙◌}
 use Rattle.pos_counter.proofs.DeviceListLemmas.{count_devices, kinds_hold}
 use Rattle.pos_counter.proofs.counter.Counter.new.Goals as goal
-
-pub returns-in-Ok-new-clause-begins : goal.returns-in-Ok-new-clause-begins
-returns-in-Ok-new-clause-begins g c =
-    let entries = c.args.profile.now.devices in
-    let devices = devices_in g.P.Peripheral c.in-Ok-new.devices in
-    let none = replicate (length (profile_devices entries)) None in
-    let claims = c.in-Ok.ensures.claims ∙ ap (λ n. replicate n None) (sym (count_devices entries)) in
-    record {
-      machine = λ part. ap (λ (hs : List KeptControl). machine_with hs c.in-Ok.claims devices c.in-Ok.totals_name part)
-          c.new-in-Ok-new.ensures.items
-          ∙ ap (λ (cl : List (Option ℕ)). machine_with [] cl devices c.in-Ok.totals_name part) claims
-          ∙ ap (λ (ds : List Device). machine_with [] none ds c.in-Ok.totals_name part) c.in-Ok-new.ensures.vacant
-          ∙ ap (λ (tn : Option (List ℕ)). machine_with [] none (profile_devices entries) tn part) c.in-Ok.ensures.name;
-      totals = c.new-in-Ok-new-2.ensures;
-      tally = c.none.ensures;
-    }
 
 pub returns-in-Ok-new-clause-sound : goal.returns-in-Ok-new-clause-sound
 returns-in-Ok-new-clause-sound g c =

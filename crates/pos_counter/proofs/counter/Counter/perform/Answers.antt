@@ -1,6 +1,6 @@
 use Rattle.pos_counter.proofs.Common.{◌++◌, All, All-nil, All-push, HandsOut, IsRun, List, OffersInService, [], ap}
-use Rattle.pos_counter.proofs.Common.{append-nil, append_assoc, arith, length, length_push, nil_from_length, refl}
-use Rattle.pos_counter.proofs.Common.{reverse, reverse-append, reverse-reverse, rules}
+use Rattle.pos_counter.proofs.Common.{append_assoc, arith, length, length_push, refl}
+use Rattle.pos_counter.proofs.Common.{reverse, reverse-append, reverse-reverse}
 use Rattle.pos_counter.proofs.Common.{steps_of, subst, suc, sym, ◌∙◌, ◌∷◌, ◌≡◌}
 use Rattle.pos_counter.proofs.RunLemmas.{runs_more, steps_push}
 use Rattle.pos_counter.proofs.counter.Counter.perform.Goals as goal
@@ -64,6 +64,3 @@ loop-request-preserved g c =
         sound = c.respond-response.ensures.sound;
       },
     )
-
-pub returns : goal.returns
-returns g c = search (rules, nil_from_length, append-nil, c.loop-request.invariant)

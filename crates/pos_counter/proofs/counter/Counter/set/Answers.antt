@@ -1,21 +1,10 @@
-use Rattle.pos_counter.proofs.Common.{Set, machine, part_with, refl, rules, sym, ◌∙◌}
-use Rattle.pos_counter.proofs.LiftLemmas.{kept_at, kept_same}
+use Rattle.pos_counter.proofs.Common.{Set, machine, part_with, refl, sym, ◌∙◌}
+use Rattle.pos_counter.proofs.LiftLemmas.{kept_same}
 use Rattle.pos_counter.proofs.OrderLemmas.{common_given}
 use Rattle.pos_counter.proofs.RecoveryLemmas.{plain_set}
 use Rattle.pos_counter.proofs.ServiceLemmas.{quiet_serves}
 use Rattle.pos_counter.specs.Orders.{orders_in}
 use Rattle.pos_counter.proofs.counter.Counter.set.Goals as goal
-
-pub set_recovered-requires-clause-recovers : goal.set_recovered-requires-clause-recovers
-set_recovered-requires-clause-recovers g c = search (
-  rules,
-  kept_at,
-  c.requires.in_range,
-  c.index.ensures,
-  c.is_ready.ensures,
-  c.is_recovering.ensures,
-  c.if-is_recovering.true,
-)
 
 pub returns : goal.returns
 returns g c =

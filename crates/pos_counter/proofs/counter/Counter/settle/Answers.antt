@@ -1,8 +1,8 @@
 use Rattle.pos_counter.proofs.Common.{ap, arith, length-map, ◌+◌, ◌∙◌, suc, ◌≡◌}
-use Rattle.pos_counter.proofs.HostsLemmas.{changed_front, front_all, front_more, settled_alone, settled_none}
+use Rattle.pos_counter.proofs.HostsLemmas.{changed_front, front_all, front_more, settled_none}
 use Rattle.pos_drive.specs.Courses.{settled_course}
 use Rattle.pos_profile.specs.Registries.{device_of}
-use Rattle.pos_counter.specs.Hosts.{changed_at, host_of, hosts_in, pending_of, progress_in, progress_with}
+use Rattle.pos_counter.specs.Hosts.{changed_at, host_of, hosts_in, pending_of, progress_with}
 use Rattle.pos_counter.proofs.counter.Counter.settle.Goals as goal
 
 pub loop-place-preserved : goal.loop-place-preserved
@@ -45,7 +45,3 @@ returns-clause-progress g c =
       length-map slots (λ s. device_of g.P.Peripheral s),
       length-map slots (λ s. host_of g.P.Awaits.course s),
     ))) ∙ ap progress_with (settled_none hosts)
-
-pub returns-clause-alone : goal.returns-clause-alone
-returns-clause-alone g c =
-    settled_alone (progress_in g.P.Awaits.course c.args.self.now) c.loop-place.invariant.tally

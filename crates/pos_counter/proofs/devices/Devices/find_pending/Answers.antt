@@ -1,13 +1,7 @@
 use Rattle.pos_counter.proofs.Common.{arith, length-map, sym, ◌∙◌}
-use Rattle.pos_counter.proofs.HostsLemmas.{none_all, none_more}
-use Rattle.pos_counter.specs.Hosts.{hosts_of}
-use Rattle.pos_counter.specs.KeptDevices.{slots_in}
+use Rattle.pos_counter.proofs.HostsLemmas.{none_all}
 use Rattle.pos_profile.specs.Registries.{device_of}
 use Rattle.pos_counter.proofs.devices.Devices.find_pending.Goals as goal
-
-pub loop-place-preserved : goal.loop-place-preserved
-loop-place-preserved g c = none_more (hosts_of g.P.Awaits.course (slots_in c.args.self.now)) c.loop-place.place
-    c.loop-place.invariant (sym c.is_pending.ensures ∙ c.if-is_pending.false)
 
 pub returns-then-is_pending : goal.returns-then-is_pending
 returns-then-is_pending g c = record {

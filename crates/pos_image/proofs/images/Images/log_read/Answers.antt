@@ -1,5 +1,5 @@
 use Rattle.pos_image.proofs.Common.{Watches, ap, arith, length, part, watches_read, ℕ, ◌+◌, ◌∙◌}
-use Rattle.pos_image.proofs.SpanLemmas.{looked_held, span_part, writable}
+use Rattle.pos_image.proofs.SpanLemmas.{span_part, writable}
 use Rattle.pos_image.proofs.images.Images.log_read.Given.{Over}
 use Rattle.pos_image.proofs.images.Images.log_read.Goals.{After-read}
 use Rattle.pos_image.proofs.images.Images.log_read.Goals as goal
@@ -24,12 +24,3 @@ returns-clause-bytes g c =
     (λ (k : ℕ). part (k + c.args.at) (length c.read.new.out) (g.D.Disk.state c.self.inside.disk).reading)
     c.start.ensures ∙ span_part (was.held honest).current c.args.at (length c.read.new.out) inside.from
     (omega (arith, inside.to, c.read.auto.out)))
-
-pub returns-clause-writable : goal.returns-clause-writable
-returns-clause-writable g c =
-    let was = rw (← c.self.view_is) at c.requires.writable in
-    writable g.D.Disk _ (omega (arith, was.large, c.read.ensures.size)) was.counted (λ honest.
-    let honest0 = c.read.ensures.honest.1 honest in
-    let reads = c.read.ensures.reads honest0 in
-    let held = looked_held {new = g.D.Disk.state c.read.new.self} (was.held honest0) reads.reading reads.loose in
-    record { loose = held.loose; current = held.current; prepared = held.prepared })

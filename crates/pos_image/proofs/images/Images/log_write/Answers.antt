@@ -35,12 +35,6 @@ module _ (g : Over) (c : After-write g) where
       (length c.args.bytes.now) (g.D.Disk.state c.args.self.now.disk) (g.D.Disk.state c.write.new.self)
   rest = rw (← c.self.view_is) (λ honest. writes_only (wrote honest).writes)
 
-pub returns-in_err-write-clause-rest : goal.returns-in_err-write-clause-rest
-returns-in_err-write-clause-rest g c = rest g (goal.at.returns-in_err-write-clause-rest g c).After-write
-
-pub returns-clause-rest : goal.returns-clause-rest
-returns-clause-rest g c = rest g (goal.at.returns-clause-rest g c).After-write
-
 pub returns-in_err-write-clause-any_moment : goal.returns-in_err-write-clause-any_moment
 returns-in_err-write-clause-any_moment g c = moments g (goal.at.returns-in_err-write-clause-any_moment g c).After-write
 

@@ -4,7 +4,7 @@ use Rattle.pos_image.proofs.LooseLogLemmas.{beside_leaves}
 use Rattle.pos_image.proofs.ChangeLemmas.{placed, ready}
 use Rattle.pos_image.proofs.CurrentImageLemmas.{stage_current}
 use Rattle.pos_image.proofs.LogLemmas.{kept_image}
-use Rattle.pos_image.proofs.PlaceLemmas.{beside_apart, places}
+use Rattle.pos_image.proofs.PlaceLemmas.{beside_apart}
 use Rattle.pos_image.proofs.images.Images.put_beside.Given.{Over}
 use Rattle.pos_image.proofs.images.Images.put_beside.Goals.{After-place_image}
 use Rattle.pos_image.proofs.images.Images.put_beside.Goals as goal
@@ -58,19 +58,3 @@ returns-clause-prepares g c =
       };
     }) in
     search rules
-
--- the gate of its slot isn't loose
-pub place_image-requires-clause-gate : goal.place_image-requires-clause-gate
-place_image-requires-clause-gate g c = λ honest is.
-    let d = c.self.inside in
-    let beside : IsBeside d.current.slot d.current.sequence
-    (image_of c.args.image.slot c.args.image.body.items c.args.image.sequence) =
-    rw (← c.self.view_is) at c.requires.beside in
-    let apart = beside_apart d.current.slot d.current.sequence
-    (image_of c.args.image.slot c.args.image.body.items c.args.image.sequence) beside in
-    let writable : IsWritable g.D.Disk
-    (images_of d.disk d.current.slot d.current.body.items d.current.sequence (prepared_image d.prepared)) =
-    rw c.self.view_is c.requires.ready in
-    let here = places d.current.slot in
-    let there = places c.args.image.slot in
-    absurd (omega (arith, apart, (writable.held honest).loose _ is))

@@ -1,14 +1,9 @@
 use Rattle.pos_run.proofs.Common.{Writes, subst, sym, ◌++◌, ◌∙◌, ap}
-use Rattle.pos_run.proofs.WaitingLemmas.{cut_more, short_text, whole_text}
+use Rattle.pos_run.proofs.WaitingLemmas.{cut_more, whole_text}
 use Rattle.pos_script.proofs.WriteLemmas.{behind}
 use Rattle.pos_script.specs.Writing.{IsCut}
 use Rattle.pos_streams.specs.Transfers.{given_to}
 use Rattle.pos_run.proofs.line_texts.LineText.write_to.Goals as goal
-
-pub returns-then-self-lt-SHORT : goal.returns-then-self-lt-SHORT
-returns-then-self-lt-SHORT g c =
-    subst (λ text. Writes (g.W.Sink.given c.args.writer.now) (g.W.Sink.given c.write_bytes.new.writer) text
-    c.write_bytes.result) (sym (short_text c.args.self.now c.if-self-lt-SHORT.true)) c.write_bytes.ensures
 
 pub returns-in_default : goal.returns-in_default
 returns-in_default g c =
