@@ -875,6 +875,68 @@ def try_typing_between():
             told(f"{name}: the next code", [b"4006381"], scanned(shop.host, 1))
 
 
+def pressed(code):
+    """The events of the keys of digits, without Enter behind them: each is pressed and let go."""
+    keys = [11 if digit == ord("0") else digit - ord("0") + 1 for digit in code]
+    return b"".join(struct.pack("@llHHi", 0, 0, 1, key, value) for key in keys for value in (1, 0))
+
+
+def heard_of(host, wanted):
+    """The codes of a scanner that are told, and whether one has failed, once it is what is wanted; or what it is then."""
+    found = [[], False]
+
+    def is_all():
+        host.ask("run 10")
+        event, code = host.lines("set s DataEventEnabled true", "deliver s", "get s ScanData")[1:]
+        if event == "event DataEvent 0":
+            found[0].append(bytes.fromhex(code.split()[1]))
+        found[1] = found[1] or event.startswith("event ErrorEvent ")
+        return found == wanted
+    until(is_all, 5)
+    return found
+
+
+def try_typed_apart():
+    """Parts of codes that are typed while a call waits for a printer. What no Enter has followed for a second is a failed
+    scan, also if it was typed before the call, and what comes then is a code of its own. A shorter pause is none."""
+    rest = pressed(b"81")
+    rest += struct.pack("@llHHi", 0, 0, 1, 28, 1) + struct.pack("@llHHi", 0, 0, 1, 28, 0)
+    cases = (("half a code and another one", 1.5, (pressed(b"40063"), rest), [[b"81"], True]),
+             ("half a code from before and another one", 1.5, (b"", rest), [[b"81"], True]),
+             ("two codes after each other", 1.5, (rest, rest), [[b"81", b"81"], False]),
+             ("a code with a short pause", 0.3, (pressed(b"40063"), rest), [[b"4006381"], False]))
+    for name, pause, parts, wanted in cases:
+        with contextlib.ExitStack() as stack:
+            scanner = stack.enter_context(Scanner(cable()))
+            shop = Shop(stack, timeout=AMPLE)
+            told(f"{name}: the scanner", "ok", shop.host.ask(f"scanner s1 {scanner.path} keys pause 10"))
+            shop.host.lines("new s Scanner", "open s s1", "claim s 0", "set s DeviceEnabled true")
+            if "before" in name:
+                scanner.garbage(pressed(b"40063"))
+                scanner.wait(lambda: not scanner._sends)
+                told(f"{name}: it is read", True, until(lambda: shop.host.ask("run 10") and not scanner.cable.unread()))
+            is_waiting = threading.Event()
+            shop.device.after_characters(1, shop.device.hang, is_waiting.set)
+
+            def types():
+                """It types once the call waits, and the printer goes on then."""
+                is_waiting.wait(PATIENCE)
+                for place, part in enumerate(parts):
+                    time.sleep(pause if place else 0)
+                    scanner.garbage(part)
+                    scanner.wait(lambda: not scanner._sends)
+                    scanner.cable.settle()
+                    told(f"{name}: part {place} is read", 0, scanner.cable.unread())
+                shop.device.hang(False)
+            thread = threading.Thread(target=types)
+            thread.start()
+            told(f"{name}: an order", "ok", shop.print(TEXT))
+            thread.join()
+            told(name, wanted, heard_of(shop.host, wanted))
+            scanner.types(b"7")
+            told(f"{name}: the next code", [b"7"], scanned(shop.host, 1))
+
+
 def try_typing_while_shown():
     """What a keyboard types while the bytes of a display's order leave this machine is read meanwhile."""
     if WORDS.preloaded is None:

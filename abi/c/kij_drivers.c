@@ -11,9 +11,9 @@
 static kij_result plain(int code) { return kij_internal_result(code, 0, KIJ_NO_CATEGORY); }
 
 /* How long a lost port may take to open while other devices wait, how long a drawer may take to open, how long output
-   that has failed waits, after how long without an order nobody knows what a display shows, and after how long without
-   a byte a code that has begun has no end, in milliseconds. */
-static const int64_t quickly = 20, briefly = 250, settle = 1000, rest = 100, unseen = 10000, lull = 1000;
+   that has failed waits, after how long without an order nobody knows what a display shows, after how long without a
+   byte a code that has begun has no end, and how often that is looked for, in milliseconds. */
+static const int64_t quickly = 20, briefly = 250, settle = 1000, rest = 100, unseen = 10000, lull = 1000, often = 100;
 
 /* The longest timeout or pause, in milliseconds: whole seconds, as in Rust and Python. The longest code of a scanner
    and the highest type, how many ports are waited for at once, of how many orders of a printer the till keeps the
@@ -637,8 +637,9 @@ static void add_byte(kij_drive *drive, uint8_t byte) {
     if (drive->begun_size <= LONGEST_CODE) drive->begun_size++;
 }
 
-/* The type of a key event, and the code of an event of type 0 that says that events were lost. */
-enum { KEY_EVENT = 1, EVENTS_LOST = 3, EVENT_SIZE = 24 };
+/* The type of a key event, and the code of an event of type 0 that says that events were lost. The system gives no event
+   of the last type: it marks that nothing has come for so long that a code which has begun has no end. */
+enum { KEY_EVENT = 1, EVENTS_LOST = 3, LULL_EVENT = 0xffff, EVENT_SIZE = 24 };
 
 /* The first key with a character and how many there are, and those of the keypad. */
 enum { FIRST_KEY = 2, KEY_COUNT = 56, FIRST_OF_PAD = 71, PAD_COUNT = 13, DIVIDE_KEY = 98, NUM_LOCK = 69 };
@@ -677,6 +678,7 @@ static bool take_key(kij_drive *drive, const uint8_t *event) {
         drive->is_torn = true;
         drive->is_shifted = drive->is_control = false;
     }
+    if (type == LULL_EVENT) give_up_code(drive);
     if (type != KEY_EVENT) return false;
     if (key == 42 || key == 54) drive->is_shifted = value != 0;
     else if (key == 29 || key == 97) drive->is_control = value != 0;
@@ -746,10 +748,24 @@ static bool may_type(const kij_drive *drive) {
     return port->kind == KIJ_PORT_KEYS && has_room && !port->was_empty && kij_internal_port_is_open(port);
 }
 
+/* Marks that nothing has come for a while behind what was typed, if a code may have begun: what comes then is another
+   one. There is room. */
+static void mark_lull(kij_drive *drive) {
+    static const uint16_t mark = LULL_EVENT;
+    uint8_t *end = drive->got + drive->got_size;
+    bool has_begun = drive->got_size > 0 || drive->begun_size > 0 || drive->is_torn;
+    bool is_marked = drive->got_size > 0 && memcmp(end - 8, &mark, sizeof mark) == 0;
+    if (!has_begun || is_marked || kij_internal_now() - drive->heard_at < lull) return;
+    memset(end, 0, EVENT_SIZE);
+    memcpy(end + EVENT_SIZE - 8, &mark, sizeof mark);
+    drive->got_size += EVENT_SIZE;
+}
+
 /* Takes key events. A keyboard that gives none is left alone: it may be lost, which is seen once its codes are told. */
 static void take_typed(kij_drive *drive) {
     ssize_t found = read(drive->port.file, drive->got + drive->got_size, sizeof drive->got - drive->got_size);
     if (found == 0 || (found < 0 && errno != EAGAIN && errno != EINTR)) drive->port.was_empty = true;
+    if (found < 0 && errno == EAGAIN && drive->got_size % EVENT_SIZE == 0) mark_lull(drive);
     if (found <= 0) return;
     drive->got_size += (size_t)found;
     drive->heard_at = kij_internal_now();
@@ -783,7 +799,7 @@ void kij_internal_wait_typing(kij_till *till, const kij_port *port, bool is_writ
             struct pollfd typing = {file, POLLIN, 0};
             if (file >= 0) waiting[count++] = typing;
         }
-        int ready = poll(waiting, count, (int)left);
+        int ready = poll(waiting, count, (int)(left < often ? left : often));
         left = end - kij_internal_now();
         /* A file that a driver doesn't read would be ready again at once. */
         if (ready > 0 && waiting[0].revents == 0 && left > 0) kij_internal_sleep(1);

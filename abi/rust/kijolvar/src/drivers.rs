@@ -26,8 +26,9 @@ const LULL: Duration = Duration::from_secs(1);
 /// The longest code of a scanner, and the highest type (ScanDataType) that a till takes.
 const LONGEST_CODE: usize = 4096;
 const HIGHEST_KIND: u64 = 999;
-/// How long is waited between two looks at a file that may be ready all the time.
+/// How long is waited between two looks at a file that may be ready all the time, and how often others read ahead.
 const MOMENT: Duration = Duration::from_millis(1);
+const OFTEN: Duration = Duration::from_millis(100);
 /// How many bytes of key events are kept that nobody has asked for: more than a hundred characters.
 const MOST_TYPED: usize = 16_384;
 
@@ -88,7 +89,7 @@ impl DriverTill<'_> {
         loop {
             let files = self.inner.read_ahead();
             let left = end.saturating_duration_since(Instant::now());
-            let ready = cable.wait_beside(is_writing, left, &files);
+            let ready = cable.wait_beside(is_writing, left.min(OFTEN), &files);
             if ready.reading || ready.writing || left.is_zero() || !cable.is_open() {
                 return ready;
             }
@@ -870,15 +871,29 @@ impl WedgeScanner {
         }
     }
 
+    /// Marks that nothing has come for a time behind what was typed, if a code may have begun: what comes then is another
+    /// one.
+    fn mark_lull(&mut self) {
+        let has_begun = !self.events.is_empty() || !self.begun.is_empty() || self.has_gap;
+        let is_whole = self.events.len() % LULL_EVENT.len() == 0;
+        if has_begun && is_whole && is_over(self.heard_at, LULL) && !self.events.ends_with(&LULL_EVENT) {
+            self.events.extend_from_slice(&LULL_EVENT);
+        }
+    }
+
     /// Takes key events of Linux: the time, a type, the key and whether it is down.
     fn take_events(&mut self, bytes: &[u8]) {
-        const SIZE: usize = 24;
+        const SIZE: usize = LULL_EVENT.len();
         // SYN_DROPPED, of the type EV_SYN, comes in place of events that nobody read in time.
         const DROPPED: usize = 3;
         self.events.extend_from_slice(bytes);
         let whole = self.events.len() / SIZE * SIZE;
         let events: Vec<u8> = self.events.drain(..whole).collect();
         for event in events.chunks(SIZE) {
+            if event == LULL_EVENT {
+                self.give_up_code();
+                continue;
+            }
             let kind = u16::from_ne_bytes([event[16], event[17]]);
             let key = usize::from(u16::from_ne_bytes([event[18], event[19]]));
             let value = i32::from_ne_bytes([event[20], event[21], event[22], event[23]]);
@@ -920,6 +935,9 @@ impl WedgeScanner {
 
 /// The value of the event of a key that goes down.
 const DOWN: i32 = 1;
+
+/// An event that no keyboard gives: nothing has come for so long that a code which has begun has no end.
+const LULL_EVENT: [u8; 24] = [0xff; 24];
 
 /// A key that types nothing. Some scanners press it in front of keys of the keypad.
 const NUM_LOCK: usize = 69;
@@ -1022,7 +1040,9 @@ impl Driver for WedgeScanner {
         while self.events.len() < MOST_TYPED {
             let count = self.port.cable.read_ahead(&mut room);
             if count == 0 {
-                return Some(file).filter(|_| self.port.cable.waits_at().is_some());
+                self.port.cable.waits_at()?;
+                self.mark_lull();
+                return Some(file);
             }
             self.heard_at = Some(Instant::now());
             self.events.extend_from_slice(&room[..count]);
