@@ -3307,6 +3307,27 @@ def try_keys():
         comes("Enter that is held", "ok 33", 4, (28, 1), (28, 2), (28, 0))
 
 
+def try_keyboard_link():
+    """A link to a keyboard is one, also if it leads there only after the scanner is opened."""
+    if WORDS.preloaded is None:
+        return
+    for is_late in (False, True):
+        name = "a link that leads to a keyboard later" if is_late else "a link to a keyboard"
+        with contextlib.ExitStack() as stack:
+            scanner = stack.enter_context(Scanner(cable()))
+            if is_late:
+                scanner.pull_plug()
+            host = Host(stack, LD_PRELOAD=WORDS.preloaded, KEYBOARD=str(scanner.path))
+            told(f"{name}: the scanner", "ok", host.ask(f"scanner s1 {scanner.path} pause 10"))
+            host.lines("new s Scanner", "open s s1", "claim s 0", "set s DeviceEnabled true")
+            if is_late:
+                told(f"{name}: it is off", "offline 0", host.ask("state s1"))
+                scanner.plug_in()
+            told(f"{name}: it is on", True, until(lambda: host.ask("run 10") and host.ask("state s1") == "online 0"))
+            scanner.types(b"4006381")
+            told(f"{name}: a code", [b"4006381"], scanned(host, 1))
+
+
 def try_silent_host():
     """A host that doesn't answer keeps no other device waiting, and is found once it does."""
     with contextlib.ExitStack() as stack:

@@ -664,7 +664,8 @@ typedef struct kij_display_settings {
 typedef struct kij_scanner_settings {
     /** The type of a code without an AIM identifier, 0 to 999: KIJ_SCAN_SDT_UNKNOWN (0) and the like. */
     int type;
-    /** Whether the device sends key events, whatever its name. A path of /dev/input/.. always does. */
+    /** Whether the device sends key events, whatever its name. A path of /dev/input/.. always does, and so does a link
+     * to one, which may be missing until the port is opened. */
     bool has_keys;
     /** How long to wait before a lost port is tried again, in milliseconds, 0 to 2,147,483,000. */
     int pause;
@@ -747,7 +748,7 @@ kij_result kij_serial_display_open(kij_till *till, const char *device, const cha
  * come for a second, or the port is lost.
  *
  * @param device   the name of a scanner of the profile
- * @param port     /dev/input/.. for a keyboard wedge; else as kij_escpos_printer_open takes it
+ * @param port     /dev/input/.., or a link to it, for a keyboard wedge; else as kij_escpos_printer_open takes it
  * @param settings null is KIJ_SCANNER_SETTINGS
  * @return as kij_escpos_printer_open
  */

@@ -91,12 +91,15 @@ bool kij_internal_is_serial(const kij_serial_settings *serial) {
 
 static bool begins_with(const char *text, const char *front) { return strncmp(text, front, strlen(front)) == 0; }
 
-/* Whether a path is a serial line by its name, or is a link to one. */
-static bool is_line_name(const char *path) {
+/* Whether a path begins so, or is a link to one that does. */
+static bool leads_to(const char *path, const char *front) {
     char found[PATH_MAX];
-    if (begins_with(path, "/dev/tty") || begins_with(path, "/dev/serial/")) return true;
-    return realpath(path, found) != NULL && begins_with(found, "/dev/tty");
+    return begins_with(path, front) || (realpath(path, found) != NULL && begins_with(found, front));
 }
+
+static bool is_line_name(const char *path) { return begins_with(path, "/dev/serial/") || leads_to(path, "/dev/tty"); }
+
+static bool is_keyboard_name(const char *path) { return leads_to(path, "/dev/input/"); }
 
 void kij_internal_port(kij_port *port, const char *name, const kij_serial_settings *serial, bool has_keys) {
     memset(port, 0, sizeof *port);
@@ -104,7 +107,7 @@ void kij_internal_port(kij_port *port, const char *name, const kij_serial_settin
     port->serial = *serial;
     port->file = -1;
     if (begins_with(name, "tcp:")) port->kind = KIJ_PORT_TCP;
-    else if (has_keys || begins_with(name, "/dev/input/")) port->kind = KIJ_PORT_KEYS;
+    else if (has_keys || is_keyboard_name(name)) port->kind = KIJ_PORT_KEYS;
     else port->kind = serial->is_serial || is_line_name(name) ? KIJ_PORT_SERIAL : KIJ_PORT_FILE;
 }
 
@@ -377,8 +380,9 @@ static int open_tcp(kij_port *port, int64_t time, int *file) {
 bool kij_internal_port_open(kij_port *port, int64_t time) {
     int file = -1;
     if (port->file >= 0) return true;
-    /* A link to a serial line may have been missing before. */
+    /* A link to a serial line or to a keyboard may have been missing before. */
     if (port->kind == KIJ_PORT_FILE && is_line_name(port->name)) port->kind = KIJ_PORT_SERIAL;
+    if (port->kind == KIJ_PORT_FILE && is_keyboard_name(port->name)) port->kind = KIJ_PORT_KEYS;
     int why = port->kind == KIJ_PORT_TCP ? open_tcp(port, time, &file) : open_file(port, &file);
     /* What a connection that is being made comes to isn't known yet. */
     if (why == EINPROGRESS) why = port->error == 0 ? ETIMEDOUT : port->error;

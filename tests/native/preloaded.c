@@ -6,6 +6,7 @@
    STOPS     Once it is there, the program is stopped (SIGSTOP) where it has waited and nothing has come. It is removed.
    HELD      While it is there, a few bytes haven't left a serial line yet.
    DELAYED   While it is there, nothing is sent over a connection.
+   KEYBOARD  It is a link to a keyboard.
    SUSPENDED While it is there, the machine has been suspended for 15 seconds. */
 #define _GNU_SOURCE
 #include <poll.h>
@@ -13,6 +14,7 @@
 #include <stdarg.h>
 #include <stdio.h>
 #include <stdlib.h>
+#include <string.h>
 #include <sys/file.h>
 #include <sys/ioctl.h>
 #include <sys/socket.h>
@@ -42,6 +44,19 @@ ssize_t send(int file, const void *bytes, size_t size, int flags) {
     const char *path = getenv("DELAYED");
     while (path != NULL && access(path, F_OK) == 0) (void)usleep(1000);
     return syscall(SYS_sendto, file, bytes, size, flags, NULL, 0);
+}
+
+char *realpath(const char *path, char *found) {
+    const char *keyboard = getenv("KEYBOARD");
+    char *real = canonicalize_file_name(path);
+    if (real != NULL && keyboard != NULL && strcmp(path, keyboard) == 0) {
+        free(real);
+        real = strdup("/dev/input/event99");
+    }
+    if (real == NULL || found == NULL) return real;
+    strcpy(found, real);
+    free(real);
+    return found;
 }
 
 int clock_gettime(clockid_t clock, struct timespec *now) {

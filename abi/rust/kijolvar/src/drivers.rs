@@ -797,8 +797,8 @@ pub struct WedgeScanner {
 }
 
 impl WedgeScanner {
-    /// Returns a driver for the scanner at a port, /dev/input/.. for a keyboard wedge. It opens it once it drives a
-    /// device, and looks for it each second after it was lost.
+    /// Returns a driver for the scanner at a port, /dev/input/.., or a link to it, for a keyboard wedge. It opens it once
+    /// it drives a device, and looks for it each second after it was lost.
     pub fn open(device: impl Into<Port>) -> WedgeScanner {
         let port = Reopened::new(Cable::of_scanner(device.into()), Duration::from_secs(1));
         WedgeScanner {

@@ -58,8 +58,8 @@ impl Default for SerialSettings {
 #[derive(Debug, Clone, PartialEq, Eq)]
 #[non_exhaustive]
 pub enum Port {
-    /// A device file that takes bytes as they are, such as /dev/usb/lp0. If it is a link to a serial line when it is
-    /// opened, it is a [`Port::Line`] from then on.
+    /// A device file that takes bytes as they are, such as /dev/usb/lp0. If it is a link to a serial line or to a
+    /// keyboard when it is opened, it is a [`Port::Line`] or [`Port::Keys`] from then on.
     File(PathBuf),
     /// A serial line by the usual settings of its device: those of [`SerialSettings::default`], but [`Flow::None`] for
     /// a display, which answers nothing and whose cable often has no CTS. No other program gets a serial line meanwhile,
@@ -83,8 +83,8 @@ impl Port {
     /// An address of IPv6 is in brackets: `tcp:[::1]:9100`.
     ///
     /// A path of /dev/tty.. or /dev/serial/.. is a serial line by its device's usual settings ([`Port::Line`]), as is a
-    /// link to one. A path of /dev/input/.. is a keyboard. [`Till::drive`](crate::Till::drive) refuses a host that
-    /// can't be one, such as that of `tcp:192.168.1.9:91OO`, whose number is misspelt.
+    /// link to one. A path of /dev/input/.., or a link to one, is a keyboard. [`Till::drive`](crate::Till::drive)
+    /// refuses a host that can't be one, such as that of `tcp:192.168.1.9:91OO`, whose number is misspelt.
     ///
     /// ```
     /// use kijolvar::Port;
@@ -104,7 +104,7 @@ impl Port {
         let path = Path::new(name);
         if is_line_name(path) || name.starts_with("/dev/serial/") || is_line_link(path) {
             Port::Line(name.into())
-        } else if name.starts_with("/dev/input/") {
+        } else if is_keyboard(path) {
             Port::Keys(name.into())
         } else {
             Port::File(name.into())
@@ -194,6 +194,11 @@ fn is_line_name(path: &Path) -> bool {
 /// Whether a path is a link to a serial line that is there.
 fn is_line_link(path: &Path) -> bool {
     !is_line_name(path) && std::fs::canonicalize(path).is_ok_and(|path| is_line_name(&path))
+}
+
+/// Whether a path is a keyboard's by its name, or a link to one that is there.
+fn is_keyboard(path: &Path) -> bool {
+    path.starts_with("/dev/input") || std::fs::canonicalize(path).is_ok_and(|path| path.starts_with("/dev/input"))
 }
 
 /// How often is read at once what has come, so that it ends though the device sends on and on.
@@ -632,12 +637,14 @@ impl Cable {
         self.stream.is_some()
     }
 
-    /// A link may have been missing when the port was named: whether it is to a serial line is known once it is there.
+    /// A link may have been missing when the port was named: whether it is to a serial line or to a keyboard is known
+    /// once it is there.
     fn take_up_link(&mut self) {
-        if let Port::File(path) = &self.port {
-            if is_line_link(path) {
-                self.port = Port::Line(path.clone());
-            }
+        let Port::File(path) = &self.port else { return };
+        if is_line_link(path) {
+            self.port = Port::Line(path.clone());
+        } else if is_keyboard(path) {
+            self.port = Port::Keys(path.clone());
         }
     }
 
