@@ -206,7 +206,8 @@ install_documents() {
   cp "$top/abi/README.md" "$doc/abi"
   cp "$top/packaging/README.md" "$doc/packaging"
   cp "$top"/examples/* "$doc/examples"
-  cp "$top"/abi/page/* "$data/page"
+  # Python leaves a folder there once the page was served.
+  cp "$top"/abi/page/*.* "$data/page"
   cp "$top/abi/python/till.py" "$top/abi/python/standard.py" "$data/python"
   cp "$top"/tests/scripts/* "$data/scripts"
   cp -r "$top/tests/emulator" "$data"

@@ -254,12 +254,15 @@ lay_earlier() {
   printf '%s\n' share/kijolvar/gone/one share/kijolvar/gone bin ../outside > "$work/prefix/share/kijolvar/installed"
 }
 
-# try_install: tools/install lays out the same files as the archive, over those of an earlier version
+# try_install: tools/install lays out the same files as the archive, over those of an earlier version, also from a
+# checkout whose page was served, where Python has left a folder
 try_install() {
-  local place
+  local place left=$top/abi/page/__pycache__
   lay_earlier
+  mkdir -p "$left"
   "$top/tools/install" "$work/prefix" > "$work/said" 2>&1
   told "tools/install" 0 "$?"
+  rmdir --ignore-fail-on-non-empty "$left"
   told "tools/install leaves a file that is in use" old "$(cat "$work/in_use")"
   told "tools/install leaves the mode of a folder" 2775 "$(stat -c %a "$work/prefix/bin")"
   told "tools/install leaves a link to a folder" elsewhere "$(readlink "$work/prefix/share")"
@@ -391,7 +394,7 @@ try_readme() {
   runs "the commands by which packaging.md checks a release" sh -e check.sh
 }
 
-# try_cmake: find_package with both targets, and a version that is refused
+# try_cmake: find_package with both targets, also by a link to the libraries alone, and a version that is refused
 try_cmake() {
   local project=$outside/cmake target
   mkdir -p "$project"
@@ -410,6 +413,10 @@ PROJECT
   for target in kijolvar static; do
     sells "the sale by CMake's target $target" "cmake/build/sale_$target"
   done
+  mkdir "$outside/linked"
+  ln -s "../${tree##*/}/lib" "$outside/linked/lib"
+  apart cmake -S cmake -B cmake/linked -DWANTED=0.1 "-DCMAKE_PREFIX_PATH=$inside/linked" > "$work/said" 2>&1
+  runs "cmake builds by a link to lib" cmake --build cmake/linked
   apart cmake -S cmake -B cmake/other -DWANTED=99 "-DCMAKE_PREFIX_PATH=$inside/${tree##*/}" > "$work/said" 2>&1
   told "cmake refuses another MAJOR" 1 "$?"
 }
