@@ -637,8 +637,8 @@ static void add_byte(kij_drive *drive, uint8_t byte) {
     if (drive->begun_size <= LONGEST_CODE) drive->begun_size++;
 }
 
-/* The type of a key event, and the code of an event of type 0 that says that events were lost. The system gives no event
-   of the last type: it marks that nothing has come for so long that a code which has begun has no end. */
+/* The type of a key event, and the code of an event of type 0 that says that events were lost. The system gives no
+   event of the last type: it marks that nothing has come for so long that a code which has begun has no end. */
 enum { KEY_EVENT = 1, EVENTS_LOST = 3, LULL_EVENT = 0xffff, EVENT_SIZE = 24 };
 
 /* The first key with a character and how many there are, and those of the keypad. */

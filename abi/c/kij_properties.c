@@ -146,7 +146,9 @@ static const char *said_by_system(int why) {
     switch (why) {
     case EWOULDBLOCK: return "The file of the totals is in use: close the other program that has it open.";
     case ENOENT: return "The file of the totals isn't there. If it was to be created, its folder isn't, or /proc.";
-    case EEXIST: return "The file of the totals is there already.";
+    case EEXIST:
+        return "The file of the totals is there already. Of a copy, this may be the file beside it with .part at its "
+               "end: remove that if no other program makes the copy.";
     default: return own_words(why);
     }
 }

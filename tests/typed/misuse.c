@@ -40,7 +40,8 @@ static void said_by_system(void) {
         {ENOSPC, "No space left on device"},
         {EWOULDBLOCK, "The file of the totals is in use: close the other program that has it open."},
         {ENOENT, "The file of the totals isn't there. If it was to be created, its folder isn't, or /proc."},
-        {EEXIST, "The file of the totals is there already."},
+        {EEXIST, "The file of the totals is there already. Of a copy, this may be the file beside it with .part at its "
+                 "end: remove that if no other program makes the copy."},
         {0, "The system refused the file of the totals; the extended code is errno."},
         {-5, "The system refused the file of the totals; the extended code is errno."},
         {99999, "The system refused the file of the totals; the extended code is errno."},

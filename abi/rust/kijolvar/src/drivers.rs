@@ -875,7 +875,7 @@ impl WedgeScanner {
     /// one.
     fn mark_lull(&mut self) {
         let has_begun = !self.events.is_empty() || !self.begun.is_empty() || self.has_gap;
-        let is_whole = self.events.len() % LULL_EVENT.len() == 0;
+        let is_whole = self.events.len().is_multiple_of(LULL_EVENT.len());
         if has_begun && is_whole && is_over(self.heard_at, LULL) && !self.events.ends_with(&LULL_EVENT) {
             self.events.extend_from_slice(&LULL_EVENT);
         }

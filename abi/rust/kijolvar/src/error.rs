@@ -216,12 +216,19 @@ impl fmt::Display for Cause {
     }
 }
 
+/// Why no copy is made where another one is, or what is left of one.
+const COPY_IS_THERE: &str = "backup: the copy is there already, or the file beside it with .part at its end: remove \
+                             that if no other program makes the copy";
+
 impl fmt::Display for Error {
     fn fmt(&self, out: &mut fmt::Formatter<'_>) -> fmt::Result {
         match (&self.cause, self.reason) {
             (Cause::Code(code), Some(reason)) => write!(out, "{}: {}: {reason}", self.call, code.name()),
             (Cause::Extended(code), Some(reason)) => {
                 write!(out, "{}: E_EXTENDED, {}: {reason}", self.call, code.name())
+            }
+            (Cause::System(cause), _) if self.call == "backup" && cause.kind() == io::ErrorKind::AlreadyExists => {
+                out.write_str(COPY_IS_THERE)
             }
             (cause, _) => write!(out, "{}: {cause}", self.call),
         }

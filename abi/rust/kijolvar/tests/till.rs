@@ -207,7 +207,9 @@ fn a_file_is_copied_while_a_till_has_it() {
     std::fs::remove_file(&copy).unwrap();
     // A crash has left it.
     std::fs::write(&part, "").unwrap();
-    assert_eq!(kind(backup(place.file(), &copy)), Some(ErrorKind::AlreadyExists));
+    let error = backup(place.file(), &copy).unwrap_err();
+    assert_eq!(system_kind(&error), Some(ErrorKind::AlreadyExists));
+    assert!(error.to_string().contains("with .part at its end: remove that"), "{error}");
     std::fs::remove_file(&part).unwrap();
     assert_eq!(kind(backup(place.file(), "/nowhere/at/all")), Some(ErrorKind::NotFound));
     drop(totals);
