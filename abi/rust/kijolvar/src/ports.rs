@@ -484,9 +484,9 @@ pub(crate) struct Cable {
     was_empty: bool,
     /// Why it couldn't be opened or was lost the last time, as the system's number (errno).
     pub(crate) fault: Option<c_int>,
-    /// Those of a TCP port's host, and what a thread will say that opens the port.
+    /// Those of a TCP port's host, and what a thread of a process will say that opens the port.
     addresses: Addresses,
-    opening: Option<Opening>,
+    opening: Option<(Opening, u32)>,
 }
 
 /// The port was lost. It is closed then, unless a write has found that.
@@ -572,9 +572,9 @@ impl Cable {
         self.stream.is_some()
     }
 
-    /// Whether a thread opens the port, of which `open` will hear.
+    /// Whether a thread opens the port, of which `open` will hear. A process that was forked hasn't the thread.
     pub(crate) fn is_opening(&self) -> bool {
-        self.opening.is_some()
+        self.opening.as_ref().is_some_and(|(_, process)| *process == std::process::id())
     }
 
     pub(crate) fn file(&self) -> Option<RawFd> {
@@ -592,9 +592,14 @@ impl Cable {
 
     /// Opens a TCP port by a thread, for which the call that begins it waits at most so long. Later ones hear of it.
     fn open_tcp(&mut self, host: String, port: u16, time: Duration) -> io::Result<TcpStream> {
+        let is_own = self.is_opening();
         let (opening, time) = match self.opening.take() {
-            Some(opening) => (opening, Duration::ZERO),
-            None => (begin_tcp(host, port, std::mem::take(&mut self.addresses), time.max(ANSWERS))?, time),
+            Some((opening, _)) if is_own => (opening, Duration::ZERO),
+            other => {
+                // The thread may have been sending as its process was forked: nobody may wait for that.
+                std::mem::forget(other);
+                (begin_tcp(host, port, std::mem::take(&mut self.addresses), time.max(ANSWERS))?, time)
+            }
         };
         match opening.recv_timeout(time) {
             Ok((addresses, stream)) => {
@@ -602,7 +607,7 @@ impl Cable {
                 set_up_tcp(stream?, self.is_patient)
             }
             Err(RecvTimeoutError::Timeout) => {
-                self.opening = Some(opening);
+                self.opening = Some((opening, std::process::id()));
                 Err(ErrorKind::TimedOut.into())
             }
             Err(RecvTimeoutError::Disconnected) => Err(ErrorKind::HostUnreachable.into()),
@@ -1084,24 +1089,52 @@ mod tests {
         assert_eq!(number_of(&fault), EHOSTUNREACH);
     }
 
-    #[test]
-    fn an_address_that_says_nothing_leaves_time_to_the_others() {
+    /// A host that says nothing, since its queue is full: its listener and what is in the queue.
+    fn silent_host() -> (TcpListener, Vec<TcpStream>) {
         extern "C" {
             fn listen(file: c_int, count: c_int) -> c_int;
         }
-        let (silent, other) = (TcpListener::bind("127.0.0.1:0").unwrap(), TcpListener::bind("127.0.0.1:0").unwrap());
-        let addresses = [&silent, &other].map(|listener| listener.local_addr().unwrap());
+        let silent = TcpListener::bind("127.0.0.1:0").unwrap();
         // SAFETY: the socket is open.
         assert_eq!(unsafe { listen(silent.as_raw_fd(), 0) }, 0);
-        // Once its queue is full, it says nothing.
         let mut queue = Vec::new();
-        while let Ok(stream) = TcpStream::connect_timeout(&addresses[0], SOON) {
+        while let Ok(stream) = TcpStream::connect_timeout(&silent.local_addr().unwrap(), SOON) {
             queue.push(stream);
         }
+        (silent, queue)
+    }
+
+    #[test]
+    fn an_address_that_says_nothing_leaves_time_to_the_others() {
+        let ((silent, _queue), other) = (silent_host(), TcpListener::bind("127.0.0.1:0").unwrap());
+        let addresses = [&silent, &other].map(|listener| listener.local_addr().unwrap());
         let began = Instant::now();
         let found = connect_to_any(&addresses, end_after(SOON * 8)).unwrap();
         assert_eq!(found.peer_addr().unwrap(), addresses[1]);
         assert!(began.elapsed() < SOON * 8);
+    }
+
+    #[test]
+    fn a_forked_process_opens_a_port_by_a_thread_of_its_own() {
+        extern "C" {
+            fn fork() -> c_int;
+            fn waitpid(process: c_int, status: *mut c_int, options: c_int) -> c_int;
+            fn _exit(status: c_int) -> !;
+        }
+        let ((silent, _queue), other) = (silent_host(), TcpListener::bind("127.0.0.1:0").unwrap());
+        let mut cable = Cable::new(silent.local_addr().unwrap().into());
+        assert!(!cable.open(Duration::from_millis(1)) && cable.is_opening());
+        let mut status = -1;
+        // SAFETY: the forked process ends here, and this one waits for it.
+        unsafe {
+            let child = fork();
+            if child == 0 {
+                cable.port = other.local_addr().unwrap().into();
+                _exit(c_int::from(cable.is_opening() || !cable.open(SOON * 20)));
+            }
+            assert_eq!(waitpid(child, &mut status, 0), child);
+        }
+        assert!(status == 0 && cable.is_opening());
     }
 
     #[test]
