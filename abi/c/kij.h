@@ -826,7 +826,7 @@ typedef struct kij_driver_view {
     /** Whether its port is open, and a printer answers. */
     bool is_online;
     /** Why the port couldn't be opened or was lost the last time (errno); 0 if neither ever happened. EBUSY is a serial
-     * line that another till or program has open. */
+     * line that another till or program has open. EHOSTUNREACH may be a host whose name isn't found. */
     int port_error;
     /** How many orders a printer has printed after they had failed, and weren't asked for again: another order came
      * next, or the application gave them up. It had got them before it stopped, and there is no command that takes them
