@@ -246,6 +246,9 @@ def main():
             port = int(address.rstrip("/").rsplit(":", 1)[1])
             for trial in (silent, claims, strangers):
                 trial(port)
+            second = subprocess.run([*words[:-1], str(port)], capture_output=True, text=True)
+            told("a port that is in use", (1, f"port {port} can't be used"),
+                 (second.returncode, second.stderr.partition(" (")[0]))
         finally:
             server.terminate()
     print(f"{passed} passed, {failed} failed")

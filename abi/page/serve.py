@@ -79,13 +79,21 @@ class Handler(http.server.BaseHTTPRequestHandler):
         """Nothing is logged: the page shows what was asked."""
 
 
+def listening(port):
+    """The server at a port."""
+    try:
+        return http.server.HTTPServer(("127.0.0.1", port), Handler)
+    except (OSError, OverflowError) as fault:
+        sys.exit(f"port {port} can't be used ({fault}): give another one, or 0 for a free one")
+
+
 def main():
     if len(sys.argv) not in (2, 3):
         sys.exit(__doc__)
     with open(os.path.join(HERE, "profile.toml"), encoding="utf-8") as profile:
         text = profile.read()
     port = int(sys.argv[2]) if len(sys.argv) == 3 else 8080
-    with Shop(load(sys.argv[1]), text) as shop, http.server.HTTPServer(("127.0.0.1", port), Handler) as server:
+    with Shop(load(sys.argv[1]), text) as shop, listening(port) as server:
         server.shop = shop
         print(f"http://127.0.0.1:{server.server_address[1]}/", flush=True)
         try:
