@@ -1043,7 +1043,8 @@ def try_totals():
     told("creating it again", ("FileExistsError", f"[Errno 17] File exists: {str(path)!r}"),
          (type(fault).__name__, str(fault)))
     fault = raised(kijolvar.create_totals, "/proc/till.totals", LIBRARY)
-    told("where nothing can be created", (True, "/proc/till.totals"), (isinstance(fault, OSError), fault.filename))
+    told("where nothing can be created", (errno.EOPNOTSUPP, "/proc/till.totals", True),
+         (fault.errno, fault.filename, fault.strerror.endswith("by pos_console format --disk FILE")))
     new = WORK / "new.totals"
     for number in (errno.ENOSPC, errno.EIO):
         with mock.patch("kijolvar._files.write_whole", side_effect=OSError(number, os.strerror(number))):

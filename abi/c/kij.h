@@ -106,7 +106,8 @@ enum kij_code {
      * kij.h: a program compares KIJ_VERSION with kij_version() itself. */
     KIJ_WRONG_VERSION = 32,
     /** The system refused a call on the file of the totals. The extended code is errno: ENOENT if the file is missing,
-     * or its folder or /proc to create it; EEXIST if it is there already, EWOULDBLOCK if another till has it. */
+     * or its folder or /proc to create it; EEXIST if it is there already, EWOULDBLOCK if another till has it,
+     * EOPNOTSUPP if it can't be created on its file system (abi/README.md, "Totals files"). */
     KIJ_SYSTEM = 33,
     /** An argument can't be passed on: a null pointer, a flag that isn't one, a name that isn't 1 to 16 letters, digits
      * or hyphens, a number of more than 18 digits, or bytes that are too many for a line (69,000 always fit). */

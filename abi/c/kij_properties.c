@@ -149,6 +149,8 @@ static const char *said_by_system(int why) {
     case EEXIST:
         return "The file of the totals is there already. Of a copy, this may be the file beside it with .part at its "
                "end: remove that if no other program makes the copy.";
+    case EOPNOTSUPP:
+        return "The file system can't do that: totals are created there by pos_console format --disk FILE.";
     default: return own_words(why);
     }
 }

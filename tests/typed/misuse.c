@@ -40,6 +40,7 @@ static void said_by_system(void) {
         {ENOSPC, "No space left on device"},
         {EWOULDBLOCK, "The file of the totals is in use: close the other program that has it open."},
         {ENOENT, "The file of the totals isn't there. If it was to be created, its folder isn't, or /proc."},
+        {EOPNOTSUPP, "The file system can't do that: totals are created there by pos_console format --disk FILE."},
         {EEXIST, "The file of the totals is there already. Of a copy, this may be the file beside it with .part at its "
                  "end: remove that if no other program makes the copy."},
         {0, "The system refused the file of the totals; the extended code is errno."},
@@ -449,6 +450,8 @@ static void backups(const char *path) {
     snprintf(part, sizeof part, "%s.copy.part", path);
     remove(path);
     gives("a copy of no file", KIJ_SYSTEM, kij_backup(path, copy));
+    kij_result result = kij_open(NULL, "/proc/totals", KIJ_CREATE_NEW, &till);
+    wants("no unnamed files", result.code == KIJ_SYSTEM && result.extended == EOPNOTSUPP);
     succeeds("a till", kij_open(NULL, path, KIJ_CREATE_NEW, &till));
     succeeds("totals", kij_start(till, KIJ_HARD_TOTALS, "t1", KIJ_UNCLAIMED, &totals));
     succeeds("a file", kij_totals_create(totals, "A", 1, 2, false, &handle));
@@ -456,7 +459,7 @@ static void backups(const char *path) {
     succeeds("a copy while a till has it", kij_backup(path, copy));
     wants("no part is left", is_there(copy, "") && !is_there(part, ""));
     succeeds("other bytes", kij_totals_write(totals, handle, 0, "DE", 2));
-    kij_result result = kij_backup(path, copy);
+    result = kij_backup(path, copy);
     wants("a copy is there", result.code == KIJ_SYSTEM && result.extended == EEXIST && !is_there(part, ""));
     succeeds("what it holds", kij_files(copy, text, sizeof text, &needed, &place));
     wants("its bytes", strstr(text, "\nfile 41\nname A\nsize 2\nhex 4243\n") != NULL);

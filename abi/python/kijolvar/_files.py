@@ -121,8 +121,7 @@ def create_totals(library: ctypes.CDLL, path: Path, profile: bytes = b"") -> Bin
     """
     name = os.fspath(path)
     with contextlib.ExitStack() as undo, _folder(name) as folder, naming(name):
-        unnamed = os.open(".", os.O_RDWR | os.O_TMPFILE, 0o600, dir_fd=folder)
-        totals = undo.enter_context(open(unnamed, "r+b", buffering=0))
+        totals = undo.enter_context(open(_unnamed(folder), "r+b", buffering=0))
         _lock(totals, name)
         # All of its bytes are written, so that a disk without room for them fails now, and not later.
         write_whole(totals.fileno(), bytes(KIJOLVAR_DISK_LENGTH), 0)
@@ -132,6 +131,17 @@ def create_totals(library: ctypes.CDLL, path: Path, profile: bytes = b"") -> Bin
         os.fsync(folder)
         undo.pop_all()
     return totals
+
+
+def _unnamed(folder: int) -> int:
+    """A file without a name in a folder, as a descriptor."""
+    try:
+        return os.open(".", os.O_RDWR | os.O_TMPFILE, 0o600, dir_fd=folder)
+    except OSError as fault:
+        if fault.errno != errno.EOPNOTSUPP:
+            raise
+        why = "the file system can't do that: totals are created there by pos_console format --disk FILE"
+        raise OSError(fault.errno, why) from None
 
 
 def move_totals(library: ctypes.CDLL, path: Path) -> None:

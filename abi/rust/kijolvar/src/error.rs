@@ -171,6 +171,9 @@ impl fmt::Display for Cause {
             Cause::System(cause) if cause.kind() == io::ErrorKind::AlreadyExists => {
                 "the file of the totals is there already"
             }
+            Cause::System(cause) if cause.kind() == io::ErrorKind::Unsupported => {
+                "the file system can't do that: totals are created there by pos_console format --disk FILE"
+            }
             Cause::System(cause) => return write!(out, "{cause}"),
             Cause::BadAnswer(text) => return write!(out, "the library answered something unknown: {text}"),
             Cause::BadProfile(mistake) => return write!(out, "the profile is refused: {mistake}"),

@@ -96,6 +96,9 @@ fn totals_stay_in_their_file() {
     let missing = Till::open(BUILT_PROFILE, Totals::existing(place.file())).unwrap_err();
     assert_eq!(system_kind(&missing), Some(ErrorKind::NotFound));
     assert!(missing.to_string().starts_with("Till::open: the file of the totals isn't there; "), "{missing}");
+    let unnamed = Till::open(BUILT_PROFILE, Totals::create("/proc/totals")).unwrap_err();
+    assert_eq!(system_kind(&unnamed), Some(ErrorKind::Unsupported));
+    assert!(unnamed.to_string().ends_with("by pos_console format --disk FILE"), "{unnamed}");
     let refused = Till::open("nonsense", Totals::create(place.file())).unwrap_err();
     let Cause::BadProfile(mistake) = refused.cause() else { panic!("{refused}") };
     assert!(mistake.reason.starts_with("not TOML: ") && mistake.place == Some((1, 9)), "{mistake}");
