@@ -747,7 +747,7 @@ impl Cable {
             if unsafe { ioctl(file, TIOCOUTQ, &mut left as *mut c_int) } != 0 {
                 let fault = io::Error::last_os_error();
                 // What is no terminal has no such number, and a lost line has it no more.
-                let is_other = fault.raw_os_error() == Some(ENOTTY);
+                let is_other = matches!(fault.raw_os_error(), Some(ENOTTY | EINVAL));
                 if !is_other {
                     self.fault = Some(number_of(&fault));
                     self.close();
@@ -1072,6 +1072,16 @@ mod tests {
         cable.write(b"unsent").unwrap();
         drop(device);
         assert!(!cable.is_drained(end_after(SOON), || {}) && !cable.is_open());
+    }
+
+    #[test]
+    fn what_is_no_line_is_drained() {
+        // The first refuses the question as one for terminals, and the second as unknown.
+        for path in ["/dev/null", "/dev/urandom"] {
+            let mut cable = Cable::new(Port::Serial(path.into(), SerialSettings::default()));
+            assert!(cable.open(SOON) && cable.write(b"sent").is_ok());
+            assert!(cable.is_drained(end_after(SOON), || {}) && cable.is_open(), "{path}");
+        }
     }
 
     #[test]
