@@ -281,7 +281,8 @@ fn hint_of_words(fault: &WordsFault) -> &'static str {
 // What to do about a fault of a totals file.
 fn hint_of_file(cause: &FileFault) -> &'static str {
     match cause {
-        FileFault::InUse => "a till that runs locks its totals file: stop it first (`fuser -v FILE` lists who has it)",
+        FileFault::InUse =>
+            "a till that runs locks its totals file: stop it first (`fuser -v FILE` lists who has it)",
         FileFault::Unsteady =>
             "`backup` works beside a till that runs, if it doesn't write all the time",
         FileFault::Open(_) | FileFault::Unreadable(_) | FileFault::Folder(_) => {
