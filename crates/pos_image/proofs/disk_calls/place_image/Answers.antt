@@ -6,6 +6,14 @@ use Rattle.pos_image.proofs.disk_calls.place_image.Goals as goal
 
 -- what is searched for holds also where the disk is looked at before the gate is closed: so must-fail edits have twins
 
+pub returns-in_err-close_gate-clause-any_moment : goal.returns-in_err-close_gate-clause-any_moment
+returns-in_err-close_gate-clause-any_moment g c honest =
+    let s0 = g.D.Disk.state c.args.disk.now in
+    let closing : CrashClosing (start c.args.image.now.slot) s0 (g.D.Disk.state c.close_gate.new.disk) =
+    first_of (search rules, grind (arith, common_steps) steps 300000) in
+    weaker s0 _ _ _ (λ f same. closing_stages c.args.image.now.slot s0.loose s0.reading f (c.requires.gate honest) same)
+    closing
+
 pub returns-clause-any_moment : goal.returns-clause-any_moment
 returns-clause-any_moment g c honest =
     let s0 = g.D.Disk.state c.args.disk.now in
