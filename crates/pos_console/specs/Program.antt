@@ -156,7 +156,7 @@ DoesAsRead files closer below mirrors them text (Err why) streams result =
 
 -- The whole program, by its words, its files, how its reader and its writer stood before and after, and the status
 -- that it ends with.
-pub record Performs {F B S A : Type 0} (files : Ghosts F B) (closer : CloserGhosts F) (below : FileGhosts B)
+pub record RunsProgram {F B S A : Type 0} (files : Ghosts F B) (closer : CloserGhosts F) (below : FileGhosts B)
     (mirrors : DiskGhosts (Mirror (FileDisk B))) (them : F) (text : S → List ℕ)
     (words : Result (Vec S A) ChoiceFault) (streams : Streams) (status : ℕ) : Type 0 where
   pub outcome : Result (Unit {0}) Fault

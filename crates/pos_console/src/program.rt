@@ -3,7 +3,7 @@ ghost use Rattle.std.specs.Prelude.{◌≡◌, map};
 ghost use Rattle.std.specs.Process.{exit_status};
 ghost use Rattle.pos_program.specs.Faults.{status_of};
 ghost use Rattle.pos_run.specs.Streams.{streams_of};
-ghost use Rattle.pos_console.specs.Program.{Does, DoesAsAsked, EndsAtDisk, EndsFormat, EndsMove, Performs, RunsFiles};
+ghost use Rattle.pos_console.specs.Program.{Does, DoesAsAsked, EndsAtDisk, EndsFormat, EndsMove, RunsFiles, RunsProgram};
 ghost use Rattle.pos_console.specs.Program.{fault_of_run};
 
 use crate::file_closer::FileCloser;
@@ -136,7 +136,7 @@ pub fn perform<F: NamedFiles + FileCloser, E: Eprint, S: AsStr + Drop, R: Source
     writer: &mut AnswerWriter<W>,
     words: Result<Vec<S>, ChoiceFault>,
 ) -> ExitCode
-    ensures { Performs F.NamedFiles F.FileCloser ⟦<F::File as BlockFile>⟧ ⟦<TotalsDisk<F::File> as Disk>⟧ files.now
+    ensures { RunsProgram F.NamedFiles F.FileCloser ⟦<F::File as BlockFile>⟧ ⟦<TotalsDisk<F::File> as Disk>⟧ files.now
         S.text words (streams_of R.Source reader.old reader.new W.Sink writer.old writer.new) (exit_status result) }
 {
     match words {

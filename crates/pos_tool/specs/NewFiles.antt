@@ -41,11 +41,11 @@ PutsSalvaged system folder below them later to made old new result =
     × PrintsLost to made.lost.items answer old new result
 
 -- what becomes of what was salvaged, or of damaged bytes of which nothing can be had
-abbrev pub PutsMade : {S F : Type 0} → SystemGhosts S F → FolderGhosts S → FileGhosts F → S → S → List ℕ → List ℕ
+abbrev pub EndsSalvage : {S F : Type 0} → SystemGhosts S F → FolderGhosts S → FileGhosts F → S → S → List ℕ → List ℕ
     → Result Salvaged SurveyFault → Output → Output → Result Finding Fault → Type 0
-PutsMade system folder below them later from to (Ok made) old new result =
+EndsSalvage system folder below them later from to (Ok made) old new result =
     PutsSalvaged system folder below them later to made old new result
-PutsMade system folder below them later from to (Err cause) old new result =
+EndsSalvage system folder below them later from to (Err cause) old new result =
     EndsUnsound from cause result × (new ≡ old) × (later ≡ them)
 
 -- what is made of damaged bytes: a file with the bytes that were salvaged
@@ -53,7 +53,7 @@ abbrev pub SalvagesBytes : {S F : Type 0} → SystemGhosts S F → FolderGhosts 
     → List ℕ → Output → Output → Result Finding Fault → Type 0
 SalvagesBytes system folder below them later from to bytes old new result =
     (made : Result Salvaged SurveyFault) × MakesSalvage bytes made
-    × PutsMade system folder below them later from to made old new result
+    × EndsSalvage system folder below them later from to made old new result
 
 -- what is made of damaged totals that were only read, whose file was closed before; or why they can't be read
 abbrev pub SalvagesOpened : {S F : Type 0} → SystemGhosts S F → FolderGhosts S → FileGhosts F → S → S → List ℕ → List ℕ

@@ -184,7 +184,7 @@ DoesAsRead DoesWords text (Err why) it later old new result =
 
 -- The whole program, by its words, its files, the file system that they are in, before and after, its pages, which of
 -- its streams are terminals, how its input and its output stood before and after, and the status that it ends with.
-pub record Performs {F B S G T A : Type 0} (files : Ghosts F B) (below : FileGhosts B)
+pub record RunsProgram {F B S G T A : Type 0} (files : Ghosts F B) (below : FileGhosts B)
     (mirrors : DiskGhosts (Mirror (FileDisk B))) (memories : DiskGhosts Memory) (them : F) (system : SystemGhosts S G)
     (folder : FolderGhosts S) (under : FileGhosts G) (it later : S) (pages : Pages) (terminals : Terminals)
     (text : T → List ℕ) (words : Result (Vec T A) ChoiceFault) (old new : Streams) (ended : ℕ) : Type 0 where

@@ -3,7 +3,7 @@ ghost use Rattle.std.specs.Prelude.{IfErr, IfOk};
 ghost use Rattle.pos_program.specs.Answers.{bytes_of};
 ghost use Rattle.pos_tool.specs.Copies.{BacksUp, ChecksSound, CopiesTo, EndsCopy, IsUnread, IsUnreadTwice, PutsBack};
 ghost use Rattle.pos_tool.specs.Copies.{ReadsFront, ReadsSteady, ReadsTwice, Restores, TakesSnapshot, lent};
-ghost use Rattle.pos_tool.specs.NewFiles.{Loads, LoadsText, MakesLoad, MakesSalvage, PutsMade, PutsSalvaged, Salvages};
+ghost use Rattle.pos_tool.specs.NewFiles.{EndsSalvage, Loads, LoadsText, MakesLoad, MakesSalvage, PutsSalvaged, Salvages};
 ghost use Rattle.pos_tool.specs.Surveys.{EndsAtFile};
 ghost use Rattle.pos_program.specs.declared.file_fault.FileFault.TheVariants.{Unreadable};
 ghost use Rattle.pos_shell.specs.Outputs.{output_of};
@@ -219,14 +219,14 @@ fn put_salvaged<'a, S: FileSystem + Folder + AllocGlobal, W: Sink>(
 }
 
 // Makes a file of what was salvaged, if anything could be had of the damaged totals at a path.
-fn put_made<'a, S: FileSystem + Folder + AllocGlobal, W: Sink>(
+fn end_salvage<'a, S: FileSystem + Folder + AllocGlobal, W: Sink>(
     system: &mut S,
     writer: &mut W,
     from: &'a str,
     made: Result<Salvaged, SurveyFault>,
     to: &'a str,
 ) -> Result<Finding, Fault<'a>>
-    ensures { PutsMade S.FileSystem S.Folder ⟦<S::File as BlockFile>⟧ system.old system.new from.entry.now
+    ensures { EndsSalvage S.FileSystem S.Folder ⟦<S::File as BlockFile>⟧ system.old system.new from.entry.now
         to.entry.now made (output_of W.Sink writer.old) (output_of W.Sink writer.new) result }
 {
     match made {
@@ -255,7 +255,7 @@ pub(crate) fn salvage<'a, S: FileSystem + Folder + AllocGlobal, W: Sink>(
         Ok(totals) => {
             let made = make_salvage(system.alloc(), totals.bytes());
             system.close_before(totals, writer);
-            put_made(system, writer, from, made, to)
+            end_salvage(system, writer, from, made, to)
         }
         Err(cause) => Err(Fault::File { path: from, cause }),
     }

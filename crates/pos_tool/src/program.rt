@@ -4,7 +4,7 @@ ghost use Rattle.std.specs.Process.{exit_status};
 ghost use Rattle.pos_tool.specs.Faults.{status_of};
 ghost use Rattle.pos_shell.specs.Outputs.{output_of, streams_of};
 ghost use Rattle.pos_tool.specs.Program.{Completes, DoesAsAsked, DoesTask, Explains, ExplainsAsked, ExplainsBoth};
-ghost use Rattle.pos_tool.specs.Program.{Performs, TextOfBoth, are_both, fault_of_unread, is_watched};
+ghost use Rattle.pos_tool.specs.Program.{RunsProgram, TextOfBoth, are_both, fault_of_unread, is_watched};
 ghost use Rattle.pos_program.specs.Answers.{bytes_of};
 
 use crate::answers::{print, print_file, write_difference};
@@ -327,7 +327,7 @@ pub fn perform<
     pages: &Pages<'_>,
     words: Result<Vec<T>, ChoiceFault>,
 ) -> ExitCode
-    ensures { Performs F.NamedFiles ⟦<F::File as BlockFile>⟧ ⟦<TotalsDisk<F::File> as Disk>⟧ ⟦<MemDisk as Disk>⟧
+    ensures { RunsProgram F.NamedFiles ⟦<F::File as BlockFile>⟧ ⟦<TotalsDisk<F::File> as Disk>⟧ ⟦<MemDisk as Disk>⟧
         files.now S.FileSystem S.Folder ⟦<S::File as BlockFile>⟧ system.old system.new pages.now terminals T.text words
         (streams_of R.Source reader.old W.Sink writer.old) (streams_of R.Source reader.new W.Sink writer.new)
         (exit_status result) }
