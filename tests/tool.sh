@@ -61,7 +61,8 @@ hint_path='hint: check the path, who may read and write it, and if its file syst
 hint_rights="hint: run it as the old file's owner, or as root"
 hint_link='hint: if a file is there, give another path; `restore` has --replace; the disk must have hard links'
 hint_create='hint: is it the right file? Restore a copy if it had totals'
-hint_salvage='hint: `kijolvar salvage FILE TO` makes a sound file of what can be had'
+hint_salvage='hint: `kijolvar salvage FILE TO` makes a sound file of what can be had, if an image is left'
+no_image='no image is left, so nothing can be salvaged'$'\n''hint: `kijolvar check FILE` says if it was damaged or has no totals; restore a copy, or load a dump'
 hint_stop='hint: a till that runs locks its totals file: stop it first (`fuser -v FILE` lists who has it)'
 none='No such file or directory (os error 2)'
 unread="can't be read"
@@ -226,7 +227,7 @@ breaks() {
     told "$name: what was salvaged" "$8" "$("$tool" check new)"
     rm new
   else
-    told "$name: salvage: message" "kijolvar: damaged.totals: isn't formatted"$'\n'"$hint_create" "$(cat err)"
+    told "$name: salvage: message" "kijolvar: damaged.totals: $no_image" "$(cat err)"
   fi
   same "$name: the file is as it was" damaged.totals kept
   told "$name: no other file is there" '' "$(ls new* 2> /dev/null)"
@@ -368,7 +369,7 @@ ends 'load where a file is' 4 \
 # --- salvage
 ends 'salvage of sound totals' 0 '' '' salvage till.totals saved.totals
 same 'salvage of sound totals copies them' till.totals saved.totals
-ends 'salvage of bytes without totals' 1 "kijolvar: zero.totals: isn't formatted"$'\n'"$hint_create" '' salvage zero.totals new
+ends 'salvage of bytes without totals' 1 "kijolvar: zero.totals: $no_image" '' salvage zero.totals new
 ends 'salvage of a file that was cut off' 0 '' 'cut off at 100000: each byte that is missing counts as 0' \
   salvage short.totals saved2.totals
 same 'salvage adds the bytes that are missing' saved2.totals till.totals

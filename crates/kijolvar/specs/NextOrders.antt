@@ -1,5 +1,5 @@
 -- The next order that a till's host gets (abi/README.md, "Devices of one's own" and "Driven devices").
-use Rattle.std.specs.Prelude.{◌≡◌, ◌≢◌, ◌⊎◌, ◌++◌, ◌<◌, ◌≤◌, [], ℕ, List, Some, drop, false, length, true}
+use Rattle.std.specs.Prelude.{List, Some, [], drop, false, length, true, ℕ, ◌++◌, ◌<◌, ◌≡◌, ◌≢◌, ◌≤◌, ◌⊎◌}
 use Rattle.pos_service.specs.declared.order.Order.{Order}
 use Rattle.pos_service.specs.declared.peripheral.Peripheral.{Ghosts}
 use Rattle.pos_drive.specs.Courses.{handed_out_course}
@@ -11,11 +11,11 @@ use Rattle.pos_counter.specs.Hosts.{changed_pending, hosts_in, progress_in, wait
 use Rattle.kijolvar.specs.declared.device.Device.{Device}
 use Rattle.kijolvar.specs.declared.till_state.TillState.{TillState}
 use Rattle.kijolvar.specs.declared.till_disk.Settlement.{Settlement}
-use Rattle.kijolvar.specs.declared.till_disk.Settlement.TheVariants.{InMemory, Settled, Owed, Failed}
+use Rattle.kijolvar.specs.declared.till_disk.Settlement.TheVariants.{Failed, InMemory, Owed, Settled}
 use Rattle.kijolvar.specs.Codes.{disk_failed, errands_left, no_memory, ok, order_told, short}
 use Rattle.kijolvar.specs.Orders.{Refills, WritesOrder, order_lines, order_text}
 use Rattle.kijolvar.specs.TillDisks.{IsInFile}
-use Rattle.kijolvar.specs.Tills.{WritesNothing, Undone, disk_of, settlement_of}
+use Rattle.kijolvar.specs.Tills.{Undone, WritesNothing, disk_of, settlement_of}
 
 -- The order of a driven device is given to the host, which counts: its line is written, and the host has it from then
 -- on.
@@ -64,8 +64,9 @@ pub record GivesDriven (hosts : Device → Course) (peripherals : Ghosts Device)
       ⊎ IsTooLong old (order_text device asked) before after needed code new
       ⊎ HasNoLine old before after needed_before needed code new
 
--- The oldest of the orders that wait is told, or of those that devices have kept since where none waits, and nothing
--- else changes. Where there is none, the order that waits of a driven device is given to the host.
+-- The first of the orders that wait is told, or of others where none waits, and nothing else changes. Which others
+-- those are, and in which order, isn't said: devices have kept them in a cell. Where there is none, the order that
+-- waits of a driven device is given to the host.
 pub record HandsOut (hosts : Device → Course) (peripherals : Ghosts Device) (old : TillState) (before after : List ℕ)
     (needed_before needed code : ℕ) (new : TillState) : Type 0 where
   pub waiting : List (List ℕ)

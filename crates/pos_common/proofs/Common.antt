@@ -4,7 +4,7 @@ pub use Rattle.pos_common.specs.KeptControls.{controls_of, copies_from, fault_ev
 pub use Rattle.pos_common.specs.KeptControls.{sign_events}
 pub use Rattle.pos_common.specs.declared.controls.ScanCopy.{ScanCopy}
 pub use Rattle.pos_service.specs.Controls.{Control, all_listening, failed, if_listening, listens, queued, read}
-pub use Rattle.pos_service.specs.Hardware.{Hardware, SameHardware, TakesIn, hardware_of}
+pub use Rattle.pos_service.specs.Hardware.{Hardware, NothingChanges, TakesIn, hardware_of}
 pub use Rattle.pos_service.specs.Peripherals.{Fed, PeripheralState, Takes, input_fits}
 pub use Rattle.pos_service.specs.Properties.{is_in, needs_of, needs_to_set, row_of, value_rows}
 pub use Rattle.pos_service.specs.Refusals.{Decided, Row, first_refusal, when}
@@ -18,5 +18,5 @@ pub use Rattle.std.proofs.lemmas.List.{drop-drop, drop-set-lt, drop_more, get_or
 pub use Rattle.std.proofs.lemmas.List.{take_all, take_more_set}
 pub use Rattle.std.proofs.lemmas.List.Elements.{All-drop, All-head, All-push, All-tail}
 pub use Rattle.std.proofs.lemmas.Option.{slice_get-get_or}
-pub use Rattle.std.specs.Prelude.{IsTrue, MatchOption, MatchResult, None, Option, Result, Some, is_none, not}
-pub use Rattle.std.specs.Prelude.{slice_get, slice_set, ◌&&◌}
+pub use Rattle.std.specs.Prelude.{IsTrue, MatchOption, MatchResult, None, Option, Result, Some, is_none, not, slice_get}
+pub use Rattle.std.specs.Prelude.{slice_set, ◌&&◌}

@@ -1,7 +1,7 @@
 -- The calls of a category's own, by what their check decides and what they come to.
 use Rattle.pos_common.proofs.Common.{Answer, Control, Err, Hardware, IsTrue, List, MatchOption, MatchResult, NoMemory}
-use Rattle.pos_common.proofs.Common.{None, Ok, Option, Result, Row, SameHardware, Some, first_refusal, refl, slice_get}
-use Rattle.pos_common.proofs.Common.{ℕ, ◌≡◌}
+use Rattle.pos_common.proofs.Common.{None, NothingChanges, Ok, Option, Result, Row, Some, first_refusal, refl}
+use Rattle.pos_common.proofs.Common.{slice_get, ℕ, ◌≡◌}
 use Rattle.pos_common.specs.OwnCalls.{OwnCall, OwnOrders, own_refusals}
 use Rattle.pos_service.specs.Controls.{open_place}
 use Rattle.pos_service.specs.Actions.{Does, MayWantFor, OrdersBy, may_want}
@@ -42,7 +42,7 @@ module _ (k : Category) (n : ℕ) (claims : List (Option ℕ)) (asked : Call) (o
       (before after : Hardware) → open_place one.device ≡ Some place → first_refusal refusals ≡ None
       → comes_to one ≡ Some d → MayWantFor asked d
       → MatchResult outcome (λ result. Does d n place result olds before new after)
-      (λ want. IsTrue (may_want d) × SameHardware olds before new after) → Called outcome before new after
+      (λ want. IsTrue (may_want d) × NothingChanges olds before new after) → Called outcome before new after
   done_call d place (Ok result) new before after there none comes wants does =
       rw found (record { outcome = rw (none, comes, there) does })
   done_call d place (Err want) new before after there none comes wants does = rw found (wants does.0, none, does.1)

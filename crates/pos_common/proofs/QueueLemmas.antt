@@ -1,8 +1,8 @@
 -- A request that is queued, as the machine sees it.
 use Rattle.pos_common.proofs.Common.{Answer, Control, Err, Hardware, IsTrue, KeptControl, List, MatchOption}
-use Rattle.pos_common.proofs.Common.{MatchResult, NoMemory, None, Ok, Option, Result, SameHardware, Some, TurnsInto, ap}
-use Rattle.pos_common.proofs.Common.{arith, controls_of, first_refusal, get_or, length, length-map, queued, refl, set}
-use Rattle.pos_common.proofs.Common.{slice_get-get_or, ℕ, ◌<◌, ◌≡◌}
+use Rattle.pos_common.proofs.Common.{MatchResult, NoMemory, None, NothingChanges, Ok, Option, Result, Some, TurnsInto}
+use Rattle.pos_common.proofs.Common.{ap, arith, controls_of, first_refusal, get_or, length, length-map, queued, refl}
+use Rattle.pos_common.proofs.Common.{set, slice_get-get_or, ℕ, ◌<◌, ◌≡◌}
 use Rattle.pos_service.specs.Actions.{Does, QueuesOrder, id_rows, may_want}
 use Rattle.pos_service.specs.declared.order.Order.{Order}
 use Rattle.pos_service.specs.declared.action.Action.TheVariants as action
@@ -19,7 +19,7 @@ pub says_at : (given : Order) (hs : List KeptControl) (i : ℕ) (d g : KeptContr
     (at : Hardware) → i < length hs → MatchResult outcome (λ result. TurnsInto (id_rows (get_or hs i d).control) result
     (get_or hs i d) g (queued given (get_or hs i d).control)) (λ want. g ≡ get_or hs i d)
     → MatchResult outcome (λ result. QueuesOrder given i result (controls_of hs) at (controls_of (set hs i g)) at)
-    (λ want. SameHardware (controls_of hs) at (controls_of (set hs i g)) at)
+    (λ want. NothingChanges (controls_of hs) at (controls_of (set hs i g)) at)
 says_at given hs i d g (Ok result) at lt turns =
     let within : i < length (controls_of hs) = omega (arith, length-map hs (λ (x : KeptControl). x.control)) in
     rw (slice_get-get_or (controls_of hs) i d.control within, ← control_at hs i d d.control lt) (record {
@@ -38,7 +38,8 @@ says_at given hs i d g (Err want) at lt same = grind (arith, same_control hs i d
 -- as what a call comes to
 pub queued_of : (given : Order) (number place : ℕ) (outcome : Result Answer NoMemory) (old new : List Control)
     (at : Hardware)
-    → MatchResult outcome (λ result. QueuesOrder given number result old at new at) (λ want. SameHardware old at new at)
+    → MatchResult outcome (λ result. QueuesOrder given number result old at new at)
+    (λ want. NothingChanges old at new at)
     → MatchResult outcome (λ result. Does (action.Queues given) number place result old at new at)
-    (λ want. IsTrue (may_want (action.Queues given)) × SameHardware old at new at)
+    (λ want. IsTrue (may_want (action.Queues given)) × NothingChanges old at new at)
 queued_of given number place outcome old new at h = grind arith

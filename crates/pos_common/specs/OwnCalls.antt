@@ -1,6 +1,6 @@
 -- The calls of a category's own, at the device of the control that makes them (common chapter).
-use Rattle.std.specs.Prelude.{◌≡◌, ℕ, true, List, ◌∷◌, Option, Some, None, Result, IsTrue, MatchOption}
-use Rattle.std.specs.Prelude.{MatchResult, is_none}
+use Rattle.std.specs.Prelude.{IsTrue, List, MatchOption, MatchResult, None, Option, Result, Some, is_none, true, ℕ, ◌∷◌}
+use Rattle.std.specs.Prelude.{◌≡◌}
 use Rattle.pos_service.specs.declared.answer.Answer.{Answer}
 use Rattle.pos_service.specs.declared.answer.Answer.TheVariants as answer
 use Rattle.pos_service.specs.declared.call.Call.{Call}
@@ -13,9 +13,9 @@ use Rattle.pos_service.specs.Calls.{has_call, needs_of, takes_memory}
 use Rattle.pos_service.specs.Claims.{holder_at}
 use Rattle.pos_service.specs.Controls.{Control, open_place}
 use Rattle.pos_service.specs.Actions.{Does, OrdersBy}
-use Rattle.pos_service.specs.Hardware.{Effect, SameHardware}
+use Rattle.pos_service.specs.Hardware.{Effect, NothingChanges}
 use Rattle.pos_service.specs.Needs.{table}
-use Rattle.pos_service.specs.Refusals.{Row, Decided, first_refusal, when}
+use Rattle.pos_service.specs.Refusals.{Decided, Row, first_refusal, when}
 
 -- the refusals of a call of a category's own on the control with a number: that it has no device with a place open,
 -- what it asks of the control, by the claims of all devices, and then the category's rows
@@ -45,9 +45,9 @@ abbrev pub OwnCall : Category → List Row → Option Action → ℕ → List (O
     → Effect
 OwnCall c rows comes_to number claims asked outcome control old before new after =
     let refusals = own_refusals c rows number claims asked control in MatchResult outcome
-    (λ result. Decided refusals result (SameHardware old before new after)
+    (λ result. Decided refusals result (NothingChanges old before new after)
     (OwnDoes comes_to number result control old before new after))
-    (λ want. IsTrue (takes_memory asked) × (first_refusal refusals ≡ None) × SameHardware old before new after)
+    (λ want. IsTrue (takes_memory asked) × (first_refusal refusals ≡ None) × NothingChanges old before new after)
 
 -- how many orders the peripheral was given before and after: none by a call that its table refuses, otherwise those of
 -- what it comes to

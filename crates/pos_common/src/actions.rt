@@ -1,8 +1,9 @@
 //! What a call that nothing refuses does at a device with a peripheral.
-ghost use Rattle.std.specs.Prelude.{◌≡◌, ◌<◌, false, true, IsTrue, MatchResult, length};
-ghost use Rattle.pos_service.specs.Actions.{ChangesOne, ActionFits, Does, GivesOne, GivesOrder, Ordered, OrdersBy, QueuesOrder, changed, may_want};
+ghost use Rattle.std.specs.Prelude.{IsTrue, MatchResult, false, length, true, ◌<◌, ◌≡◌};
+ghost use Rattle.pos_service.specs.Actions.{ActionFits, ChangesOne, Does, GivesOne, GivesOrder, Ordered, OrdersBy};
+ghost use Rattle.pos_service.specs.Actions.{QueuesOrder, changed, may_want};
 ghost use Rattle.pos_service.specs.Peripherals.{PrintersTake, order_fits};
-ghost use Rattle.pos_service.specs.Hardware.{SameHardware, Hardware, StaysInService, hardware_of};
+ghost use Rattle.pos_service.specs.Hardware.{Hardware, NothingChanges, StaysInService, hardware_of};
 ghost use Rattle.pos_common.specs.KeptControls.{controls_of};
 
 use crate::control::{Control, SIGN_EVENTS};
@@ -35,7 +36,7 @@ pub fn execute<P: Peripheral>(
     ensures done { let state = P.Peripheral.state in MatchResult result
         (λ answer. Does action number place answer (controls_of controls.old) (hardware_of (state peripheral.old))
         (controls_of controls.new) (hardware_of (state peripheral.new)))
-        (λ _. IsTrue (may_want action) × SameHardware (controls_of controls.old) (hardware_of (state peripheral.old))
+        (λ _. IsTrue (may_want action) × NothingChanges (controls_of controls.old) (hardware_of (state peripheral.old))
         (controls_of controls.new) (hardware_of (state peripheral.new))) }
     ensures orders { let state = P.Peripheral.state in
         OrdersBy action result (state peripheral.old).orders (state peripheral.new).orders }
@@ -70,7 +71,7 @@ fn queue(controls: &mut [Control], number: usize, order: Order) -> Result<Answer
     requires fits { PrintersTake order }
     ensures { (at : Hardware) → MatchResult result
         (λ answer. QueuesOrder order number answer (controls_of controls.old) at (controls_of controls.new) at)
-        (λ _. SameHardware (controls_of controls.old) at (controls_of controls.new) at) }
+        (λ _. NothingChanges (controls_of controls.old) at (controls_of controls.new) at) }
 {
     controls[number].queue(order)
 }
@@ -96,7 +97,7 @@ fn give<P: Peripheral>(
         (λ answer. GivesOrder order.now change number place answer
         (controls_of controls.old) (hardware_of (state peripheral.old))
         (controls_of controls.new) (hardware_of (state peripheral.new)))
-        (λ _. SameHardware (controls_of controls.old) (hardware_of (state peripheral.old))
+        (λ _. NothingChanges (controls_of controls.old) (hardware_of (state peripheral.old))
         (controls_of controls.new) (hardware_of (state peripheral.new))) }
     ensures orders { let state = P.Peripheral.state in
         GivesOne result (state peripheral.old).orders (state peripheral.new).orders }
@@ -129,7 +130,7 @@ fn ask<P: Peripheral>(
     ensures asked { let state = P.Peripheral.state in MatchResult result
         (λ said. Ordered order.now place said (controls_of controls.old) (hardware_of (state peripheral.old))
         (controls_of controls.new) (hardware_of (state peripheral.new)))
-        (λ _. SameHardware (controls_of controls.old) (hardware_of (state peripheral.old))
+        (λ _. NothingChanges (controls_of controls.old) (hardware_of (state peripheral.old))
         (controls_of controls.new) (hardware_of (state peripheral.new))) }
     ensures places { length controls.new ≡ length controls.old }
     ensures orders { let state = P.Peripheral.state in

@@ -1,10 +1,10 @@
 //! What the program does for its words, and the status that it ends with.
-ghost use Rattle.std.specs.Prelude.{◌≡◌, map};
+ghost use Rattle.std.specs.Prelude.{map, ◌≡◌};
 ghost use Rattle.std.specs.Process.{exit_status};
 ghost use Rattle.pos_program.specs.Faults.{status_of};
 ghost use Rattle.pos_run.specs.Streams.{streams_of};
-ghost use Rattle.pos_console.specs.Program.{Does, DoesAsAsked, EndsAtDisk, EndsFormat, EndsMove, RunsFiles, RunsProgram};
-ghost use Rattle.pos_console.specs.Program.{fault_of_run};
+ghost use Rattle.pos_console.specs.Program.{Does, DoesAsAsked, EndsAtDisk, EndsFormat, EndsMove, RunsFiles};
+ghost use Rattle.pos_console.specs.Program.{RunsProgram, fault_of_run};
 
 use crate::file_closer::FileCloser;
 use crate::files::print_file;

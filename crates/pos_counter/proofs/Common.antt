@@ -1,20 +1,20 @@
 -- The words of specifications and of the standard library that most proofs of this crate cite, passed on from one
 -- place. Declares nothing.
-pub use Rattle.std.proofs.Common.{◌&&◌, ◌+◌, ◌++◌, ◌<◌, All, Bool, Err, IfSome, IsSome, IsTrue, List, MatchOption}
-pub use Rattle.std.proofs.Common.{MatchResult, None, Ok, Option, Result, Some, [], ap, append_assoc, ap₂, arith}
-pub use Rattle.std.proofs.Common.{bytes_eq, cond, false, get_or, inl, inr, is_none, is_some, length, map, nat_abs, not}
-pub use Rattle.std.proofs.Common.{option_map, refl, replicate, reverse, rules, set, slice_get, subst, suc, sym}
-pub use Rattle.std.proofs.Common.{to_z-of_z, true, zero, ◌||◌, ℕ, ℤ, ◌∙◌, ◌∷◌, ◌≡◌, ◌≤◌, ◌⊎◌, ⊎_elim}
+pub use Rattle.std.proofs.Common.{All, Bool, Err, IfSome, IsSome, IsTrue, List, MatchOption, MatchResult, None, Ok}
+pub use Rattle.std.proofs.Common.{Option, Result, Some, [], ap, append_assoc, ap₂, arith, bytes_eq, cond, false, get_or}
+pub use Rattle.std.proofs.Common.{inl, inr, is_none, is_some, length, map, nat_abs, not, option_map, refl, replicate}
+pub use Rattle.std.proofs.Common.{reverse, rules, set, slice_get, subst, suc, sym, to_z-of_z, true, zero, ℕ, ℤ, ⊎_elim}
+pub use Rattle.std.proofs.Common.{◌&&◌, ◌++◌, ◌+◌, ◌<◌, ◌||◌, ◌∙◌, ◌∷◌, ◌≡◌, ◌≤◌, ◌⊎◌}
 pub use Rattle.std.proofs.lemmas.Bool.{and_from, and_parts, and_right, cond_both, eq-eqb, false≢true, or_left, or_right}
 pub use Rattle.std.proofs.lemmas.List.Elements.{All-cons, All-get_or, All-map, All-nil, All-push, All-set}
 pub use Rattle.std.proofs.lemmas.List.{append-nil, get_or_default, length-map, length-replicate, length-set}
 pub use Rattle.std.proofs.lemmas.List.{length_push, map-set, map_push, nil_from_length, reverse-append, reverse-reverse}
 pub use Rattle.std.proofs.lemmas.List.{set-get_or, with_items_is}
-pub use Rattle.std.proofs.lemmas.Option.{MatchOption-at_some, get_or_from_slice_get, option_and_then_some, same_Some}
-pub use Rattle.std.proofs.lemmas.Option.{slice_get-get_or, slice_get-map, IfSome_then, slice_get_within}
+pub use Rattle.std.proofs.lemmas.Option.{IfSome_then, MatchOption-at_some, get_or_from_slice_get, option_and_then_some}
+pub use Rattle.std.proofs.lemmas.Option.{same_Some, slice_get-get_or, slice_get-map, slice_get_within}
 pub use Rattle.std.specs.List.{AllByRecursion, cons_option, list_any}
-pub use Rattle.std.specs.Prelude.{◌==◌, IfErr, IsErrOf, MatchBool, OnErr, filter, find, slice_set, take, vec_capacity}
-pub use Rattle.std.specs.Prelude.{⊤}
+pub use Rattle.std.specs.Prelude.{IfErr, IsErrOf, MatchBool, OnErr, filter, find, slice_set, take, vec_capacity, ⊤}
+pub use Rattle.std.specs.Prelude.{◌==◌}
 pub use mir.Syntax.{w128}
 pub use mir.Val.{SFits}
 pub use Rattle.pos_common.specs.KeptControls.{Gets, KeptControl, SetsTo, controls_of}
@@ -34,13 +34,13 @@ pub use Rattle.pos_profile.specs.declared.entry.Entry.{Entry}
 pub use Rattle.pos_service.specs.Calls.{device_found, has_call, is_common, needs_of, takes_memory as own_takes_memory}
 pub use Rattle.pos_service.specs.Categories.{is_exclusive, serves}
 pub use Rattle.pos_service.specs.Claims.{after_release, claimed_by, holder_at, is_foreign, released_by}
-pub use Rattle.pos_service.specs.Controls.{Control, all_listening, closed, delivered, if_listening, listens}
-pub use Rattle.pos_service.specs.Controls.{is_at, new_control, open_place, opened, stopped}
+pub use Rattle.pos_service.specs.Controls.{Control, all_listening, closed, delivered, if_listening, is_at, listens}
+pub use Rattle.pos_service.specs.Controls.{new_control, open_place, opened, stopped}
 pub use Rattle.pos_service.specs.Actions.{ChangesOne, Does as CarriesOut, Follows, MayWantFor, Ordered, changed}
 pub use Rattle.pos_service.specs.Actions.{may_want}
 pub use Rattle.pos_service.specs.Displays.{Strip, attribute_of, direction_of, fed, is_cursor_place, origin, place_left}
 pub use Rattle.pos_service.specs.Displays.{returned, with_run, with_text}
-pub use Rattle.pos_service.specs.Hardware.{Effect, Hardware, SameHardware, TakenAt, TakesIn, hardware_of, reaction}
+pub use Rattle.pos_service.specs.Hardware.{Effect, Hardware, NothingChanges, TakenAt, TakesIn, hardware_of, reaction}
 pub use Rattle.pos_service.specs.Hardware.{signs_in}
 pub use Rattle.pos_service.specs.Needs.{table}
 pub use Rattle.pos_service.specs.Numbers.{is_index, is_up_to}
@@ -117,7 +117,7 @@ pub use Rattle.pos_counter.specs.Steps.{IsPlaceOn, IsServed as IsServedFor, IsSo
 pub use Rattle.pos_counter.specs.Steps.{Response, Run, Sets, SetsByRecovery, Step, WorkOn, Worked, claimed, context_of}
 pub use Rattle.pos_counter.specs.Steps.{device_action, device_rows, dropped, has_open, is_open_at, is_taken}
 pub use Rattle.pos_counter.specs.Steps.{most_controls, own_rows, refusals, released, takes_memory}
-pub use Rattle.pos_counter.specs.Totals.{FilesCalled, PutsChanges, Recovered, Recovers, TotalsDo, TotalsPart}
+pub use Rattle.pos_counter.specs.Totals.{FilesCalled, PutsChanges, Recovered, RecoversNothing, TotalsDo, TotalsPart}
 pub use Rattle.pos_counter.specs.Totals.{asks_recovery, is_totals_open, left_after, put_at_once, recovers, settled}
 pub use Rattle.pos_counter.specs.declared.counter.Counter.{Counter}
 pub use Rattle.pos_service.specs.declared.answer.Answer.TheVariants.{Done, Refused}

@@ -1,15 +1,15 @@
 -- What is done at a device and by whom it is held, and the steps that it makes.
-use Rattle.pos_counter.proofs.Common.{◌<◌, Answer, At, Call, CallOf, CallsAt, Control, Device, DoesOwn, DeviceDoes}
-use Rattle.pos_counter.proofs.Common.{Does, Effect, Err, FindsWork, HardTotals, Hardware, IfSome, IsDoneAt, IsOpenFor}
-use Rattle.pos_counter.proofs.Common.{IsServedFor, OpenDevice, TheTotals, IsSound, IsTrue, KeptControl, List, Machine}
-use Rattle.pos_counter.proofs.Common.{MatchOption-at_some, MayBeCalled, NoMemory, None, Ok, OnHardware, Option, Result}
-use Rattle.pos_counter.proofs.Common.{Row, SameHardware, Some, Step, TotalsPart, WorksAt, answered, ap, arith}
-use Rattle.pos_counter.proofs.Common.{controls_of, device_rows, open_place, own_rows, due_request_at, false}
-use Rattle.pos_counter.proofs.Common.{first_refusal, get_or_from_slice_get, holder_at, holder_in, holder_of, inl, inr}
-use Rattle.pos_counter.proofs.Common.{is_common, kind_of, length, machine_with, needs_of, own_takes_memory, place_of}
-use Rattle.pos_counter.proofs.Common.{refl, refusals, rules, set, set-get_or, slice_get, slice_get_within, sym, table}
-use Rattle.pos_counter.proofs.Common.{takes_memory, with_items_is, ℕ, ◌∙◌, ◌≡◌, ap₂, device_action, MatchOption}
-use Rattle.pos_counter.proofs.Common.{Refused}
+use Rattle.pos_counter.proofs.Common.{Answer, At, Call, CallOf, CallsAt, Control, Device, DeviceDoes, Does, DoesOwn}
+use Rattle.pos_counter.proofs.Common.{Effect, Err, FindsWork, HardTotals, Hardware, IfSome, IsDoneAt, IsOpenFor}
+use Rattle.pos_counter.proofs.Common.{IsServedFor, IsSound, IsTrue, KeptControl, List, Machine, MatchOption}
+use Rattle.pos_counter.proofs.Common.{MatchOption-at_some, MayBeCalled, NoMemory, None, NothingChanges, Ok, OnHardware}
+use Rattle.pos_counter.proofs.Common.{OpenDevice, Option, Refused, Result, Row, Some, Step, TheTotals, TotalsPart}
+use Rattle.pos_counter.proofs.Common.{WorksAt, answered, ap, ap₂, arith, controls_of, device_action, device_rows}
+use Rattle.pos_counter.proofs.Common.{due_request_at, false, first_refusal, get_or_from_slice_get, holder_at, holder_in}
+use Rattle.pos_counter.proofs.Common.{holder_of, inl, inr, is_common, kind_of, length, machine_with, needs_of}
+use Rattle.pos_counter.proofs.Common.{open_place, own_rows, own_takes_memory, place_of, refl, refusals, rules, set}
+use Rattle.pos_counter.proofs.Common.{set-get_or, slice_get, slice_get_within, sym, table, takes_memory, with_items_is}
+use Rattle.pos_counter.proofs.Common.{ℕ, ◌<◌, ◌∙◌, ◌≡◌}
 use Rattle.pos_common.specs.OwnCalls.{OwnCall as OwnCalled, OwnDoes, own_refusals}
 use Rattle.pos_service.specs.declared.code.Code.TheVariants.{Closed}
 use Rattle.std.specs.Prelude.{Vec}
@@ -80,7 +80,7 @@ module _ (hs gs : List KeptControl) (ds es : List Device) (cl : List (Option ℕ
 
   -- what did nothing leaves the machine as it was
   pub unchanged : {Does : Effect} (done : IsDoneAt ds place Does hs gs es)
-      → SameHardware (controls_of hs) done.before (controls_of gs) done.after → new ≡ old
+      → NothingChanges (controls_of hs) done.before (controls_of gs) done.after → new ≡ old
   unchanged done same = search (rules, same_device)
 
   -- where work finds no memory, the name finds a request that is to be done

@@ -1,12 +1,12 @@
 -- A crash during a run of the machine or of a counter leaves a prefix of the history.
-use Rattle.pos_counter.proofs.Common.{◌++◌, Answer, BeginsOver, Counter, DiskGhosts, Failure, Ghosts, HasBegun, HasRun}
+use Rattle.pos_counter.proofs.Common.{Answer, BeginsOver, Counter, DiskGhosts, Failure, Ghosts, HasBegun, HasRun}
 use Rattle.pos_counter.proofs.Common.{HasTooMany, History, IsLeftDuring, IsOneOf, IsPrefixAlong, IsPrefixInside}
 use Rattle.pos_counter.proofs.Common.{IsPrefixOf, IsRun, IsStep, KeepsPrefix, KeepsPrefixes, Layout, Leaves}
-use Rattle.pos_counter.proofs.Common.{LeavesPrefix, List, Machine, PlainFile, Recovers, Refused, Request, Response}
-use Rattle.pos_counter.proofs.Common.{Rises, Run, Standing, Stands, StandsForEither, StandsForOneOf, StandsForSome}
-use Rattle.pos_counter.proofs.Common.{StartsWith, Step, TotalsPart, [], ap, arith, begun, event_of, history_along}
-use Rattle.pos_counter.proofs.Common.{history_of, history_until, history_with, inl, inr, machine, machine_now, part_of}
-use Rattle.pos_counter.proofs.Common.{refl, rules, subst, sym, ℕ, ◌∷◌, ◌≡◌, ◌⊎◌}
+use Rattle.pos_counter.proofs.Common.{LeavesPrefix, List, Machine, PlainFile, RecoversNothing, Refused, Request}
+use Rattle.pos_counter.proofs.Common.{Response, Rises, Run, Standing, Stands, StandsForEither, StandsForOneOf}
+use Rattle.pos_counter.proofs.Common.{StandsForSome, StartsWith, Step, TotalsPart, [], ap, arith, begun, event_of}
+use Rattle.pos_counter.proofs.Common.{history_along, history_of, history_until, history_with, inl, inr, machine}
+use Rattle.pos_counter.proofs.Common.{machine_now, part_of, refl, rules, subst, sym, ℕ, ◌++◌, ◌∷◌, ◌≡◌, ◌⊎◌}
 use Rattle.std.proofs.Math.Path.{path_j, subst_refl}
 use Rattle.pos_counter.proofs.PrefixLemmas.{Fits, fits_inside, fits_leaves, fits_start}
 use Rattle.pos_counter.proofs.RunLemmas.{run_append}
@@ -70,7 +70,7 @@ module _ (layout : Layout) (start : List PlainFile) (sequence : ℕ) (first last
   law_after = fits_leaves fits_last
 
   -- what a recovery answers that recovers nothing
-  pub law_recovers : (result : Answer) (new : TotalsPart) → Recovers last.totals result new
+  pub law_recovers : (result : Answer) (new : TotalsPart) → RecoversNothing last.totals result new
       → (result ≡ Refused Failure 0)
       × (HasTooMany (IsOneOf last.totals.left) last.totals.totals.next ⊎ Rises last.totals.failures new.failures)
   law_recovers result new h = grind (arith, law_after)

@@ -1,18 +1,18 @@
 -- Setting a property as a step of the machine, where it recovers the totals and where it doesn't.
-use Rattle.pos_counter.proofs.Common.{GivesOrders, TheTotals, open_place}
-use Rattle.pos_counter.proofs.Common.{◌&&◌, ◌<◌, Answer, Answered, AreDevicesSound, CallOf, Code, Control, Counter}
-use Rattle.pos_counter.proofs.Common.{Device, DeviceEnabled, DiskGhosts, DiskRecovers, Done, Empty, Err, FindsFiles}
-use Rattle.pos_counter.proofs.Common.{Ghosts, HardTotals, IsCounterSound, IsErrOf, IsOneOf, IsRecovering, KeptControl}
-use Rattle.pos_counter.proofs.Common.{Kind, Leaves, List, Machine, Mode, NoMemory, None, Off, Ok, Option, OutOfMemory}
-use Rattle.pos_counter.proofs.Common.{Property, Recovers, RecoversAny, RecoversOneOf, Refused, Response, Result, Serves}
-use Rattle.pos_counter.proofs.Common.{Set, SetsByRecovery, SetsTo, Signs, Some, SparesDisk, Standing, Step, Totals}
-use Rattle.pos_counter.proofs.Common.{TotalsPart, TotalsView, Truth, Value, WhenOff, [], after_enabling, after_set}
-use Rattle.pos_counter.proofs.Common.{and_from, and_right, answered, ap, arith, asks_recovery, code_of, controls_of}
-use Rattle.pos_counter.proofs.Common.{device_at, enabling, false, first_refusal, get_or, hardware_in, holder_in}
-use Rattle.pos_counter.proofs.Common.{holder_of, inl, inr, is_none, is_ready, kind_in, kind_of, length, machine}
-use Rattle.pos_counter.proofs.Common.{machine_with, not, or_left, or_right, part_of, part_with, recovers, refl}
-use Rattle.pos_counter.proofs.Common.{refusals, rules, set, set_rows, settled, signs_at, signs_in, slice_get, subst}
-use Rattle.pos_counter.proofs.Common.{sym, tells_power, true, with_control, ℕ, ◌∙◌, ◌≡◌, ◌⊎◌}
+use Rattle.pos_counter.proofs.Common.{Answer, Answered, AreDevicesSound, CallOf, Code, Control, Counter, Device}
+use Rattle.pos_counter.proofs.Common.{DeviceEnabled, DiskGhosts, DiskRecovers, Done, Empty, Err, FindsFiles, Ghosts}
+use Rattle.pos_counter.proofs.Common.{GivesOrders, HardTotals, IsCounterSound, IsErrOf, IsOneOf, IsRecovering}
+use Rattle.pos_counter.proofs.Common.{KeptControl, Kind, Leaves, List, Machine, Mode, NoMemory, None, Off, Ok, Option}
+use Rattle.pos_counter.proofs.Common.{OutOfMemory, Property, RecoversAny, RecoversNothing, RecoversOneOf, Refused}
+use Rattle.pos_counter.proofs.Common.{Response, Result, Serves, Set, SetsByRecovery, SetsTo, Signs, Some, SparesDisk}
+use Rattle.pos_counter.proofs.Common.{Standing, Step, TheTotals, Totals, TotalsPart, TotalsView, Truth, Value, WhenOff}
+use Rattle.pos_counter.proofs.Common.{[], after_enabling, after_set, and_from, and_right, answered, ap, arith}
+use Rattle.pos_counter.proofs.Common.{asks_recovery, code_of, controls_of, device_at, enabling, false, first_refusal}
+use Rattle.pos_counter.proofs.Common.{get_or, hardware_in, holder_in, holder_of, inl, inr, is_none, is_ready, kind_in}
+use Rattle.pos_counter.proofs.Common.{kind_of, length, machine, machine_with, not, open_place, or_left, or_right}
+use Rattle.pos_counter.proofs.Common.{part_of, part_with, recovers, refl, refusals, rules, set, set_rows, settled}
+use Rattle.pos_counter.proofs.Common.{signs_at, signs_in, slice_get, subst, sym, tells_power, true, with_control, ℕ}
+use Rattle.pos_counter.proofs.Common.{◌&&◌, ◌<◌, ◌∙◌, ◌≡◌, ◌⊎◌}
 use Rattle.pos_totals.specs.declared.fault.RecoveryFault.TheVariants as fault
 use Rattle.pos_totals.specs.declared.fault.RecoveryFault.{RecoveryFault}
 use Rattle.pos_counter.proofs.CrashLemmas.{settled_twice}
@@ -213,7 +213,7 @@ module _ {D P : Type 0} (bound : DiskGhosts D) (peripherals : Ghosts P) (old new
 
     -- why it has failed
     why : (left : List Standing) (k : Code) → Leaves bound old.totals left → Some k ≡ code_of x
-        → Recovers (part_of bound old.totals left) (Refused k 0) (part_of bound new.totals left)
+        → RecoversNothing (part_of bound old.totals left) (Refused k 0) (part_of bound new.totals left)
     why left k leaves is = by x recovers is
         (found_one bound old.totals new.totals there.off (Err x) recovers left leaves).found (same_part left leaves)
       where
@@ -221,7 +221,7 @@ module _ {D P : Type 0} (bound : DiskGhosts D) (peripherals : Ghosts P) (old new
             → FindsFiles (IsOneOf left) old.totals.totals (Err x) new.totals.totals
             → ((IsErrOf {T = Unit {0}} (Err x) fault.Device → ⊥)
             → part_of bound new.totals left ≡ part_of bound old.totals left)
-            → Recovers (part_of bound old.totals left) (Refused k 0) (part_of bound new.totals left)
+            → RecoversNothing (part_of bound old.totals left) (Refused k 0) (part_of bound new.totals left)
         by fault.Unformatted recovers is found same = inl (cc, found.0, same (λ failed. cc))
         by fault.Damaged recovers is found same = inr (cc, inl (inl found.0, same (λ failed. cc)))
         by fault.Handles recovers is found same = inr (cc, inl (inr found.0, same (λ failed. cc)))

@@ -1,11 +1,11 @@
 -- What an enabling finds where a crash has left a disk that stands for some files.
 use Rattle.pos_counter.proofs.Common.{Answer, Answered, Applies, CallOf, Control, DeviceEnabled, Failure, FindsThem}
-use Rattle.pos_counter.proofs.Common.{Group, History, IsOneOf, Layout, Limits, List, Machine, Ok, PlainFile, Recovers}
-use Rattle.pos_counter.proofs.Common.{Refused, Request, Response, Rises, Run, SetsByRecovery, Some, Stands, StartsWith}
-use Rattle.pos_counter.proofs.Common.{Step, TotalsPart, Truth, [], after_groups, and_from, arith, asks_recovery, begun}
-use Rattle.pos_counter.proofs.Common.{enabling, event_of, first_refusal, history_along, history_with, inl}
-use Rattle.pos_counter.proofs.Common.{inr, length, limits_of, outcome_of_all, refl, refusals, rules, slice_get, subst}
-use Rattle.pos_counter.proofs.Common.{true, ℕ, ◌∙◌, ◌∷◌, ◌≡◌, ◌≤◌}
+use Rattle.pos_counter.proofs.Common.{Group, History, IsOneOf, Layout, Limits, List, Machine, Ok, PlainFile}
+use Rattle.pos_counter.proofs.Common.{RecoversNothing, Refused, Request, Response, Rises, Run, SetsByRecovery, Some}
+use Rattle.pos_counter.proofs.Common.{Stands, StartsWith, Step, TotalsPart, Truth, [], after_groups, and_from, arith}
+use Rattle.pos_counter.proofs.Common.{asks_recovery, begun, enabling, event_of, first_refusal, history_along}
+use Rattle.pos_counter.proofs.Common.{history_with, inl, inr, length, limits_of, outcome_of_all, refl, refusals, rules}
+use Rattle.pos_counter.proofs.Common.{slice_get, subst, true, ℕ, ◌∙◌, ◌∷◌, ◌≡◌, ◌≤◌}
 use Rattle.pos_dir.proofs.ChangeLemmas.{few_after_all}
 use Rattle.pos_counter.proofs.LiftLemmas.{match_cases, refused_undone}
 use Rattle.pos_counter.proofs.PrefixRunLemmas.{law_after, law_recovers}
@@ -80,7 +80,7 @@ module _ (layout : Layout) (start : List PlainFile) (sequence : ℕ) (first last
       let same = same_stands prefix.stands in
       rw same.1 (few_groups (limits_of layout) start prefix.prefix few (rw (from.0, from.1) at prefix.made))
 
-  pub disk_failed : (result : Answer) (new : TotalsPart) → Recovers last.totals result new
+  pub disk_failed : (result : Answer) (new : TotalsPart) → RecoversNothing last.totals result new
       → (result ≡ Refused Failure 0) × Rises last.totals.failures new.failures
   disk_failed result new h =
       let failed = law_recovers layout start sequence first last steps run is result new h in (

@@ -1,19 +1,20 @@
 -- What keeps a machine sound: each control stays at its device, and each device of its kind.
-use Rattle.pos_counter.proofs.Common.{At, HardTotals, IsOpenFor, IsServedFor as IsServed, OpenDevice, OpenTarget}
-use Rattle.pos_counter.proofs.Common.{TheTotals, bytes_eq, device_found, found_under, is_at, open_place, place_of}
-use Rattle.pos_counter.proofs.Common.{same_Some, totals_under, All, All-get_or, All-map, All-set, Answer, Call}
-use Rattle.pos_counter.proofs.Common.{CarriesOut, Category, ControlUpdate, Changes, ChangesOne, Control, Action, Device}
-use Rattle.pos_counter.proofs.Common.{DeviceDoes, Does, DueRequest, Effect, Err, Follows, Gives, Hardware, HasItsDevice}
-use Rattle.pos_counter.proofs.Common.{HasItsKind, IfSome, Input, IsAttached, IsDetached, IsInRange, IsPlaceOn, IsSound}
-use Rattle.pos_counter.proofs.Common.{List, Machine, MatchOption, MatchOption-at_some, MatchResult, NoMemory, None, Ok}
-use Rattle.pos_counter.proofs.Common.{OnHardware, Option, Ordered, Place, Property, Queues, Result, SameHardware, Signs}
-use Rattle.pos_counter.proofs.Common.{Some, TakesIn, Value, WorksAt, WorksOn, [], after_release, after_set, after_work}
-use Rattle.pos_counter.proofs.Common.{all_listening, ap, arith, changed, cond_both, device_at, device_action}
-use Rattle.pos_counter.proofs.Common.{device_rows, due_request_at, eq-eqb, false≢true, found_at, get_or}
-use Rattle.pos_counter.proofs.Common.{get_or_from_slice_get, has_open, if_listening, inl, inr, is_exclusive, is_some}
-use Rattle.pos_counter.proofs.Common.{kind_in, kind_of, length-set, listens, option_map, origin, reaction, refl, rules}
+use Rattle.pos_counter.proofs.Common.{Action, All, All-get_or, All-map, All-set, Answer, At, Call, CarriesOut, Category}
+use Rattle.pos_counter.proofs.Common.{Changes, ChangesOne, Control, ControlUpdate, Device, DeviceDoes, Does, DueRequest}
+use Rattle.pos_counter.proofs.Common.{Effect, Err, Follows, Gives, HardTotals, Hardware, HasItsDevice, HasItsKind}
+use Rattle.pos_counter.proofs.Common.{IfSome, Input, IsAttached, IsDetached, IsInRange, IsOpenFor, IsPlaceOn}
+use Rattle.pos_counter.proofs.Common.{IsServedFor as IsServed, IsSound, List, Machine, MatchOption, MatchOption-at_some}
+use Rattle.pos_counter.proofs.Common.{MatchResult, NoMemory, None, NothingChanges, Ok, OnHardware, OpenDevice}
+use Rattle.pos_counter.proofs.Common.{OpenTarget, Option, Ordered, Place, Property, Queues, Result, Signs, Some}
+use Rattle.pos_counter.proofs.Common.{TakesIn, TheTotals, Value, WorksAt, WorksOn, [], after_release, after_set}
+use Rattle.pos_counter.proofs.Common.{after_work, all_listening, ap, arith, bytes_eq, changed, cond_both, device_action}
+use Rattle.pos_counter.proofs.Common.{device_at, device_found, device_rows, due_request_at, eq-eqb, false≢true}
+use Rattle.pos_counter.proofs.Common.{found_at, found_under, get_or, get_or_from_slice_get, has_open, if_listening, inl}
+use Rattle.pos_counter.proofs.Common.{inr, is_at, is_exclusive, is_some, kind_in, kind_of, length-set, listens}
+use Rattle.pos_counter.proofs.Common.{open_place, option_map, origin, place_of, reaction, refl, rules, same_Some}
 use Rattle.pos_counter.proofs.Common.{serves, set, signs_of, slice_get, slice_get-map, slice_get_within, slice_set}
-use Rattle.pos_counter.proofs.Common.{stopped, subst, suc, sym, takes, true, with_control, zero, ℕ, ◌∙◌, ◌∷◌, ◌≡◌}
+use Rattle.pos_counter.proofs.Common.{stopped, subst, suc, sym, takes, totals_under, true, with_control, zero, ℕ, ◌∙◌}
+use Rattle.pos_counter.proofs.Common.{◌∷◌, ◌≡◌}
 use Rattle.std.proofs.lemmas.List.Folds.{list_any_at}
 use Rattle.pos_service.specs.Controls.{queued}
 use Rattle.pos_service.specs.Statuses.{heard_signs}
@@ -193,7 +194,7 @@ one_keeps ds change number old new keeps h all =
     (keeps x.0 (all_at (HasItsDevice ds) old number x.0 x.1 all)) all)
 
 -- where nothing has changed
-same_keeps : (ds : List Device) → AllKeep ds SameHardware
+same_keeps : (ds : List Device) → AllKeep ds NothingChanges
 same_keeps ds old before new after h = unmoved ds old before new after before h.hardware refl h.controls
 
 -- whatever a peripheral says to an order
@@ -275,7 +276,7 @@ works_keep ds holder place outcome old before new after h =
     ]
   where
     by : (work : DueRequest) (outcome : Result WorkResult NoMemory) → MatchResult outcome
-        (λ r. WorksOn work place r old before new after) (λ want. SameHardware old before new after)
+        (λ r. WorksOn work place r old before new after) (λ want. NothingChanges old before new after)
         → Keeps ds before old after new
     by work (Ok r) h = worked_keeps ds work place r old before new after h
     by work (Err want) h = same_keeps ds old before new after h

@@ -1,21 +1,20 @@
 -- What each step of the machine leaves: a sound machine, and the files of the totals as its event says.
-use Rattle.pos_counter.proofs.Common.{Action, Kind, MatchOption, OpenDevice, TheTotals, claimed, device_action}
-use Rattle.pos_counter.proofs.Common.{open_place, ◌+◌, ◌++◌, All-push, Answer, Answered, Arranges, Asks, Bool, Call}
-use Rattle.pos_counter.proofs.Common.{CallOf, Category, DoesOwn, Claim, Close, Control, Delivered, Does, DoesTogether}
-use Rattle.pos_counter.proofs.Common.{Done, Effect, Failure, File, FileCall, Get, HardTotals, Hardware, HasItsDevice}
-use Rattle.pos_counter.proofs.Common.{History, IsAttached, IsDetached, IsOneGroup, IsOneOf, IsSettled, IsSound}
-use Rattle.pos_counter.proofs.Common.{IsUndone, Layout, List, Machine, MatchBool, Mode, None, Nothing, Off, Ok}
-use Rattle.pos_counter.proofs.Common.{OnHardware, Open, Option, OutOfMemory, PlainFile, Property, Ready, Recovered}
-use Rattle.pos_counter.proofs.Common.{Recovers, Refused, Release, Request, Response, Set, Sets, SetsByRecovery, Some}
-use Rattle.pos_counter.proofs.Common.{Standing, Stands, Step, Totals, TotalsChange, TotalsDo, TotalsPart, Value, WorkOn}
-use Rattle.pos_counter.proofs.Common.{Worked, [], after_disk_fault, after_release, after_set, and_parts, ap, arith}
-use Rattle.pos_counter.proofs.Common.{asks_recovery, own_rows, changes_asked, changes_of, closed, delivered, dropped}
-use Rattle.pos_counter.proofs.Common.{event_between, false, file_call, files_after_all, first_refusal, has_call}
-use Rattle.pos_counter.proofs.Common.{history_with, inl, inr, is_common, is_ready, kind_of, left_after, length}
-use Rattle.pos_counter.proofs.Common.{length-set, limits_of, map, new_control, next_sequences, not, numbered}
-use Rattle.pos_counter.proofs.Common.{outcome_of_all, plain, recovers, refl, refusals, released, rules, signs_at}
-use Rattle.pos_counter.proofs.Common.{slice_get, subst, sym, takes, true, with_control, with_place, with_totals, ℕ, ◌∷◌}
-use Rattle.pos_counter.proofs.Common.{◌≡◌}
+use Rattle.pos_counter.proofs.Common.{Action, All-push, Answer, Answered, Arranges, Asks, Bool, Call, CallOf, Category}
+use Rattle.pos_counter.proofs.Common.{Claim, Close, Control, Delivered, Does, DoesOwn, DoesTogether, Done, Effect}
+use Rattle.pos_counter.proofs.Common.{Failure, File, FileCall, Get, HardTotals, Hardware, HasItsDevice, History}
+use Rattle.pos_counter.proofs.Common.{IsAttached, IsDetached, IsOneGroup, IsOneOf, IsSettled, IsSound, IsUndone, Kind}
+use Rattle.pos_counter.proofs.Common.{Layout, List, Machine, MatchBool, MatchOption, Mode, None, Nothing, Off, Ok}
+use Rattle.pos_counter.proofs.Common.{OnHardware, Open, OpenDevice, Option, OutOfMemory, PlainFile, Property, Ready}
+use Rattle.pos_counter.proofs.Common.{Recovered, RecoversNothing, Refused, Release, Request, Response, Set, Sets}
+use Rattle.pos_counter.proofs.Common.{SetsByRecovery, Some, Standing, Stands, Step, TheTotals, Totals, TotalsChange}
+use Rattle.pos_counter.proofs.Common.{TotalsDo, TotalsPart, Value, WorkOn, Worked, [], after_disk_fault, after_release}
+use Rattle.pos_counter.proofs.Common.{after_set, and_parts, ap, arith, asks_recovery, changes_asked, changes_of}
+use Rattle.pos_counter.proofs.Common.{claimed, closed, delivered, device_action, dropped, event_between, false}
+use Rattle.pos_counter.proofs.Common.{file_call, files_after_all, first_refusal, has_call, history_with, inl, inr}
+use Rattle.pos_counter.proofs.Common.{is_common, is_ready, kind_of, left_after, length, length-set, limits_of, map}
+use Rattle.pos_counter.proofs.Common.{new_control, next_sequences, not, numbered, open_place, outcome_of_all, own_rows}
+use Rattle.pos_counter.proofs.Common.{plain, recovers, refl, refusals, released, rules, signs_at, slice_get, subst, sym}
+use Rattle.pos_counter.proofs.Common.{takes, true, with_control, with_place, with_totals, ℕ, ◌++◌, ◌+◌, ◌∷◌, ◌≡◌}
 use Rattle.pos_totals.specs.Groups.{group_of}
 use Rattle.pos_counter.proofs.CursorLemmas.{NoneApplies, none_applies, none_dropped, unless_not}
 use Rattle.pos_counter.proofs.FileCallLemmas.{Comes, Groups, Stays, puts_comes}
@@ -134,7 +133,7 @@ found_told : {old new : TotalsPart} (response : Response) → old.totals.mode �
 found_told response off h = search (rules, plain_numbered, settles)
 
 -- a recovery that recovers nothing leaves them
-unrecovered : {old new : TotalsPart} {result : Answer} → Recovers old result new → Rest old new
+unrecovered : {old new : TotalsPart} {result : Answer} → RecoversNothing old result new → Rest old new
 unrecovered h = grind (arith, same_rest)
 
 -- totals that are recovered are off

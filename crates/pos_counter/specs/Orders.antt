@@ -1,6 +1,6 @@
 -- How many orders the peripherals of a counter were given.
-use Rattle.std.specs.Prelude.{◌≡◌, ◌⊎◌, ℕ, zero, suc, Bool, true, false, List, [], ◌∷◌, Option, Some, None, Result, Ok}
-use Rattle.std.specs.Prelude.{Err, MatchOption, is_some, map, option_map, slice_get, slice_set, if◌then◌else◌}
+use Rattle.std.specs.Prelude.{Bool, Err, List, MatchOption, None, Ok, Option, Result, Some, [], false, if◌then◌else◌}
+use Rattle.std.specs.Prelude.{is_some, map, option_map, slice_get, slice_set, suc, true, zero, ℕ, ◌∷◌, ◌≡◌, ◌⊎◌}
 use Rattle.pos_profile.specs.Registries.{Device as Registered, devices as registered, standing_at, with_peripheral}
 use Rattle.pos_service.specs.Controls.{Control, open_place}
 use Rattle.pos_service.specs.Peripherals.{PeripheralState, counted}
@@ -16,8 +16,8 @@ use Rattle.pos_service.specs.declared.kind.Kind.{Kind}
 use Rattle.pos_service.specs.declared.peripheral.Peripheral.{Ghosts}
 use Rattle.pos_common.specs.OwnCalls.{OwnOrders}
 use Rattle.pos_counter.specs.Machine.{Machine, kind_of, place_of}
-use Rattle.pos_counter.specs.Steps.{device_action, device_rows, refusals, Request, Response, CallOf, WorkOn}
-use Rattle.pos_counter.specs.Steps.{Attach, Detach, Answered, Worked, Attached, Detached, OutOfMemory}
+use Rattle.pos_counter.specs.Steps.{Answered, Attach, Attached, CallOf, Detach, Detached, OutOfMemory, Request}
+use Rattle.pos_counter.specs.Steps.{Response, WorkOn, Worked, device_action, device_rows, refusals}
 use Rattle.pos_counter.specs.declared.devices.Devices.{Devices}
 use Rattle.pos_counter.specs.declared.faults.WorkFault.{WorkFault}
 use Rattle.pos_counter.specs.declared.faults.WorkFault.TheVariants as work_fault
@@ -94,7 +94,7 @@ OrdersOfStep machine (WorkOn name) (Worked result) old new =
     OrdersOfWorkAt (place_of machine.devices name) (Ok result) old new
 OrdersOfStep machine (WorkOn name) OutOfMemory old new =
     OrdersOfWorkAt (place_of machine.devices name) (Err work_fault.NoMemory) old new
--- a peripheral comes to its device alone, with its count from before, and it takes the count with it
+-- a peripheral comes to its device, or leaves it: no other device's count changes
 OrdersOfStep machine (Attach name hardware) Attached old new = LeavesOthers (place_of machine.devices name) old new
 OrdersOfStep machine (Detach name) (Detached hardware) old new =
     LeavesOthers (place_of machine.devices name) old new

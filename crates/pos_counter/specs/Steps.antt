@@ -1,8 +1,8 @@
 -- The steps of the device machine, and its runs.
 use Rattle.std.specs.Bool.{MatchBool}
 use Rattle.std.specs.List.{list_any}
-use Rattle.std.specs.Prelude.{◌≡◌, ◌⊎◌, ℕ, ◌++◌, ◌∷◌, Bool, true, false, List, [], Option, Some, None, Ok, MatchOption}
-use Rattle.std.specs.Prelude.{IfSome, IsSome, All, IsTrue, ⊤, length, ◌<◌, ◌≤◌, ◌||◌, slice_get, is_some}
+use Rattle.std.specs.Prelude.{All, Bool, IfSome, IsSome, IsTrue, List, MatchOption, None, Ok, Option, Some, [], false}
+use Rattle.std.specs.Prelude.{is_some, length, slice_get, true, ℕ, ⊤, ◌++◌, ◌<◌, ◌||◌, ◌∷◌, ◌≡◌, ◌≤◌, ◌⊎◌}
 use Rattle.pos_service.specs.declared.category.Category.{Category}
 use Rattle.pos_service.specs.declared.category.Category.TheVariants as category
 use Rattle.pos_service.specs.declared.call.Call.{Call}
@@ -18,43 +18,42 @@ use Rattle.pos_service.specs.declared.answer.Value.TheVariants as value
 use Rattle.pos_service.specs.declared.code.Code.TheVariants as code
 use Rattle.pos_service.specs.declared.action.Action.{Action}
 use Rattle.pos_service.specs.Displays.{is_cursor_place}
-use Rattle.pos_service.specs.Kinds.{is_display, rows_of, columns_of}
+use Rattle.pos_service.specs.Kinds.{columns_of, is_display, rows_of}
 use Rattle.pos_service.specs.Peripherals.{IsInRange, input_fits}
-use Rattle.pos_service.specs.Controls.{Control, new_control, is_at, open_place, opened, closed, deliverable, delivered}
-use Rattle.pos_service.specs.Claims.{is_own, is_foreign, holder_at, claimed_by, released_by, claim_rows, release_rows}
-use Rattle.pos_service.specs.Claims.{after_release}
-use Rattle.pos_service.specs.Refusals.{Row, Decided, first_refusal}
-use Rattle.pos_service.specs.Calls.{takes_memory as own_takes_memory, needs_of, device_found, open_rows, close_rows}
+use Rattle.pos_service.specs.Controls.{Control, closed, deliverable, delivered, is_at, new_control, open_place, opened}
+use Rattle.pos_service.specs.Claims.{after_release, claim_rows, claimed_by, holder_at, is_foreign, is_own, release_rows}
+use Rattle.pos_service.specs.Claims.{released_by}
+use Rattle.pos_service.specs.Refusals.{Decided, Row, first_refusal}
+use Rattle.pos_service.specs.Calls.{close_rows, device_found, needs_of, open_rows, takes_memory as own_takes_memory}
 use Rattle.pos_service.specs.Categories.{serves}
-use Rattle.pos_service.specs.Properties.{set_rows, after_set, tells_power, get_rows, is_of_bytes, property_of}
-use Rattle.pos_service.specs.Hardware.{Hardware, Effect, TakesIn}
+use Rattle.pos_service.specs.Properties.{after_set, get_rows, is_of_bytes, property_of, set_rows, tells_power}
+use Rattle.pos_service.specs.Hardware.{Effect, Hardware, TakesIn}
 use Rattle.pos_service.specs.Actions.{Does as CarriesOut}
-use Rattle.pos_display.specs.DisplayCalls.{display_rows, display_action}
+use Rattle.pos_display.specs.DisplayCalls.{display_action, display_rows}
 use Rattle.pos_drawer.specs.DrawerCalls.{drawer_action}
 use Rattle.pos_service.specs.Needs.{table}
-use Rattle.pos_printer.specs.PrinterCalls.{printer_rows, printer_action, due_request_at, WorksAt}
+use Rattle.pos_printer.specs.PrinterCalls.{WorksAt, due_request_at, printer_action, printer_rows}
 use Rattle.pos_scanner.specs.ScannerCalls.{scanner_action}
 use Rattle.pos_service.specs.declared.property.Property.{Property}
 use Rattle.pos_service.specs.declared.answer.Value.{Value}
 use Rattle.pos_service.specs.declared.context.PropertyContext.{PropertyContext}
 use Rattle.pos_service.specs.declared.request.Request.{Request as RequestOf}
-pub use Rattle.pos_service.specs.declared.request.Request.TheVariants.{NewControl, CallOf, InputTo, WorkOn, Deliver}
-pub use Rattle.pos_service.specs.declared.request.Request.TheVariants.{Snapshot, Attach, Detach}
+pub use Rattle.pos_service.specs.declared.request.Request.TheVariants.{Attach, CallOf, Deliver, Detach, InputTo}
+pub use Rattle.pos_service.specs.declared.request.Request.TheVariants.{NewControl, Snapshot, WorkOn}
 use Rattle.pos_service.specs.declared.request.Response.{Response as ResponseOf}
-pub use Rattle.pos_service.specs.declared.request.Response.TheVariants.{Made, Full, Answered, TakenIn, NoDevice}
-pub use Rattle.pos_service.specs.declared.request.Response.TheVariants.{WrongInput, Worked, Delivered, Shown}
-pub use Rattle.pos_service.specs.declared.request.Response.TheVariants.{Attached, NotAttached, Detached, NotDetached}
-pub use Rattle.pos_service.specs.declared.request.Response.TheVariants.{OutOfMemory}
+pub use Rattle.pos_service.specs.declared.request.Response.TheVariants.{Answered, Attached, Delivered, Detached, Full}
+pub use Rattle.pos_service.specs.declared.request.Response.TheVariants.{Made, NoDevice, NotAttached, NotDetached}
+pub use Rattle.pos_service.specs.declared.request.Response.TheVariants.{OutOfMemory, Shown, TakenIn, Worked, WrongInput}
 use Rattle.pos_service.specs.declared.faults.AttachFault.{AttachFault}
 use Rattle.pos_service.specs.declared.faults.AttachFault.TheVariants as attach
 use Rattle.pos_service.specs.declared.faults.DetachFault.{DetachFault}
 use Rattle.pos_service.specs.declared.faults.DetachFault.TheVariants as detach
-use Rattle.pos_totals.specs.HardTotals.{totals_limits, in_transaction, with_control as with_place}
+use Rattle.pos_totals.specs.HardTotals.{in_transaction, totals_limits, with_control as with_place}
 use Rattle.pos_totals.specs.TotalsClaims.{is_area_taken, without_control}
 use Rattle.pos_totals.specs.TotalsCalls.{file_call, file_rows}
-use Rattle.pos_counter.specs.Totals.{TotalsDo, Recovered, Recovers, recovers, files_summary}
-use Rattle.pos_counter.specs.Machine.{Device, Machine, place_of, hardware_named, kind_named, found_under, holder_of}
-use Rattle.pos_counter.specs.Machine.{kind_of, signs_at, with_control, with_hardware, with_standing, with_totals}
+use Rattle.pos_counter.specs.Totals.{Recovered, RecoversNothing, TotalsDo, files_summary, recovers}
+use Rattle.pos_counter.specs.Machine.{Device, Machine, found_under, hardware_named, holder_of, kind_named, kind_of}
+use Rattle.pos_counter.specs.Machine.{place_of, signs_at, with_control, with_hardware, with_standing, with_totals}
 
 -- What may be asked of the machine. Controls have numbers, not names, and a peripheral to be attached is the hardware
 -- that the device would have.
@@ -193,7 +192,7 @@ SetsByRecovery old number control property v result new =
     × (new ≡ record (with_control old number (after_set (signs_at old control) control property v)) {
       totals = new.totals;
     }))
-    ⊎ (Recovers old.totals result new.totals × (new ≡ record old { totals = new.totals }))
+    ⊎ (RecoversNothing old.totals result new.totals × (new ≡ record old { totals = new.totals }))
 
 -- What each call does if nothing refuses it.
 abbrev pub Does : Machine → ℕ → Control → Call → Answer → Machine → Type 0

@@ -1,6 +1,6 @@
 -- Hard Totals in the device machine (chapter Hard Totals).
-use Rattle.std.specs.Prelude.{◌≡◌, ◌≤◌, ◌⊎◌, ℕ, Bool, true, false, not, ◌&&◌, List, [], ◌∷◌, Option, Some, None, Result}
-use Rattle.std.specs.Prelude.{MatchResult, IsTrue, length, if◌then◌else◌}
+use Rattle.std.specs.Prelude.{Bool, IsTrue, List, MatchResult, None, Option, Result, Some, [], false, if◌then◌else◌}
+use Rattle.std.specs.Prelude.{length, not, true, ℕ, ◌&&◌, ◌∷◌, ◌≡◌, ◌≤◌, ◌⊎◌}
 use Rattle.pos_disk.specs.State.{Rises}
 use Rattle.pos_image.specs.declared.layout.Layout.{Layout}
 use Rattle.pos_service.specs.declared.answer.Answer.{Answer}
@@ -16,7 +16,7 @@ use Rattle.pos_service.specs.declared.context.OpenDevice.TheVariants as open_dev
 use Rattle.pos_service.specs.declared.property.Property.{Property}
 use Rattle.pos_service.specs.declared.property.Property.TheVariants as property
 use Rattle.pos_service.specs.Controls.{Control}
-use Rattle.pos_totals.specs.HardTotals.{Totals, Mode, Off, Ready, Change, totals_limits, files_of, is_ready}
+use Rattle.pos_totals.specs.HardTotals.{Change, Mode, Off, Ready, Totals, files_of, is_ready, totals_limits}
 use Rattle.pos_totals.specs.TotalsFiles.{free_data}
 use Rattle.pos_totals.specs.TotalsQuestions.{told_of}
 use Rattle.pos_totals.specs.TotalsChanges.{DoesChange}
@@ -25,8 +25,8 @@ use Rattle.pos_totals.specs.HardTotals.{changes_in, in_transaction, transaction_
 use Rattle.pos_totals.specs.TotalsArrangements.{after_arrangement}
 use Rattle.pos_service.specs.Calls.{takes_memory}
 use Rattle.pos_service.specs.Refusals.{Decided, first_refusal}
-use Rattle.pos_totals.specs.TotalsCalls.{FileCall, Asks, Makes, Arranges, Commits, Nothing, file_call, file_rows}
-use Rattle.pos_store.specs.Standing.{Standing, Unformatted, Damaged, IsOneOf}
+use Rattle.pos_totals.specs.TotalsCalls.{Arranges, Asks, Commits, FileCall, Makes, Nothing, file_call, file_rows}
+use Rattle.pos_store.specs.Standing.{Damaged, IsOneOf, Standing, Unformatted}
 pub use Rattle.pos_totals.specs.Changes.{settled}
 use Rattle.pos_totals.specs.Changes.{IsOneGroup, left_after as left_after_group}
 use Rattle.pos_totals.specs.Recoveries.{HasFound, HasTooMany}
@@ -123,8 +123,8 @@ Fails old new =
     ⊎ DiskFails old new
 
 -- what a recovery answers if it recovers nothing: there are no totals, or it fails
-abbrev pub Recovers : TotalsPart → Answer → TotalsPart → Type 0
-Recovers old result new =
+abbrev pub RecoversNothing : TotalsPart → Answer → TotalsPart → Type 0
+RecoversNothing old result new =
     ((result ≡ answer.Refused code.NoHardware 0) × IsOneOf old.left Unformatted × (new ≡ old))
     ⊎ ((result ≡ answer.Refused code.Failure 0) × Fails old new)
 

@@ -1,5 +1,5 @@
 //! Laws over the device machine, and what they say of a counter.
-ghost use Rattle.std.specs.Prelude.{◌≡◌, ◌≤◌, ◌⊎◌, true, List, [], ◌∷◌, ◌++◌, Some, None, ℕ, length, slice_get};
+ghost use Rattle.std.specs.Prelude.{List, None, Some, [], length, slice_get, true, ℕ, ◌++◌, ◌∷◌, ◌≡◌, ◌≤◌, ◌⊎◌};
 ghost use Rattle.pos_dir.specs.declared.file.File.{File};
 ghost use Rattle.pos_disk.specs.State.{IsAtRest, Rises};
 ghost use Rattle.pos_image.specs.declared.layout.Layout.{Layout};
@@ -15,24 +15,25 @@ ghost use Rattle.pos_service.specs.declared.property.Property.TheVariants.{Devic
 ghost use Rattle.pos_service.specs.Controls.{Control};
 ghost use Rattle.pos_store.specs.Layouts.{limits_of};
 ghost use Rattle.pos_store.specs.Recoveries.{EndsAt};
-ghost use Rattle.pos_store.specs.Standing.{Standing, Stands, StandsFor, IsOneOf};
+ghost use Rattle.pos_store.specs.Standing.{IsOneOf, Standing, Stands, StandsFor};
 ghost use Rattle.pos_totals.specs.Recoveries.{HasTooMany};
 ghost use Rattle.pos_totals.specs.Views.{WhenReady};
-ghost use Rattle.pos_counter.specs.Counters.{Begins, IsCounterSound, IsLeftDuring, IsRun, IsStep, IsStepBeside, RunsAnyhow, RunsFrom};
+ghost use Rattle.pos_counter.specs.Counters.{Begins, IsCounterSound, IsLeftDuring, IsRun, IsStep, IsStepBeside};
+ghost use Rattle.pos_counter.specs.Counters.{RunsAnyhow, RunsFrom};
 ghost use Rattle.pos_counter.specs.Crashes.{BeginsOver, HasBegun, HasRun, KeepsPrefix, KeepsPrefixes};
 ghost use Rattle.pos_counter.specs.DiskUse.{SparesDisk};
 ghost use Rattle.pos_counter.specs.Errands.{HasRunSame, IsSameCounter};
-ghost use Rattle.pos_counter.specs.Examples.{MayHave, new_machine, steps_into_doubt, steps_through_doubt, a_group};
-ghost use Rattle.pos_counter.specs.History.{Group, History, FilesEvent, begun, told};
-ghost use Rattle.pos_counter.specs.History.{history_along, history_of, history_with};
+ghost use Rattle.pos_counter.specs.Examples.{MayHave, a_group, new_machine, steps_into_doubt, steps_through_doubt};
+ghost use Rattle.pos_counter.specs.History.{FilesEvent, Group, History, begun, history_along, history_of, history_with};
+ghost use Rattle.pos_counter.specs.History.{told};
 ghost use Rattle.pos_counter.specs.Machine.{Machine};
 ghost use Rattle.pos_counter.specs.Leaving.{IsSettled, Leaves};
-ghost use Rattle.pos_counter.specs.Prefixes.{BeginsWith, IsFiles, IsPrefixAlong, StandsForSome, StartsWith};
-ghost use Rattle.pos_counter.specs.Prefixes.{IsPrefix, IsPrefixOf, LeavesPrefix, LeavesPrefixInside, moved_with};
+ghost use Rattle.pos_counter.specs.Prefixes.{BeginsWith, IsFiles, IsPrefix, IsPrefixAlong, IsPrefixOf, LeavesPrefix};
+ghost use Rattle.pos_counter.specs.Prefixes.{LeavesPrefixInside, StandsForSome, StartsWith, moved_with};
 ghost use Rattle.pos_counter.specs.Reopening.{FindsThem, enabling};
 ghost use Rattle.pos_counter.specs.Sparing.{AllSpare, RunSparing};
-ghost use Rattle.pos_counter.specs.Steps.{Request, CallOf, IsSound, Response, Step, Run};
-ghost use Rattle.pos_counter.specs.Totals.{Recovers, TotalsPart, asks_recovery};
+ghost use Rattle.pos_counter.specs.Steps.{CallOf, IsSound, Request, Response, Run, Step};
+ghost use Rattle.pos_counter.specs.Totals.{RecoversNothing, TotalsPart, asks_recovery};
 
 use crate::counter::Counter;
 use pos_disk::Disk;
@@ -70,7 +71,7 @@ pub fn crash_prefix()
     ensures recovers { (layout : Layout) (start : List File) (sequence : ℕ) (first last : Machine)
         (steps : List (Request × Response))
         → Run first steps last → StartsWith layout start sequence first.totals
-        → (result : Answer) (new : TotalsPart) → Recovers last.totals result new
+        → (result : Answer) (new : TotalsPart) → RecoversNothing last.totals result new
         → (result ≡ Refused Failure 0)
         × (HasTooMany (IsOneOf last.totals.left) last.totals.totals.next ⊎ Rises last.totals.failures new.failures) }
     // no step alters the settled groups
@@ -157,7 +158,7 @@ pub fn enabling_finds_the_files()
         (steps : List (Request × Response))
         → Run first steps last → StartsWith layout start sequence first.totals → length start ≤ (limits_of layout).files
         → last.totals.totals.next ≡ 1
-        → (result : Answer) (new : TotalsPart) → Recovers last.totals result new
+        → (result : Answer) (new : TotalsPart) → RecoversNothing last.totals result new
         → (result ≡ Refused Failure 0) × Rises last.totals.failures new.failures }
     // a disk stands for so few files
     ensures few { (layout : Layout) (files : List File) (sequence : ℕ) (bytes : List ℕ)

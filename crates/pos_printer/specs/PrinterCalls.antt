@@ -1,8 +1,8 @@
 -- The calls of a receipt printer, and the work on the output that waits for it (chapter POS Printer, and common
 -- chapter, asynchronous output and error handling).
-use Rattle.std.specs.Prelude.{◌≡◌, ℕ, ℤ, pos, negsuc, nat_abs, Bool, false, not, ◌&&◌, ◌==◌, List, [], ◌∷◌, Option}
-use Rattle.std.specs.Prelude.{Some, None, Result, Ok, MatchOption, MatchResult, slice_get, if◌then◌else◌}
-use Rattle.std.specs.Option.{option_map, option_and_then}
+use Rattle.std.specs.Prelude.{Bool, List, MatchOption, MatchResult, None, Ok, Option, Result, Some, [], false}
+use Rattle.std.specs.Prelude.{if◌then◌else◌, nat_abs, negsuc, not, pos, slice_get, ℕ, ℤ, ◌&&◌, ◌==◌, ◌∷◌, ◌≡◌}
+use Rattle.std.specs.Option.{option_and_then, option_map}
 use Rattle.pos_service.specs.declared.answer.Answer.{Answer}
 use Rattle.pos_service.specs.declared.call.Call.{Call}
 use Rattle.pos_service.specs.declared.call.Call.TheVariants as call
@@ -29,7 +29,7 @@ use Rattle.pos_service.specs.Numbers.{is_up_to}
 use Rattle.pos_service.specs.Output.{is_outstanding}
 use Rattle.pos_service.specs.Receipts.{is_printable_text}
 use Rattle.pos_service.specs.Refusals.{Row, when}
-use Rattle.pos_service.specs.Hardware.{Hardware, SameHardware, Effect}
+use Rattle.pos_service.specs.Hardware.{Effect, Hardware, NothingChanges}
 
 -- the station of the receipt
 abbrev pub is_receipt : ℤ → Bool
@@ -139,7 +139,7 @@ OrdersOfWork outcome old new = GivesOne outcome old new
 -- Memory is wanted only for such a request, and then nothing changes.
 abbrev pub WorksAt : Option ℕ → ℕ → Result WorkResult NoMemory → Effect
 WorksAt holder place outcome old before new after = MatchOption (due_request_at before.kind place holder old)
-    ((outcome ≡ Ok worked.Idle) × SameHardware old before new after)
+    ((outcome ≡ Ok worked.Idle) × NothingChanges old before new after)
     (λ work. MatchResult outcome
     (λ result. WorksOn work place result old before new after)
-    (λ want. SameHardware old before new after))
+    (λ want. NothingChanges old before new after))

@@ -4,7 +4,7 @@ use Rattle.std.proofs.Common.{replicate, subst, sym, take, true, ℕ, ◌++◌, 
 use Rattle.std.proofs.Math.Seq.{get_or-append_seam}
 use Rattle.std.proofs.lemmas.Grind.{common_steps}
 use Rattle.std.proofs.lemmas.List.{take-append-drop}
-use Rattle.std.specs.Prelude.{Result, Ok, Err, OnOk}
+use Rattle.std.specs.Prelude.{Err, Ok, OnOk, Result}
 use Rattle.pos_disk.proofs.MomentLemmas.{rest_leaves}
 use Rattle.pos_disk.specs.Fuse.{may_under}
 use Rattle.pos_disk.specs.Kept.{from_moment, to_moment}
@@ -16,7 +16,7 @@ use Rattle.pos_mirror.specs.Mirror.{Mirror, mirror_state}
 use Rattle.pos_file.specs.Calls.{Call}
 use Rattle.pos_image.specs.NewDisk.{KeepsRest}
 use Rattle.pos_program.proofs.MirroredLemmas.{cut_left}
-use Rattle.pos_program.specs.Formats.{IsFormatted, IsUnformatted, LeavesFormatted}
+use Rattle.pos_program.specs.Formats.{IsFormatted, IsNotFormatted, LeavesFormatted}
 use Rattle.pos_program.specs.Migrations.{IsRefusedMove, LeavesMoved}
 use Rattle.pos_store.specs.Migrations.{KeepsFirstLayout}
 use Rattle.pos_store.specs.MovedDisks.{AnswersMove, AreMoved, MovesAny}
@@ -112,7 +112,7 @@ module _ {F : Type 0} {calls : F → List Call} (totals after : Mirror (FileDisk
     }
 
     -- they weren't
-    pub leaves_unformatted : (why : FileFault) → IsUnformatted (mirror_state totals) (mirror_state after) why
+    pub leaves_unformatted : (why : FileFault) → IsNotFormatted (mirror_state totals) (mirror_state after) why
         → LeavesFormatted calls totals after (Err why)
     leaves_unformatted why unformatted = record {
       file = mirrored;

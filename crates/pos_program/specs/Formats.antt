@@ -1,5 +1,5 @@
 -- What formatting a disk answers, and what it leaves (docs/reference/totals-file.md, "Formatting").
-use Rattle.std.specs.Prelude.{◌≡◌, ◌⊎◌, ℕ, List, true, false, Result, Ok, Err, OnOk}
+use Rattle.std.specs.Prelude.{Err, List, Ok, OnOk, Result, false, true, ℕ, ◌≡◌, ◌⊎◌}
 use Rattle.pos_disk.specs.Memory.{state_of}
 use Rattle.pos_disk.specs.State.{DiskState, IsAtRest}
 use Rattle.pos_file.specs.Calls.{Call}
@@ -13,7 +13,7 @@ use Rattle.pos_mirror.specs.Mirror.{Mirror, mirror_state}
 use Rattle.pos_program.specs.Answers.{AnswersFor}
 use Rattle.pos_program.specs.MirroredFiles.{CutMayLeave, IsMirrored}
 use Rattle.pos_program.specs.declared.file_fault.FileFault.{FileFault}
-use Rattle.pos_program.specs.declared.file_fault.FileFault.TheVariants.{Formatted, Device}
+use Rattle.pos_program.specs.declared.file_fault.FileFault.TheVariants.{Device, Formatted}
 use Rattle.pos_program.specs.declared.named_files.NamedFiles.{Ghosts}
 
 -- There were no totals on the disk. It is at rest, with no files by layout 1, and sequence 1.
@@ -24,7 +24,7 @@ pub record IsFormatted (old new : DiskState) : Type 0 where
   pub gates : HasClosedGates new.reading
 
 -- A disk that can't be formatted: totals are there, or it failed. One with totals was only looked at, whatever is told.
-pub record IsUnformatted (old new : DiskState) (why : FileFault) : Type 0 where
+pub record IsNotFormatted (old new : DiskState) (why : FileFault) : Type 0 where
   pub why_told : (why ≡ Formatted) ⊎ (why ≡ Device)
   pub formatted : why ≡ Formatted → is_marked old.reading ≡ true
   pub device : why ≡ Device → HasFailed old new
@@ -38,7 +38,7 @@ disk_of (Err (why, disk)) = disk
 -- what is answered, by how the disk was and is
 abbrev pub AnswersFormat : DiskState → DiskState → Result (Unit {0}) FileFault → Type 0
 AnswersFormat old new (Ok u) = IsFormatted old new
-AnswersFormat old new (Err why) = IsUnformatted old new why
+AnswersFormat old new (Err why) = IsNotFormatted old new why
 
 -- Totals in a file were formatted, or not. The calls of the file make what is left.
 pub record LeavesFormatted {F : Type 0} (calls : F → List Call) (totals after : Mirror (FileDisk F))

@@ -1,8 +1,8 @@
 //! Formatting a file.
-ghost use Rattle.std.specs.Prelude.{◌≤◌, IfErr, IfOk, length};
+ghost use Rattle.std.specs.Prelude.{IfErr, IfOk, length, ◌≤◌};
 ghost use Rattle.pos_image.specs.Layout.{disk_size};
 ghost use Rattle.pos_image.specs.NewDisk.{KeepsRest};
-ghost use Rattle.pos_program.specs.Formats.{FormatsFile, FormatsTotals, IsFormatted, IsUnformatted, disk_of};
+ghost use Rattle.pos_program.specs.Formats.{FormatsFile, FormatsTotals, IsFormatted, IsNotFormatted, disk_of};
 ghost use Rattle.pos_program.specs.TotalsDisks.{IsNewMirror};
 
 use crate::file_fault::FileFault;
@@ -24,7 +24,7 @@ use pos_image::{ImageFault, Images};
 pub fn format_disk<D: Disk + Drop>(disk: D) -> Result<D, (FileFault, D)>
     requires { disk_size ≤ D.size disk }
     ensures formatted { D.honest disk → IfOk result (λ formatted. IsFormatted (D.state disk) (D.state formatted)) }
-    ensures refused { D.honest disk → IfErr result (λ e. IsUnformatted (D.state disk) (D.state e.1) e.0) }
+    ensures refused { D.honest disk → IfErr result (λ e. IsNotFormatted (D.state disk) (D.state e.1) e.0) }
     ensures rest { D.honest disk → KeepsRest (D.state disk).reading (D.state (disk_of result)).reading }
 {
     match Images::format(disk) {

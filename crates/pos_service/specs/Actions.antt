@@ -1,7 +1,7 @@
 -- What a call comes to that nothing refuses, at a device with a peripheral (common chapter, and those of the
 -- categories).
-use Rattle.std.specs.Prelude.{◌≡◌, ◌⊎◌, ⊤, Bool, true, false, ℕ, ◌==◌, List, [], ◌∷◌, Option, Some, None, Result}
-use Rattle.std.specs.Prelude.{IsTrue, MatchOption, MatchResult, slice_get, slice_set}
+use Rattle.std.specs.Prelude.{Bool, IsTrue, List, MatchOption, MatchResult, None, Option, Result, Some, [], false}
+use Rattle.std.specs.Prelude.{slice_get, slice_set, true, ℕ, ⊤, ◌==◌, ◌∷◌, ◌≡◌, ◌⊎◌}
 use Rattle.pos_service.specs.declared.answer.Answer.{Answer}
 use Rattle.pos_service.specs.declared.answer.Answer.TheVariants as answer
 use Rattle.pos_service.specs.declared.answer.Value.TheVariants as value
@@ -23,8 +23,8 @@ use Rattle.pos_service.specs.Controls.{Control, all_listening, queued, with_plac
 use Rattle.pos_service.specs.Controls.{without_scan}
 use Rattle.pos_service.specs.Output.{last_output_id}
 use Rattle.pos_service.specs.Peripherals.{Performs, PrintersTake, Rose, counted, order_fits, signs_of}
-use Rattle.pos_service.specs.Refusals.{Row, Decided, first_refusal, when}
-use Rattle.pos_service.specs.Hardware.{Hardware, SameHardware, Effect}
+use Rattle.pos_service.specs.Refusals.{Decided, Row, first_refusal, when}
+use Rattle.pos_service.specs.Hardware.{Effect, Hardware, NothingChanges}
 use Rattle.pos_service.specs.Statuses.{heard_signs}
 
 -- One more order was given than before; or, where memory was wanted before there was room for what comes of it, none.
@@ -45,7 +45,7 @@ pub record CarriedOut (given : Order) (place : ℕ)
 pub record Hindered (given : Order) (said : Reply)
     (old : List Control) (before : Hardware) (new : List Control) (after : Hardware) : Type 0 where
   pub plant : Performs given before.plant said after.plant
-  pub same : SameHardware old before new after
+  pub same : NothingChanges old before new after
 
 -- The line to the device fails, and nothing else changes.
 pub record LineFailed (old : List Control) (before : Hardware) (new : List Control) (after : Hardware) : Type 0 where
@@ -113,7 +113,7 @@ id_rows control = when (control.writer.output.next == last_output_id) code.Failu
 -- A request of the control with a number is queued, where an OutputID is left for it.
 abbrev pub QueuesOrder : Order → ℕ → Answer → Effect
 QueuesOrder given number result old before new after = MatchOption (slice_get old number) ⊥ (λ control.
-    Decided (id_rows control) result (SameHardware old before new after)
+    Decided (id_rows control) result (NothingChanges old before new after)
     (Queued given number result old before new after))
 
 -- What the call of the control with a number comes to, with the device at a place.

@@ -1,5 +1,5 @@
 -- What stands at a device, and what a category's calls and inputs do there to the list of all controls.
-use Rattle.std.specs.Prelude.{◌≡◌, ℕ, true, false, List, Option, Some, None, Result, MatchResult}
+use Rattle.std.specs.Prelude.{List, MatchResult, None, Option, Result, Some, false, true, ℕ, ◌≡◌}
 use Rattle.pos_service.specs.declared.input.Input.{Input}
 use Rattle.pos_service.specs.declared.input.Input.TheVariants as input
 use Rattle.pos_service.specs.declared.input.Taken.{Taken}
@@ -9,7 +9,7 @@ use Rattle.pos_service.specs.declared.faults.NoMemory.{NoMemory}
 use Rattle.pos_service.specs.declared.plant.Plant.{Plant}
 use Rattle.pos_service.specs.declared.signs.PaperLevel.TheVariants as paper
 use Rattle.pos_service.specs.declared.signs.Signs.{Signs}
-use Rattle.pos_service.specs.Controls.{Control, read, failed, all_listening}
+use Rattle.pos_service.specs.Controls.{Control, all_listening, failed, read}
 use Rattle.pos_service.specs.Peripherals.{PeripheralState, Takes, input_fits, signs_of}
 use Rattle.pos_service.specs.Statuses.{heard_signs}
 
@@ -29,7 +29,8 @@ signs_in None = record { powered = true; drawer_open = false; cover_open = false
 signs_in (Some hardware) = signs_of hardware.kind hardware.plant
 
 -- Controls and hardware are as they were.
-pub record SameHardware (old : List Control) (before : Hardware) (new : List Control) (after : Hardware) : Type 0 where
+pub record NothingChanges (old : List Control) (before : Hardware) (new : List Control)
+    (after : Hardware) : Type 0 where
   pub controls : new ≡ old
   pub hardware : after ≡ before
 
@@ -65,4 +66,4 @@ pub record TakesIn (input : Input) (place : ℕ)
 abbrev pub TakenAt : Input → ℕ → Result (Unit {0}) NoMemory → Effect
 TakenAt input place outcome old before new after = MatchResult outcome
     (λ done. TakesIn input place old before new after)
-    (λ want. SameHardware old before new after)
+    (λ want. NothingChanges old before new after)

@@ -52,11 +52,12 @@ fn main(rt: HostRuntime) -> anyhow::Result<()> {
     let alloc = rt.alloc();
     let profile = Profile::from_text(alloc, PROFILE)?;
     let disk = new_disk(alloc)?;
-    let driver = Box::new(alloc, Drawer::new())?;
+    let driver = PeripheralBox::new(Box::new(alloc, Drawer::new())?);
     let Ok(mut counter) = Counter::new(alloc, &profile, Vec::new(alloc), disk) else {
+        driver.end();
         bail!("no memory for the counter");
     };
-    if let Err((_, refused)) = counter.attach(b"drawer", PeripheralBox::new(driver)) {
+    if let Err((_, refused)) = counter.attach(b"drawer", driver) {
         refused.end();
     }
     let outcome = open_drawer(&rt, &mut counter);

@@ -91,6 +91,7 @@ abbrev pub status : Fault → ℕ
 status (fault.Words why) = words_status why
 status (fault.File path cause) = file_status cause
 status (fault.Totals path cause) = survey_status cause
+status (fault.Unsalvaged path cause) = survey_status cause
 status (fault.Whole path cause) = whole_status cause
 status (fault.Load path cause) = load_status cause
 status (fault.Taken path) = 4

@@ -1,5 +1,5 @@
 -- What salvaging and loading come to (docs/reference/tool.md, "salvage" and "load").
-use Rattle.std.specs.Prelude.{◌≡◌, ℕ, List, Result, Ok, Err, ⊤}
+use Rattle.std.specs.Prelude.{Err, List, Ok, Result, ℕ, ⊤, ◌≡◌}
 use Rattle.std.specs.declared.io.Error.{Error}
 use Rattle.pos_file.specs.declared.block_file.BlockFile.{Ghosts as FileGhosts}
 use Rattle.pos_file.specs.declared.file_disk.FileDisk.{FileDisk}
@@ -14,7 +14,7 @@ use Rattle.pos_report.specs.declared.load.LoadFault.{LoadFault}
 use Rattle.pos_report.specs.declared.question.Finding.{Finding}
 use Rattle.pos_report.specs.declared.salvage.Salvaged.{Salvaged}
 use Rattle.pos_survey.specs.declared.fault.SurveyFault.{SurveyFault}
-use Rattle.pos_tool.specs.Copies.{EndsCopy, EndsUnsound, PutsNew}
+use Rattle.pos_tool.specs.Copies.{EndsCopy, PutsNew}
 use Rattle.pos_shell.specs.Outputs.{Output}
 use Rattle.pos_tool.specs.Surveys.{ClosesBefore, EndsAtFile, Prints}
 use Rattle.pos_tool.specs.Whole.{Puts}
@@ -40,13 +40,18 @@ PutsSalvaged system folder below them later to made old new result =
     (answer : Result (Unit {0}) WholeFault) × Puts system folder below them later to made.bytes.items answer
     × PrintsLost to made.lost.items answer old new result
 
+-- what is answered of damaged bytes at a path of which nothing can be had
+abbrev pub EndsUnsalvaged : List ℕ → SurveyFault → Result Finding Fault → Type 0
+EndsUnsalvaged path cause (Err (fault.Unsalvaged at why)) = (at.now ≡ path) × (why ≡ cause)
+EndsUnsalvaged path cause other = ⊥
+
 -- what becomes of what was salvaged, or of damaged bytes of which nothing can be had
 abbrev pub EndsSalvage : {S F : Type 0} → SystemGhosts S F → FolderGhosts S → FileGhosts F → S → S → List ℕ → List ℕ
     → Result Salvaged SurveyFault → Output → Output → Result Finding Fault → Type 0
 EndsSalvage system folder below them later from to (Ok made) old new result =
     PutsSalvaged system folder below them later to made old new result
 EndsSalvage system folder below them later from to (Err cause) old new result =
-    EndsUnsound from cause result × (new ≡ old) × (later ≡ them)
+    EndsUnsalvaged from cause result × (new ≡ old) × (later ≡ them)
 
 -- what is made of damaged bytes: a file with the bytes that were salvaged
 abbrev pub SalvagesBytes : {S F : Type 0} → SystemGhosts S F → FolderGhosts S → FileGhosts F → S → S → List ℕ → List ℕ

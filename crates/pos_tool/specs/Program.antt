@@ -1,6 +1,6 @@
 -- What the program does for its words, and how it ends (docs/reference/tool.md).
-use Rattle.std.specs.Prelude.{◌≡◌, ◌≢◌, ℕ, List, [], Option, Some, None, Result, Ok, Err, Vec, bytes_eq, codes}
-use Rattle.std.specs.Prelude.{◌&&◌, ◌++◌, Bool, flat_map, if◌then◌else◌, map}
+use Rattle.std.specs.Prelude.{Bool, Err, List, None, Ok, Option, Result, Some, Vec, [], bytes_eq, codes, flat_map}
+use Rattle.std.specs.Prelude.{if◌then◌else◌, map, ℕ, ◌&&◌, ◌++◌, ◌≡◌, ◌≢◌}
 use Rattle.std.specs.Borrow.{Bor}
 use Rattle.pos_disk.specs.Memory.{Memory}
 use Rattle.pos_disk.specs.declared.device.Disk.{Ghosts as DiskGhosts}
@@ -26,8 +26,8 @@ use Rattle.pos_tool.specs.Trials.{EndsTest}
 use Rattle.pos_report.specs.Texts.{explained, explained_as}
 use Rattle.pos_report.specs.declared.codes.Code.{Code}
 use Rattle.pos_tool.specs.declared.commands.Task.{Task}
-use Rattle.pos_tool.specs.declared.commands.Task.TheVariants.{Help, Version, Explain, Ask, Create, Migrate, Backup}
-use Rattle.pos_tool.specs.declared.commands.Task.TheVariants.{Restore, Diff, Load, Salvage, Run, Test, Completions, Man}
+use Rattle.pos_tool.specs.declared.commands.Task.TheVariants.{Ask, Backup, Completions, Create, Diff, Explain, Help}
+use Rattle.pos_tool.specs.declared.commands.Task.TheVariants.{Load, Man, Migrate, Restore, Run, Salvage, Test, Version}
 use Rattle.pos_tool.specs.declared.fault.Fault.{Fault}
 use Rattle.pos_tool.specs.declared.fault.Fault.TheVariants as fault
 use Rattle.pos_tool.specs.declared.fault.WordsFault.{WordsFault}

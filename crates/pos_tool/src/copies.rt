@@ -3,7 +3,8 @@ ghost use Rattle.std.specs.Prelude.{IfErr, IfOk};
 ghost use Rattle.pos_program.specs.Answers.{bytes_of};
 ghost use Rattle.pos_tool.specs.Copies.{BacksUp, ChecksSound, CopiesTo, EndsCopy, IsUnread, IsUnreadTwice, PutsBack};
 ghost use Rattle.pos_tool.specs.Copies.{ReadsFront, ReadsSteady, ReadsTwice, Restores, TakesSnapshot, lent};
-ghost use Rattle.pos_tool.specs.NewFiles.{EndsSalvage, Loads, LoadsText, MakesLoad, MakesSalvage, PutsSalvaged, Salvages};
+ghost use Rattle.pos_tool.specs.NewFiles.{EndsSalvage, Loads, LoadsText, MakesLoad, MakesSalvage, PutsSalvaged};
+ghost use Rattle.pos_tool.specs.NewFiles.{Salvages};
 ghost use Rattle.pos_tool.specs.Surveys.{EndsAtFile};
 ghost use Rattle.pos_program.specs.declared.file_fault.FileFault.TheVariants.{Unreadable};
 ghost use Rattle.pos_shell.specs.Outputs.{output_of};
@@ -231,7 +232,7 @@ fn end_salvage<'a, S: FileSystem + Folder + AllocGlobal, W: Sink>(
 {
     match made {
         Ok(made) => put_salvaged(system, writer, &made, to),
-        Err(cause) => Err(Fault::Totals { path: from, cause }),
+        Err(cause) => Err(Fault::Unsalvaged { path: from, cause }),
     }
 }
 
@@ -240,8 +241,8 @@ fn end_salvage<'a, S: FileSystem + Folder + AllocGlobal, W: Sink>(
 ///
 /// # Errors
 ///
-/// `File` if the damaged file can't be read or is in use; `Totals` if nothing can be had of it; `Whole` if the new file
-/// can't be made, or one is there; `Write` if the new file is there, but what was lost can't be written.
+/// `File` if the damaged file can't be read or is in use; `Unsalvaged` if nothing can be had of it; `Whole` if the new
+/// file can't be made, or one is there; `Write` if the new file is there, but what was lost can't be written.
 pub(crate) fn salvage<'a, S: FileSystem + Folder + AllocGlobal, W: Sink>(
     system: &mut S,
     writer: &mut W,

@@ -1,7 +1,8 @@
 //! Why the program doesn't do what it was asked, and the status that it ends with.
 ghost use Rattle.std.specs.Prelude.{◌≡◌};
 ghost use Rattle.pos_tool.specs.Faults.{file_status, finding_status, load_status, profile_status, run_status, status};
-ghost use Rattle.pos_tool.specs.Faults.{status_of, survey_status, told_status, trial_status, whole_status, words_status};
+ghost use Rattle.pos_tool.specs.Faults.{status_of, survey_status, told_status, trial_status, whole_status};
+ghost use Rattle.pos_tool.specs.Faults.{words_status};
 ghost use Rattle.pos_tool.specs.Surveys.{EndsAt};
 
 use crate::whole::WholeFault;
@@ -37,6 +38,13 @@ pub enum Fault<'a> {
     },
     /// The bytes of a totals file are no totals, or damaged ones.
     Totals {
+        /// Its path, as its word stood.
+        path: &'a str,
+        /// Why.
+        cause: SurveyFault,
+    },
+    /// Nothing can be had of the bytes of a totals file.
+    Unsalvaged {
         /// Its path, as its word stood.
         path: &'a str,
         /// Why.
@@ -230,7 +238,7 @@ impl Fault<'_> {
         match self {
             Fault::Words(fault) => words_status(fault),
             Fault::File { cause, .. } => file_status(cause),
-            Fault::Totals { cause, .. } => survey_status(cause),
+            Fault::Totals { cause, .. } | Fault::Unsalvaged { cause, .. } => survey_status(cause),
             Fault::Whole { cause, .. } => whole_status(cause),
             Fault::Load { cause, .. } => load_status(cause),
             Fault::Taken { .. } => 4,
@@ -316,8 +324,18 @@ fn hint_of_totals(cause: &SurveyFault) -> &'static str {
         }
         SurveyFault::Unformatted => "is it the right file? Restore a copy if it had totals",
         SurveyFault::Damaged(_, _) =>
-            "`kijolvar salvage FILE TO` makes a sound file of what can be had",
+            "`kijolvar salvage FILE TO` makes a sound file of what can be had, if an image is left",
         SurveyFault::NoMemory => "free memory, and try again",
+    }
+}
+
+// What to do about bytes of which nothing can be had.
+fn hint_of_unsalvaged(cause: &SurveyFault) -> &'static str {
+    match cause {
+        SurveyFault::Unformatted => {
+            "`kijolvar check FILE` says if it was damaged or has no totals; restore a copy, or load a dump"
+        }
+        _ => hint_of_totals(cause),
     }
 }
 
@@ -374,6 +392,7 @@ impl Fault<'_> {
             Fault::Words(fault) => hint_of_words(fault),
             Fault::File { cause, .. } => hint_of_file(cause),
             Fault::Totals { cause, .. } => hint_of_totals(cause),
+            Fault::Unsalvaged { cause, .. } => hint_of_unsalvaged(cause),
             Fault::Whole { cause, .. } => hint_of_whole(cause),
             Fault::Taken { .. } => {
                 "if `create` was cut off, remove FILE and make it again; if its totals were cut off, salvage them"
@@ -430,6 +449,15 @@ impl fmt::Display for Cause<'_> {
     }
 }
 
+// Writes why nothing can be had of bytes.
+fn tell_unsalvaged<W: Write>(path: &str, cause: &SurveyFault, line: &mut W) -> fmt::Result {
+    if let SurveyFault::Unformatted = cause {
+        return write!(line, "{path}: no image is left, so nothing can be salvaged");
+    }
+    let cause = Cause(cause);
+    write!(line, "{path}: {cause}")
+}
+
 // Writes why scripts can't be run.
 fn tell_run<W: Write>(fault: &RunFault<'_>, line: &mut W) -> fmt::Result {
     match fault {
@@ -460,6 +488,7 @@ impl Fault<'_> {
                 let cause = Cause(cause);
                 write!(line, "{path}: {cause}")
             }
+            Fault::Unsalvaged { path, cause } => tell_unsalvaged(path, cause, line),
             Fault::Whole { path, cause } => write!(line, "{path}: {cause}"),
             Fault::Taken { path } => write!(
                 line,

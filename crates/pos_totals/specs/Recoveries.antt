@@ -1,6 +1,6 @@
 -- What a recovery of the totals answers, and what a crash during it may leave.
-use Rattle.std.specs.Prelude.{◌≡◌, ◌⊎◌, ◌≤◌, ◌+◌, ℕ, List, [], ◌∷◌, length, Option, Some, None, Result, Ok, Err}
-use Rattle.std.specs.Prelude.{IsErrOf}
+use Rattle.std.specs.Prelude.{Err, IsErrOf, List, None, Ok, Option, Result, Some, [], length, ℕ, ◌+◌, ◌∷◌, ◌≡◌, ◌≤◌}
+use Rattle.std.specs.Prelude.{◌⊎◌}
 use Rattle.pos_disk.specs.Keeps.{KeepsDisk}
 use Rattle.pos_disk.specs.State.{DiskState, HasNotFailed}
 use Rattle.pos_disk.specs.declared.device.Disk.{Ghosts}
@@ -9,12 +9,12 @@ use Rattle.pos_image.specs.declared.layout.Layout.{Layout}
 use Rattle.pos_service.specs.declared.code.Code.{Code}
 use Rattle.pos_service.specs.declared.code.Code.TheVariants as code
 use Rattle.pos_totals.specs.HardTotals.{File, Ready, Totals, last_number}
-use Rattle.pos_store.specs.Standing.{Standing, Unformatted, Damaged, Stands, IsOneOf, StandsFor, LeavesOneOf, Passes}
+use Rattle.pos_store.specs.Standing.{Damaged, IsOneOf, LeavesOneOf, Passes, Standing, Stands, StandsFor, Unformatted}
 use Rattle.pos_store.specs.declared.fault.StoreFault.{StoreFault}
 use Rattle.pos_store.specs.declared.fault.StoreFault.TheVariants as store
 use Rattle.pos_totals.specs.Changes.{HasFailed, settled}
 use Rattle.pos_totals.specs.Tables.{new_tag}
-use Rattle.pos_totals.specs.Views.{TotalsView, called, WhenOff, WhenReady, LeavesTheirFiles}
+use Rattle.pos_totals.specs.Views.{LeavesTheirFiles, TotalsView, WhenOff, WhenReady, called}
 use Rattle.pos_totals.specs.declared.fault.RecoveryFault.{RecoveryFault}
 use Rattle.pos_totals.specs.declared.fault.RecoveryFault.TheVariants as fault
 
@@ -27,8 +27,8 @@ numbered next (file ∷ files) = called (new_tag next) file ∷ numbered (next +
 abbrev pub AreLeft : ℕ → ℕ → Type 0
 AreLeft next count = next + count ≤ last_number
 
--- The layout is the one that was found, and so is the place after the records. The files that were found have the
--- handles from the next one on, and the next one is after them.
+-- The layout is the one that was found, and the place after the records is some number: a law of the counter says which
+-- over an honest disk. The files that were found have the handles from the next one on, and the next one is after them.
 pub record HasFound (P : Standing → Type 0) (old new : Totals) : Type 0 where
   pub layout : Layout
   pub files : List PlainFile
