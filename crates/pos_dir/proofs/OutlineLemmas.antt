@@ -1,8 +1,8 @@
 -- A check over names and sizes answers as the change of the files that have them.
-use Rattle.pos_dir.proofs.Common.{Agrees, AreOutlines, Bool, Change, DirectoryFault, Err, File, IsChange, IsDirectory}
+use Rattle.pos_dir.proofs.Common.{Agrees, AreOutlines, Bool, Change, DirectoryFault, File, IsChange, IsDirectory}
 use Rattle.pos_dir.proofs.Common.{Limits, List, Ok, Outline, Result, Shape, Some, [], and_then, ap, arith, at_drop_more}
 use Rattle.pos_dir.proofs.Common.{bytes_eq, drop, get_or, has_name, insert, is_named, length, length-map, list_any, map}
-use Rattle.pos_dir.proofs.Common.{nat_tests, option_map, outcome, outcome_of_all, refl, remove, result_err, set}
+use Rattle.pos_dir.proofs.Common.{nat_tests, option_map, outcome, outcome_of_all, refl, remove, set}
 use Rattle.pos_dir.proofs.Common.{shape_of, shape_of_file, size_in, slice_get, slice_get-get_or, slice_get-map}
 use Rattle.pos_dir.proofs.Common.{slice_get_within, suc, sum_by, sum_by-cons, sym, total_size, zero, ℕ, ◌+◌, ◌<◌, ◌||◌}
 use Rattle.pos_dir.proofs.Common.{◌∙◌, ◌∷◌, ◌≡◌, ◌≤◌}
@@ -93,12 +93,6 @@ module _ (limits : Limits) (outlines : List Outline) (changes : List Change) (i 
   stage_on next takes made =
       let one = made stage.0 stage.2 in
       (one.0, changed stage.1 takes one.1, one.2, rw one.1 at split)
-
-  -- a change that is refused is the end
-  pub stage_stops : (fault : DirectoryFault)
-      → ((files : List File) → AreOutlines outlines files → outcome limits files change ≡ Err fault)
-      → Some fault ≡ result_err total
-  stage_stops fault stopped = ap result_err (rw (stopped stage.0 stage.2) at split)
 
 -- at each stage the sizes fit
 pub stage_room : {limits : Limits} (outlines : List Outline) (rest : List Change)

@@ -1,6 +1,6 @@
 -- The devices of a registry, where the peripheral of one changes.
-use Rattle.pos_profile.proofs.Common.{AllByRecursion, Device, Entry, HasKindInRange, IfSome, IsInRange, IsInUse, []}
-use Rattle.pos_profile.proofs.Common.{IsIndexOf, IsNamed, IsPut, IsRegistrySound, IsServed, IsSoundEntry, List}
+use Rattle.pos_profile.proofs.Common.{AllByRecursion, Device, Entry, HasKindInRange, IfSome, IsInRange, []}
+use Rattle.pos_profile.proofs.Common.{IsIndexOf, IsPut, IsRegistrySound, IsServed, IsSoundEntry, List}
 use Rattle.pos_profile.proofs.Common.{MayServe, None, Option, PeripheralState, Planned, Some, ap, arith}
 use Rattle.pos_profile.proofs.Common.{common_steps, cons_option, device_of, devices, devices_of, drop, get_or}
 use Rattle.pos_profile.proofs.Common.{get_or-map, gets, is_some, kind_of, length, length-map, map, map-set, parked}
@@ -40,11 +40,6 @@ devices_count peripherals slots = length-map slots (λ s. device_of peripherals 
 
 pub names_count : (list : List Device) → length (names_of list) ≡ length list
 names_count list = length-map list (λ (d : Device). d.name)
-
--- the named device has its peripheral
-pub in_use : {list : List Device} {name : List ℕ} {device : Device} → IsNamed list name device
-    → is_some device.peripheral ≡ true → IsInUse list name
-in_use named is = grind (arith, named)
 
 -- another peripheral, or none, is put into a slot
 pub devices_set : {P : Type 0} (peripherals : Ghosts P) (slots : List (Slot P)) (place : ℕ) (slot : Slot P) (x : Option

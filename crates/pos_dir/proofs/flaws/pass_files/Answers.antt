@@ -21,23 +21,6 @@ returns-in_default-clause-stopped c =
       why = c.file_flaw.ensures c.args.room read.files (sym c.in_default.ensures);
     }
 
-pub returns-then-is_used-clause-stopped : goal.returns-then-is_used-clause-stopped
-returns-then-is_used-clause-stopped c =
-    let read = c.loop-i.invariant in
-    record {
-      files = read.files;
-      read = read.read;
-      fewer = omega (arith, read.count, c.loop-i-test.true);
-      fits = omega (arith, read.room);
-      distinct = read.distinct;
-      why = (
-        (file_of c.in-Some.file, c.in-Some.after.now),
-        sym c.in-Some.ensures,
-        grind (arith, nat_tests, read.read, read.count),
-        grind (arith, nat_tests, read.room),
-      );
-    }
-
 pub loop-i-preserved : goal.loop-i-preserved
 loop-i-preserved c =
     let read = c.loop-i.invariant in

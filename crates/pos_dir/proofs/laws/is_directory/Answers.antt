@@ -3,6 +3,3 @@ use Rattle.pos_dir.proofs.laws.is_directory.Goals as goal
 
 pub returns-clause-length : goal.returns-clause-length
 returns-clause-length c = length-spelling (rw (← c.directory.view_is) c.directory.invariant.directory)
-
-pub returns-clause-writable : goal.returns-clause-writable
-returns-clause-writable c = rw (← c.directory.view_is) c.directory.invariant.writable

@@ -1,6 +1,6 @@
-use Rattle.pos_dir.proofs.Common.{AllByRecursion, IsChange, drop, err_from_is_err_and, outcome_of_all, rules}
+use Rattle.pos_dir.proofs.Common.{AllByRecursion, IsChange, drop, outcome_of_all, rules}
 use Rattle.std.proofs.lemmas.List.Elements.{All-from_recursion}
-use Rattle.pos_dir.proofs.OutlineLemmas.{stage_on, stage_room, stage_stops}
+use Rattle.pos_dir.proofs.OutlineLemmas.{stage_on, stage_room}
 use Rattle.pos_dir.proofs.outlines.check_within.Goals as goal
 
 pub check-requires : goal.check-requires
@@ -8,13 +8,6 @@ check-requires g c =
     let total = stage_room c.loop-change.outlines.items
     (drop c.loop-change.change-index c.deref-change-items.result.now) c.loop-change.invariant in
     search rules
-
-pub returns-in_err-check : goal.returns-in_err-check
-returns-in_err-check g c =
-    let p = err_from_is_err_and c.from_residual.result c.from_residual.ensures.1 in
-    rw (p.1, p.2) (stage_stops c.args.limits c.loop-change.outlines.items c.deref-change-items.result.now
-    c.loop-change.change-index c.change-item.result (outcome_of_all c.args.limits c.args.files.now c.args.group.now)
-    c.loop-change-test.true c.change-item.is c.loop-change.invariant c.in_err-check.field-0.0 c.in_err-check.ensures)
 
 pub loop-change-preserved : goal.loop-change-preserved
 loop-change-preserved g c =

@@ -17,10 +17,3 @@ loop-text-preserved c =
           rw (one_step c.args.directory.now.limits c.loop-text.directory.files c.text-item.result.items here.0
           c.apply_text.new.directory.files here.1 step) at here.2;
     }
-
-pub returns-in-Err-clause-damaged : goal.returns-in-Err-clause-damaged
-returns-in-Err-clause-damaged c told last applies =
-    let rest =
-    front_drop c.args.texts.now c.loop-text.text-index c.text-item.result c.loop-text-test.true c.text-item.is in
-    let here = rw rest at (c.loop-text.invariant.back last applies) in
-    c.in-Err.ensures.damaged told here.0 (rw (c.loop-text.invariant.limits, c.deref.ensures.value) here.1)

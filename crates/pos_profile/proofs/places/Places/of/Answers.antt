@@ -1,4 +1,4 @@
-use Rattle.pos_profile.proofs.Common.{Planned, arith, length-map, map, take_all}
+use Rattle.pos_profile.proofs.Common.{arith}
 use Rattle.pos_profile.proofs.PlaceLemmas.{place_more, planned_name}
 use Rattle.pos_profile.proofs.places.Places.of.Goals as goal
 
@@ -11,14 +11,4 @@ loop-place-preserved c = λ name.
       c.in_ok-note.ensures name,
       c.loop-place.invariant name,
       place_more _ c.loop-place.place planned.name at name,
-    )
-
-pub returns : goal.returns
-returns c = λ name.
-    let names = map (λ (planned : Planned). planned.name) c.args.plan.now in
-    grind (
-      arith,
-      c.loop-place.invariant name,
-      take_all c.loop-place.place names,
-      length-map c.args.plan.now (λ (planned : Planned). planned.name),
     )

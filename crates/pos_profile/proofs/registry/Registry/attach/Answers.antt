@@ -1,13 +1,6 @@
-use Rattle.pos_profile.proofs.Common.{arith, refl, sym}
-use Rattle.pos_profile.proofs.RegistryLemmas.{in_use, put_named}
+use Rattle.pos_profile.proofs.Common.{sym}
+use Rattle.pos_profile.proofs.RegistryLemmas.{put_named}
 use Rattle.pos_profile.proofs.registry.Registry.attach.Goals as goal
-
-pub returns-then-is_some-clause-attaches : goal.returns-then-is_some-clause-attaches
-returns-then-is_some-clause-attaches g c = (in_use c.in-Some.ensures.named (grind arith), refl)
-
-pub returns-then-not-is_same-clause-attaches : goal.returns-then-not-is_same-clause-attaches
-returns-then-not-is_same-clause-attaches g c =
-    (record { device = _; named = c.in-Some.ensures.named; vacant = grind arith; kind = λ same. grind arith }, refl)
 
 pub returns-clause-puts : goal.returns-clause-puts
 returns-clause-puts g c = (

@@ -1,12 +1,6 @@
-use Rattle.pos_profile.proofs.Common.{Device, None, arith, refl}
-use Rattle.pos_profile.proofs.RegistryLemmas.{device_at, devices_count, devices_set, sound_with}
+use Rattle.pos_profile.proofs.Common.{Device, None, refl}
+use Rattle.pos_profile.proofs.RegistryLemmas.{devices_set, sound_with}
 use Rattle.pos_profile.proofs.registry.Registry.take.Goals as goal
-
-pub index_mut-requires : goal.index_mut-requires
-index_mut-requires g c = grind (arith, devices_count)
-
-pub returns-clause-taken : goal.returns-clause-taken
-returns-clause-taken g c = grind (arith, devices_count, device_at)
 
 pub returns-clause-vacated : goal.returns-clause-vacated
 returns-clause-vacated g c =
