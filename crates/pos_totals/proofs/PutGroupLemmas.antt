@@ -16,9 +16,6 @@ use Rattle.pos_totals.proofs.PairLemmas.{plain_of, numbers_in}
 use Rattle.pos_totals.proofs.BufferLemmas.{none_hold}
 use Rattle.pos_service.specs.declared.answer.Answer.TheVariants as answer
 use Rattle.pos_store.specs.Commits as store
-use Rattle.pos_store.specs.Recoveries.{EndsAt}
-use Rattle.pos_store.specs.StoreViews.{WhenReady as StoreWhenReady}
-use Rattle.pos_totals.specs.Views.{WhenReady, tail_of}
 use Rattle.pos_store.specs.declared.fault.StoreFault.TheVariants as fault
 
 -- ---- groups
@@ -51,13 +48,6 @@ pub their_files : {layout : Layout} (state : State) {holdings : Holdings} (disk 
 their_files StoreOff disk sound leaves = tt
 their_files (StoreReady files sequence) {holdings} disk sound leaves =
     rw (plain_of holdings.handles.given files sound.handles.count, ← sound.found) leaves
-
--- where the records of its disk end, in the totals' words
-pub their_end : {layout : Layout} (state : State) (tail : ℕ) {holdings : Holdings} (bytes : List ℕ)
-    → IsSound layout state holdings → StoreWhenReady state (EndsAt layout tail bytes)
-    → WhenReady (mode_of holdings.handles.given state) (EndsAt holdings.layout (tail_of state tail) bytes)
-their_end StoreOff tail bytes sound ends = tt
-their_end (StoreReady files sequence) tail bytes sound ends = rw (← sound.found) ends
 
 -- a store that is ready, of the layout that was found
 abbrev pub ready_store : {D : Type 0} → D → List PlainFile → ℕ → ℕ → Holdings → StoreView D

@@ -1,20 +1,6 @@
-use Rattle.pos_totals.proofs.Common.{Limits, ap, arith, sym}
-use Rattle.pos_totals.proofs.RecoveryLemmas.{is_told, shown, store_failed, store_found, store_found_more, was_off}
+use Rattle.pos_totals.proofs.Common.{sym}
+use Rattle.pos_totals.proofs.RecoveryLemmas.{shown, store_found, store_found_more, was_off}
 use Rattle.pos_totals.proofs.recoveries.recover_off.Goals as goal
-
-pub recovery_fault-requires : goal.recovery_fault-requires
-recovery_fault-requires g c = is_told (was_off c.requires.off) c.in-Err.ensures
-
-pub number-requires : goal.number-requires
-number-requires g c =
-    let few = c.is_directory.ensures.directory.count in
-    let same = ap (λ (l : Limits). l.files) c.in-Some.ensures.limits in
-    grind (arith, few, same)
-
-pub returns-in-Err : goal.returns-in-Err
-returns-in-Err g c =
-    let both = store_failed (was_off c.requires.off) c.requires.sound c.in-Err.ensures c.recovery_fault.ensures in
-    record { sound = both.1; recovers = both.0 }
 
 pub returns-then-number : goal.returns-then-number
 returns-then-number g c =
