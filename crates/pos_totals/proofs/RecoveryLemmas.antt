@@ -2,8 +2,8 @@
 use Rattle.pos_totals.proofs.Common.{Err, FindsFiles, Ghosts, HandleTable, Holdings, IsErrOf, IsSound, Layout, Layout1}
 use Rattle.pos_totals.proofs.Common.{LeavesItsFiles, LeavesTheirFiles, List, Numbers, Ok, PlainFile, Recovers}
 use Rattle.pos_totals.proofs.Common.{RecoveryFault, Result, Some, Standing, State, StoreFault, StoreOff, StoreReady}
-use Rattle.pos_totals.proofs.Common.{StoreView, arith, false, inl, inr, length, mode_of, refl}
-use Rattle.pos_totals.proofs.Common.{settles, store_files_of, store_mode_of, stored, tags_from, totals_at}
+use Rattle.pos_totals.proofs.Common.{StoreView, arith, false, inl, inr, length, mode_of, nat_tests, refl}
+use Rattle.pos_totals.proofs.Common.{settles, store_files_of, store_mode_of, stored, tags_from, told_as, totals_at}
 use Rattle.pos_totals.proofs.Common.{true, view_of, with_tags, ℕ, ⊎_elim, ◌+◌, ◌↔◌, ◌≡◌}
 use Rattle.pos_totals.proofs.AreaLemmas.{apart_new}
 use Rattle.pos_totals.proofs.BufferLemmas.{off_holds}
@@ -34,6 +34,12 @@ ready_recovers {bound} {disk} (StoreReady files sequence) tail sound ready leave
 }
 
 -- ---- what a store found, in the totals' words
+
+-- a fault of the store, which is off
+told_finds : (P : Standing → Type 0) (holdings : Holdings) (why : StoreFault) {result : RecoveryFault} (layout : Layout)
+    {state : State} → store.FindsStanding P (Err why) layout state → told_as why ≡ Some result
+    → (state ≡ StoreOff) × FindsFiles P (totals_at StoreOff 0 holdings) (Err result) (totals_at StoreOff 0 holdings)
+told_finds P holdings why layout finds tells = grind (arith, nat_tests)
 
 -- the holdings with other tags, and with another layout too
 abbrev pub with_table : Holdings → HandleTable → Holdings
@@ -104,6 +110,23 @@ pub shown : {D : Type 0} {mid : StoreView D} {files : List PlainFile} → store_
 shown {mid} {files} is = shown_at mid.disk mid.layout mid.state mid.tail files is
 
 module _ {D : Type 0} {bound : Ghosts D} where
+  -- the store met a fault
+  pub store_failed : {old mid : StoreView D} → IsOff old → {holdings : Holdings} → IsSound old.layout old.state holdings
+      → {why : StoreFault} {result : RecoveryFault} → store.Recovers bound old (Err why) mid → told_as why ≡ Some result
+      → Recovers bound (view_of old holdings) (Err result) (view_of mid holdings)
+      × IsSound mid.layout mid.state holdings
+  store_failed {mid} (WasOff disk layout tail) {holdings} sound {why} did tells =
+      let none = (told_finds (store.DiskStandsFor bound disk) holdings why mid.layout did.answer tells).0 in
+      let still : IsSound mid.layout mid.state holdings =
+      rw none (record { found = tt; handles = tt; buffers = sound.buffers; apart = tt }) in (
+        off_recovers holdings did mid.state holdings
+            (λ P finds. rw none (told_finds P holdings why mid.layout finds tells).1) (
+              (λ e. grind (arith, nat_tests)),
+              (λ e. grind (arith, nat_tests)),
+            ) (λ h. their_files mid.state (bound.state mid.disk) still (did.now h)),
+        still,
+      )
+
   -- the files that it found got handles
   pub store_found : {old mid : StoreView D} {files : List PlainFile} → IsOff old → Shows files mid
       → {holdings : Holdings} → IsSound old.layout old.state holdings → {table : HandleTable}

@@ -1,6 +1,11 @@
 use Rattle.pos_totals.proofs.Common.{sym}
-use Rattle.pos_totals.proofs.RecoveryLemmas.{shown, store_found, store_found_more, was_off}
+use Rattle.pos_totals.proofs.RecoveryLemmas.{shown, store_failed, store_found, store_found_more, was_off}
 use Rattle.pos_totals.proofs.recoveries.recover_off.Goals as goal
+
+pub returns-in-Err : goal.returns-in-Err
+returns-in-Err g c =
+    let both = store_failed (was_off c.requires.off) c.requires.sound c.in-Err.ensures c.recovery_fault.ensures in
+    record { sound = both.1; recovers = both.0 }
 
 pub returns-then-number : goal.returns-then-number
 returns-then-number g c =
