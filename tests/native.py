@@ -2666,7 +2666,8 @@ def try_refusals():
         told("a narrow printer", "KIJ_BAD_SETTINGS", host.ask(f"printer r1 {port} width 41"))
         told("a short roll", "KIJ_BAD_SETTINGS", host.ask(f"printer r1 {port} lines 20"))
         told("too long a roll", "KIJ_BAD_SETTINGS", host.ask(f"printer r1 {port} lines 100001"))
-        told("no speed of a line", "KIJ_BAD_SETTINGS", host.ask(f"printer r1 {port} serial 9601"))
+        told("no speed of a line", ["KIJ_BAD_SETTINGS"] * 2, [host.ask(f"printer r1 {port} serial {speed}")
+                                                              for speed in (0, 9601)])
         told("no time for an order", ["KIJ_BAD_SETTINGS"] * 2,
              [host.ask(f"printer r1 {port} timeout 0"), host.ask(f"display p1 {port} timeout 0")])
         told("longer times than 2,147,483 seconds", ["KIJ_BAD_SETTINGS"] * 5,

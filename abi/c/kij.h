@@ -584,7 +584,7 @@ typedef struct kij_serial_settings {
     /** Whether the path is a serial line, whatever its name. A path of /dev/tty.. or /dev/serial/.. always is one, and
      * so is a link to /dev/tty.., which may be missing until the port is opened. */
     bool is_serial;
-    /** Bits per second, as the device is set up: 1,200 to 230,400. */
+    /** Bits per second, as the device is set up: a speed that Linux knows, 50 to 4,000,000. */
     int speed;
     /** The bits of a byte, 7 or 8, and the stop bits behind it, 1 or 2. */
     int bits;

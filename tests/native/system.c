@@ -219,6 +219,31 @@ static void try_line_settings(void) {
 }
 
 /* What becomes of a disturbed byte: a scanner's code without one is another code, and a printer's answer must not turn
+/* A line has the speed that it is told, which is one that Linux knows. */
+static void try_speeds(void) {
+    static const struct {
+        int speed;
+        speed_t number;
+    } speeds[] = {{50, B50}, {300, B300}, {1200, B1200}, {115200, B115200}, {921600, B921600}, {4000000, B4000000}};
+    kij_port port;
+    struct termios found;
+    int other = make_line(&port);
+    for (size_t place = 0; place < sizeof speeds / sizeof speeds[0]; place++) {
+        port.serial.speed = speeds[place].speed;
+        told("a speed", true, kij_internal_is_serial(&port.serial));
+        told("a line with it", true, kij_internal_port_open(&port, 100));
+        told("its settings", 0, tcgetattr(port.file, &found));
+        told("its speed out", (long)speeds[place].number, (long)cfgetospeed(&found));
+        told("its speed in", (long)speeds[place].number, (long)cfgetispeed(&found));
+        kij_internal_port_close(&port);
+    }
+    port.serial.speed = 0;
+    told("no speed", false, kij_internal_is_serial(&port.serial));
+    port.serial.speed = 9601;
+    told("another speed", false, kij_internal_is_serial(&port.serial));
+    close(other);
+}
+
    into another answer. */
 static void try_disturbed_bytes(void) {
     static char name[64];
@@ -1049,6 +1074,7 @@ int main(int count, char **words) {
     try_set_up_fault();
     snprintf(forked, sizeof forked, "%s/forked-totals", words[1]);
     try_forked(forked);
+    try_speeds();
     snprintf(forked, sizeof forked, "%s/totals-of-two", words[1]);
     try_forked_totals(forked);
     try_forked_connection();

@@ -36,7 +36,7 @@ pub enum Flow {
 /// How a serial line is set up. The default is 9,600 bits per second, 8 bits, 1 stop bit, no parity, RTS/CTS.
 #[derive(Debug, Clone, Copy, PartialEq, Eq)]
 pub struct SerialSettings {
-    /// Bits per second, as the device is set up: 1,200 to 230,400.
+    /// Bits per second, as the device is set up: a speed that Linux knows, 50 to 4,000,000.
     pub speed: u32,
     /// The bits of a byte, 7 or 8.
     pub bits: u8,
@@ -331,12 +331,13 @@ const XOFF: u8 = 0x13;
 
 /// The number by which a speed is set.
 fn speed_of(speed: u32) -> Option<u32> {
-    let speeds = [1200, 2400, 4800, 9600, 19_200, 38_400];
-    let faster = [57_600, 115_200, 230_400];
+    let slow = [50, 75, 110, 134, 150, 200, 300, 600, 1200, 1800, 2400, 4800, 9600, 19_200, 38_400];
+    let fast = [
+        57_600, 115_200, 230_400, 460_800, 500_000, 576_000, 921_600, 1_000_000, 1_152_000, 1_500_000, 2_000_000,
+        2_500_000, 3_000_000, 3_500_000, 4_000_000,
+    ];
     let place = |of: &[u32]| of.iter().position(|one| *one == speed).map(|place| place as u32);
-    // 1,800 is between the first two.
-    let number = |place: u32| if place == 0 { 9 } else { place + 10 };
-    place(&speeds).map(number).or_else(|| place(&faster).map(|place| 0o10001 + place))
+    place(&slow).map(|place| 1 + place).or_else(|| place(&fast).map(|place| 0o10_001 + place))
 }
 
 /// Returns the settings of a terminal line.
@@ -950,7 +951,9 @@ mod tests {
 
     #[test]
     fn a_line_has_its_speed() {
-        for (speed, number) in [(1200, 0o11), (9600, 0o15), (38_400, 0o17), (230_400, 0o10_003)] {
+        let slow = [(50, 1), (134, 4), (300, 7), (1200, 0o11), (1800, 0o12), (9600, 0o15), (38_400, 0o17)];
+        let fast = [(57_600, 0o10_001), (230_400, 0o10_003), (921_600, 0o10_007), (4_000_000, 0o10_017)];
+        for (speed, number) in slow.into_iter().chain(fast) {
             let (_device, path) = terminal();
             let settings = SerialSettings { speed, stops: 2, ..SerialSettings::default() };
             let mut cable = Cable::new(Port::Serial(path, settings));
