@@ -24,9 +24,9 @@
 #include <time.h>
 #include <unistd.h>
 
-/* How long a name isn't looked up again, and how long a host has to answer at least, though no call waits for it so
-   long, in milliseconds. */
-static const int64_t rarely = 60000, answers = 1000;
+/* How long a name isn't looked up again, from when on a look-up has taken long, and how long a host has to answer at
+   least, though no call waits for it so long, in milliseconds. */
+static const int64_t rarely = 60000, slowly = 250, answers = 1000;
 
 /* The characters by which a serial line says that it can take more, and that it can't. */
 enum { XON = 0x11, XOFF = 0x13 };
@@ -336,17 +336,19 @@ static void keep_addresses(kij_port *port, const struct addrinfo *found) {
 }
 
 /* Looks the name of a TCP port up: 0 or errno. The addresses that are kept stay if there are no others. It isn't looked
-   up again for a while, whether it was found or not: without a network that takes long. */
+   up again for a while, unless there is no address and that is known at once, as before there is a network. */
 static int resolve(kij_port *port) {
     char host[HOST_ROOM], service[SERVICE_ROOM];
     struct addrinfo wanted, *found = NULL;
     if (!is_address(port->name, host, sizeof host, service, sizeof service)) return EINVAL;
-    if (kij_internal_now() < port->resolve_at) return EHOSTUNREACH;
+    int64_t began = kij_internal_now();
+    if (began < port->resolve_at) return EHOSTUNREACH;
     memset(&wanted, 0, sizeof wanted);
     wanted.ai_socktype = SOCK_STREAM;
     wanted.ai_flags = AI_NUMERICSERV;
     bool is_found = getaddrinfo(host, service, &wanted, &found) == 0;
-    port->resolve_at = kij_internal_now() + rarely;
+    int64_t now = kij_internal_now();
+    if (is_found || port->address_count > 0 || now - began > slowly) port->resolve_at = now + rarely;
     if (!is_found) return EHOSTUNREACH;
     keep_addresses(port, found);
     freeaddrinfo(found);

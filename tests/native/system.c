@@ -27,7 +27,7 @@
 #include <time.h>
 #include <unistd.h>
 
-static int failed, lookups, lookup_fault, calls, read_fault, write_fault, sync_fault, syncs, flush_fault;
+static int failed, lookups, lookup_fault, lookup_time, calls, read_fault, write_fault, sync_fault, syncs, flush_fault;
 static bool is_partial;
 /* How often a file is read from its beginning with another byte each time; always if it is less than 0. */
 static int changes;
@@ -53,6 +53,7 @@ ssize_t __wrap_pwrite(int file, const void *bytes, size_t size, off_t at);
 int __wrap_getaddrinfo(const char *host, const char *service, const struct addrinfo *wanted, struct addrinfo **found) {
     lookups++;
     snprintf(looked_up, sizeof looked_up, "%s %s", host, service);
+    kij_internal_sleep(lookup_time);
     return lookup_fault != 0 ? lookup_fault : __real_getaddrinfo(host, service, wanted, found);
 }
 
@@ -514,7 +515,7 @@ static void try_forked_connection(void) {
     close(listener);
 }
 
-/* A name is looked up once, and then at most once a minute while it can't be reached. */
+/* A name is looked up until it is found. It isn't looked up for a minute then, or if a look-up takes long. */
 static void try_names(void) {
     kij_port port;
     char name[64];
@@ -523,8 +524,12 @@ static void try_names(void) {
     lookup_fault = EAI_AGAIN;
     told("a name that isn't found", false, kij_internal_port_open(&port, 1000));
     told("a second time", false, kij_internal_port_open(&port, 1000));
-    told("it isn't looked up again at once", 1, lookups);
-    lookup_fault = 0;
+    told("it is looked up again", 2, lookups);
+    lookup_time = 300;
+    told("a name of which that is known late", false, kij_internal_port_open(&port, 1000));
+    told("a fourth time", false, kij_internal_port_open(&port, 1000));
+    told("it isn't looked up again at once", 3, lookups);
+    lookup_fault = lookup_time = lookups = 0;
     port.resolve_at = 0;
     told("a name that is found", true, kij_internal_port_open(&port, 1000));
     kij_internal_port_close(&port);
@@ -533,10 +538,14 @@ static void try_names(void) {
     close(listener);
     told("nobody is there", false, kij_internal_port_open(&port, 1000));
     told("why", ECONNREFUSED, port.error);
-    told("it was looked up once", 2, lookups);
+    told("it was looked up once", 1, lookups);
     port.resolve_at = 0;
     told("nobody is there later", false, kij_internal_port_open(&port, 1000));
-    told("it is looked up again", 3, lookups);
+    lookup_fault = EAI_AGAIN;
+    told("it is looked up again", 2, lookups);
+    told("nor later still", false, kij_internal_port_open(&port, 1000));
+    told("the address that it had is tried alone", 2, lookups);
+    lookup_fault = 0;
 }
 
 /* What is looked up for a port's name. */

@@ -872,7 +872,8 @@ impl Addresses {
             return Err(fault);
         }
         self.known = found;
-        connect_to_any(&self.known, end)
+        // Looking it up has taken none of this time.
+        connect_to_any(&self.known, end_after(time))
     }
 }
 
