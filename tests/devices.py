@@ -3676,8 +3676,9 @@ def try_refusals():
          [type(port).__name__ + f" {port.name}" * isinstance(port, kijolvar.TcpPort) for port in map(
              kijolvar.port_of, ("/dev/usb/lp0", "/dev/ttyUSB0", "tcp:a:1", "tcp://a:1", "tcp:a", "tcp:[::1]:1",
                                 "tcp://[::1]"))])
-    told("no such ports", ["ValueError"] * 7, [name_of(kijolvar.port_of, f"tcp:{name}") for name in (
-        "", ":1", "::1", "a:b", "a:0", "a:65536", "[a:b]")])
+    told("no such ports", ["ValueError"] * 17, [name_of(kijolvar.port_of, f"tcp:{name}") for name in (
+        "", ":1", "::1", "a:b", "a:0", "a:65536", "[a:b]", "::1:9100", "::1:9l00", "[::1", "[::1]9100", "a:", "a:+91",
+        "[]", "[a", "a]", "[fe80::1%]")])
     told("a name that no host has", "PortError", name_of(kijolvar.port_of("tcp:.a").open))
 
 

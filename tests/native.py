@@ -2676,8 +2676,9 @@ def try_refusals():
         told("an order that needn't end, and a port that is never tried again", ["KIJ_BAD_SETTINGS"] * 5,
              [host.ask(f"{words} {port} {key} -1") for key, made in (("timeout", 2), ("pause", 3))
               for words in ("printer r1", "display p1", "scanner s1")[:made]])
-        for name in ("tcp:", "tcp:h:", "tcp:h:91OO", "tcp:h:0", "tcp:h:99999", "tcp:[::1", "tcp:[::1]9101",
-                     "tcp:[::1]x:9100", "tcp:a:b:9100"):
+        for name in ("tcp:", "tcp:h:", "tcp:h:91OO", "tcp:h:+91", "tcp:h:0", "tcp:h:99999", "tcp:[::1", "tcp:[::1]9101",
+                     "tcp:[::1]x:9100", "tcp:a:b:9100", "tcp:::1", "tcp:::1:9100", "tcp:::1:9l00", "tcp:[]", "tcp:[h",
+                     "tcp:h]", "tcp:[fe80::1%]"):
             told(f"no port: {name}", ["KIJ_BAD_SETTINGS"] * 3,
                  [host.ask(f"printer r1 {name}"), host.ask(f"display p1 {name}"), host.ask(f"scanner s1 {name}")])
         told("none is driven", "KIJ_NO_DEVICE", host.ask("state r1"))

@@ -231,25 +231,25 @@ static bool is_host(const char *host) {
     char text[HOST_ROOM];
     struct in6_addr found;
     if (strchr(host, ':') == NULL) return *host != 0;
-    snprintf(text, sizeof text, "%.*s", (int)strcspn(host, "%"), host);
-    return inet_pton(AF_INET6, text, &found) == 1;
+    size_t size = strcspn(host, "%");
+    snprintf(text, sizeof text, "%.*s", (int)size, host);
+    return inet_pton(AF_INET6, text, &found) == 1 && (host[size] == 0 || host[size + 1] != 0);
 }
 
-/* Reads tcp:HOST, tcp:HOST:PORT, and both with // behind the first colon. An address of IPv6 may be in brackets. */
+/* Reads tcp:HOST, tcp:HOST:PORT, and both with // behind the first colon. An address of IPv6 is in brackets: nothing
+   says whether the end of a bare one is a number. */
 static bool is_address(const char *name, char *host, size_t host_room, char *service, size_t service_room) {
     const char *from = name + strlen("tcp:");
     if (begins_with(from, "//")) from += 2;
-    const char *bracket = *from == '[' ? strchr(from, ']') : NULL;
-    const char *colon = strrchr(bracket == NULL ? from : bracket, ':');
-    size_t size = colon == NULL ? strlen(from) : (size_t)(colon - from);
-    if (bracket != NULL) size = (size_t)(bracket - ++from);
-    if (size == 0 || size >= host_room || *from == '[') return false;
-    /* Behind the bracket stands the number, or nothing. */
-    if (bracket != NULL && bracket[1] != 0 && bracket + 1 != colon) return false;
+    bool has_brackets = *from == '[';
+    if (has_brackets) from++;
+    size_t size = strcspn(from, has_brackets ? "]" : ":[]");
+    const char *end = from + size;
+    if (size >= host_room || (has_brackets && *end++ != ']') || (*end != 0 && *end != ':')) return false;
     memcpy(host, from, size);
     host[size] = 0;
     if (!is_host(host)) return false;
-    int written = snprintf(service, service_room, "%s", colon == NULL ? "9100" : colon + 1);
+    int written = snprintf(service, service_room, "%s", *end == 0 ? "9100" : end + 1);
     return written > 0 && (size_t)written < service_room && is_number(service);
 }
 

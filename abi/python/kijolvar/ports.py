@@ -48,7 +48,7 @@ _ANSWERS = 1.0
 _ACKNOWLEDGED_WITHIN, _ASKED_EVERY = 60_000, 10
 # The system's number of the option for the first. Not all type stubs of `socket` have its name.
 _USER_TIMEOUT = 18
-_TCP = re.compile(r"tcp:(?://)?(?:\[(?P<address>.+)\]|(?P<name>[^:\[\]]*))(?::(?P<port>[0-9]+))?")
+_TCP = re.compile(r"tcp:(?://)?(?:\[(?P<address>[^\[\]]+)\]|(?P<name>[^:\[\]]*))(?::(?P<port>[0-9]+))?")
 # The system's call: an object of `socket` would close the port's descriptor with itself.
 _send = ctypes.CDLL(None, use_errno=True).send
 _send.argtypes, _send.restype = [ctypes.c_int, ctypes.c_char_p, ctypes.c_size_t, ctypes.c_int], ctypes.c_ssize_t

@@ -83,8 +83,8 @@ impl Port {
     /// An address of IPv6 is in brackets: `tcp:[::1]:9100`.
     ///
     /// A path of /dev/tty.. or /dev/serial/.. is a serial line by its device's usual settings ([`Port::Line`]), as is a
-    /// link to one. A path of /dev/input/.., or a link to one, is a keyboard. [`Till::drive`](crate::Till::drive)
-    /// refuses a host that can't be one, such as that of `tcp:192.168.1.9:91OO`, whose number is misspelt.
+    /// link to one. A path of /dev/input/.., or a link to one, is a keyboard. Any other name that begins with `tcp:`,
+    /// such as `tcp:192.168.1.9:91OO`, has the number 0, which [`Till::drive`](crate::Till::drive) refuses.
     ///
     /// ```
     /// use kijolvar::Port;
@@ -96,10 +96,9 @@ impl Port {
     pub fn of(name: &str) -> Port {
         if let Some(address) = name.strip_prefix("tcp:") {
             let address = address.strip_prefix("//").unwrap_or(address);
-            let number = address.rsplit_once(':').and_then(|(host, port)| Some((host, port.parse().ok()?)));
-            let (host, port) = number.unwrap_or((address, 9100));
-            let inside = host.strip_prefix('[').and_then(|host| host.strip_suffix(']'));
-            return Port::Tcp(inside.unwrap_or(host).to_string(), port);
+            // No port has the number 0.
+            let (host, port) = read_address(address).unwrap_or((address, 0));
+            return Port::Tcp(host.to_string(), port);
         }
         let path = Path::new(name);
         if is_line_name(path) || name.starts_with("/dev/serial/") || is_line_link(path) {
@@ -112,15 +111,16 @@ impl Port {
     }
 
     /// Whether the settings of a serial line can be set, and a host may be looked up, at a number that isn't 0. Only an
-    /// IPv6 address has colons, and it may have a zone behind it.
+    /// IPv6 address has colons, and it may have a zone behind it, which isn't empty.
     pub(crate) fn is_sound(&self) -> bool {
         match self {
             Port::Serial(_, settings) => {
                 speed_of(settings.speed).is_some() && matches!(settings.bits, 7 | 8) && matches!(settings.stops, 1 | 2)
             }
             Port::Tcp(host, port) => {
-                let address = host.split_once('%').map_or(&host[..], |(address, _)| address);
-                *port != 0 && !host.is_empty() && (!host.contains(':') || address.parse::<Ipv6Addr>().is_ok())
+                let (address, zone) = host.split_once('%').unwrap_or((host, "-"));
+                let is_six = !zone.is_empty() && address.parse::<Ipv6Addr>().is_ok();
+                *port != 0 && !host.is_empty() && (!host.contains(':') || is_six)
             }
             _ => true,
         }
@@ -183,6 +183,20 @@ impl From<SocketAddr> for Port {
             _ => address.ip().to_string(),
         };
         Port::Tcp(host, address.port())
+    }
+}
+
+/// Returns the host and the number of `HOST` or `HOST:PORT`, if it is one of them. An address of IPv6 is in brackets:
+/// nothing says whether the end of a bare one is a number.
+fn read_address(address: &str) -> Option<(&str, u16)> {
+    let (host, rest) = match address.strip_prefix('[') {
+        Some(inside) => inside.split_once(']')?,
+        None => address.split_at(address.find([':', '[', ']']).unwrap_or(address.len())),
+    };
+    match rest.strip_prefix(':') {
+        Some(digits) if digits.bytes().all(|digit| digit.is_ascii_digit()) => Some((host, digits.parse().ok()?)),
+        None if rest.is_empty() => Some((host, 9100)),
+        _ => None,
     }
 }
 
@@ -1173,14 +1187,16 @@ mod tests {
     #[test]
     fn a_misspelt_host_is_refused() {
         let is_sound = |name: &str| Port::of(name).is_sound();
-        for name in ["tcp:192.168.1.9", "tcp://printer:9101", "tcp:::1:9100", "tcp:[fe80::1%eth0]:9100"] {
+        for name in ["tcp:192.168.1.9", "tcp://printer:9101", "tcp:[::1]:9100", "tcp:[fe80::1%eth0]:9100"] {
             assert!(is_sound(name), "{name}");
         }
         assert_eq!(Port::of("tcp:[::1]:9101"), Port::Tcp("::1".to_string(), 9101));
         assert_eq!(Port::of("tcp://[::1]"), Port::Tcp("::1".to_string(), 9100));
-        for name in
-            ["tcp:", "tcp:192.168.1.9:91OO", "tcp:192.168.1.9:", "tcp:printer:99999", "tcp:[::1:9100", "tcp:h:0"]
-        {
+        let numbers = ["tcp:192.168.1.9:91OO", "tcp:192.168.1.9:", "tcp:printer:99999", "tcp:h:0", "tcp:h:+9100"];
+        let hosts = ["tcp:", "tcp:[]", "tcp:[::1:9100", "tcp:[::1]9100", "tcp:[h", "tcp:h]", "tcp:[fe80::1%]"];
+        // Nothing says where such an address ends.
+        let bare = ["tcp:::1", "tcp:::1:9100", "tcp:2001:db8::7", "tcp:2001:db8::7:9100", "tcp:::1:abcd"];
+        for name in numbers.iter().chain(&hosts).chain(&bare) {
             assert!(!is_sound(name), "{name}");
         }
     }
