@@ -2792,7 +2792,9 @@ def try_torn_scans():
     told("the keypad, with NumLock", [b"12403-."], keys.take(
         pressed(69) + typed("12")[:-48] + pressed(75, 82) + typed("3")[:-48] + pressed(74, 83, 96)))
     told("a key that is held", [b"1"], keys.take(pressed(2, values=(1, 2, 2, 0)) + pressed(28, values=(1, 2, 0))))
-    for name, events in (("Tab", pressed(15)), ("Ctrl and A", control.replace(*map(pressed, (27, 30))))):
+    shifted = pressed(54, values=(1,)) + control + pressed(54, values=(0,))
+    for name, events in (("Tab", pressed(15)), ("Ctrl and A", control.replace(*map(pressed, (27, 30)))),
+                         ("Ctrl, Shift and ]", shifted)):
         told(f"a key that gives nothing: {name}", [None, b"34"],
              keys.take(typed("12")[:-48] + events + typed("3") + typed("34")))
     told("too many keys", [None, b"34"], keys.take(typed("1" * 4097) + typed("34")))

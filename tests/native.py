@@ -3306,6 +3306,7 @@ def try_keys():
         comes("a key without a character", "event ErrorEvent 111 0 2", 2, 59, 3)
         comes("a code after it", "ok 3132", 2, 3)
         comes("another control", "event ErrorEvent 111 0 2", (29, 1), 30, (29, 0))
+        comes("a separator with Shift", "event ErrorEvent 111 0 2", (42, 1), (29, 1), 27, (29, 0), (42, 0))
         comes("Enter that is held", "ok 33", 4, (28, 1), (28, 2), (28, 0))
 
 

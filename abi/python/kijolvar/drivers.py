@@ -553,9 +553,9 @@ _KEYS.update(zip(range(30, 42), ["aA", "sS", "dD", "fF", "gG", "hH", "jJ", "kK",
 _KEYS.update(zip(range(43, 54), ["\\|", "zZ", "xX", "cC", "vV", "bB", "nN", "mM", ",<", ".>", "/?"]))
 # The keypad.
 _KEYS.update(zip(range(71, 84), [2 * key for key in "789-456+1230."]))
-# What keys give: alone, with Shift, and with Ctrl. Ctrl and ] is GS, which ends a field of a GS1 code.
+# What keys give: alone, and with Shift; and what Ctrl makes of that. Ctrl and ] is GS, which ends a field of a GS1 code.
 _ALONE, _SHIFTED = ({key: both[place] for key, both in _KEYS.items()} for place in (0, 1))
-_CONTROLLED = {27: "\x1d"}
+_CONTROLLED = {"]": "\x1d"}
 
 
 class _Lines:
@@ -621,10 +621,12 @@ class _Keys:
 
     def _types(self, key: int) -> None:
         """A key goes down. One that gives nothing is a character that would be missing."""
-        keys = _CONTROLLED if self._is_controlled else _SHIFTED if self._is_shifted else _ALONE
+        given = (_SHIFTED if self._is_shifted else _ALONE).get(key, "")
+        if self._is_controlled:
+            given = _CONTROLLED.get(given, "")
         if not self._is_noise:
-            self._begun += keys.get(key, "").encode()
-            self._is_noise = key not in keys or len(self._begun) > _LONGEST
+            self._begun += given.encode()
+            self._is_noise = not given or len(self._begun) > _LONGEST
 
     def _ended(self) -> list[bytes | None]:
         """The code that Enter ends; none if nothing came."""
