@@ -2948,6 +2948,32 @@ def try_typed_meanwhile():
             shows("whose line sends slowly")
 
 
+def try_typed_beside_nothing():
+    """What is typed while a call waits for a printer whose port is readable all the time, and gives nothing, is read as
+    it comes: the system keeps little of it."""
+    reading, typing, reads = *os.pipe2(os.O_NONBLOCK), []
+
+    class Keyboard:
+        def read_ahead(self):
+            with contextlib.suppress(BlockingIOError):
+                reads.append(os.read(reading, 1000))
+            return reading
+
+    def types():
+        for _ in range(100):
+            os.write(typing, b"1")
+            time.sleep(0.005)
+    link, thread = PrinterLink(kijolvar.FilePort("/dev/null"), 0.6, PAUSE), threading.Thread(target=types)
+    with mock.patch.object(kijolvar.ports.BESIDE, "keyboards", [Keyboard()]):
+        thread.start()
+        link.start()
+        thread.join()
+    told("what is typed beside a port that gives nothing is read in small parts", True, len(reads) > 30)
+    link.port.close()
+    os.close(reading)
+    os.close(typing)
+
+
 def heard_of(shop, count):
     """What comes from a shop's keyboard, until so much has come: codes, and names of other events."""
     found = []

@@ -16,7 +16,7 @@ from ._control import device_word
 from ._faults import InCallError, NoDeviceError
 from ._session import is_called
 from ._wire import JOB_PAPER, Asked, WireSettings
-from .ports import Port, PortError, TcpPort
+from .ports import Port, PortError, TcpPort, rest_beside
 
 if TYPE_CHECKING:
     from .till import Till
@@ -623,7 +623,8 @@ class PrinterLink:
             if can_write:
                 self._writes()
             elif can_read and not data:
-                time.sleep(_OFTEN)
+                # A port may be readable all the time, and give nothing.
+                rest_beside(min(left, _OFTEN))
         return True
 
     def _asks_on(self) -> None:
@@ -760,9 +761,9 @@ class PrinterLink:
     def _lose(self) -> None:
         """The port was lost, with what wasn't sent. What was sent may still be acknowledged over the next one. What had
         come before counts, unless the port has kept back what it is about."""
-        rest = self.port._take_rest()
+        left = self.port._take_rest()
         if not self.port.holds_back:
-            self._takes(rest)
+            self._takes(left)
         self.port.close()
         self._forget()
 

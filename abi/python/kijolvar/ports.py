@@ -359,7 +359,7 @@ class Port(Unique):
             if can_write:
                 sent += self.write_some(data[sent:])
             elif can_read and not self.read_some():
-                time.sleep(min(left, 0.001))
+                rest_beside(min(left, 0.001))
         return self._drained(end)
 
     def read(self, seconds: float = 0.0) -> bytes:
@@ -421,7 +421,7 @@ class Port(Unique):
         while self._ends_empty and self._count_unsent():
             if time.monotonic() >= end:
                 return False
-            _wait_beside(0.001)
+            rest_beside(0.001)
         return True
 
     def _count_unsent(self) -> int:
@@ -454,6 +454,11 @@ def _wait_beside(seconds: float, file: int | None = None, events: int = 0) -> in
             return flags
         # A file that a driver doesn't read would be ready again at once.
         time.sleep(min(left, 0.001))
+
+
+def rest_beside(seconds: float) -> None:
+    """Waits so long, and has keyboards read meanwhile."""
+    _wait_beside(seconds)
 
 
 def _is_of_handler(fault: Exception) -> bool:
