@@ -3381,6 +3381,7 @@ def try_ports_again():
             port = kijolvar.TcpPort("printer")
             faults = [name_of(port.open) for _ in range(3)]
             told(f"a look-up that fails after {took} s", (["PortError"] * 3, wanted), (faults, len(asked)))
+            told("why", errno.EHOSTUNREACH, port.open_error.errno)
             port._looks_up_from -= 61
             told(f"a look-up that fails after {took} s, a minute later", ("PortError", wanted + 1),
                  (name_of(port.open), len(asked)))
@@ -3796,6 +3797,11 @@ def try_silent_host():
         told("it has a second again", (errno.ETIMEDOUT, True), (errno_of(port.open, 0), port.is_opening))
         port.close()
         told("it is given up", False, port.is_opening)
+        with mock.patch("socket.socket.connect_ex", return_value=errno.ECONNREFUSED):
+            told("it refuses", errno.ECONNREFUSED, errno_of(port.open, 0))
+        told("it says nothing then", (errno.ETIMEDOUT, True), (errno_of(port.open, 0), port.is_opening))
+        told("until that is known it has refused", errno.ECONNREFUSED, port.open_error.errno)
+        port.close()
         till = stack.enter_context(opened())
         till.drive("p1", driver := SerialDisplay(silent.path, timeout=0.01, pause=0))
         began = time.monotonic()

@@ -221,7 +221,9 @@ class Port(Unique):
         try:
             self._open(seconds)
         except PortError as fault:
-            if not _is_of_handler(fault):
+            # What a connection that is being made comes to isn't known yet.
+            is_known = not (self.is_opening and self._open_error)
+            if is_known and not _is_of_handler(fault):
                 # Without the trace, which refers to the callers.
                 self._open_error = PortError(*fault.args)
             raise
@@ -704,16 +706,19 @@ class TcpPort(Port):
         """Finds the addresses of the name."""
         began = time.monotonic()
         if began < self._looks_up_from:
-            raise OSError(errno.EAGAIN, "its name wasn't found, and is looked up later")
+            raise OSError(errno.EHOSTUNREACH, "its name wasn't found, and is looked up later")
         try:
             found = socket.getaddrinfo(*self._where, type=socket.SOCK_STREAM)
         except UnicodeError as fault:
             raise OSError(errno.EINVAL, f"no host has such a name: {fault}") from fault
         except OSError as fault:
+            if _is_of_handler(fault):
+                raise
             ended = time.monotonic()
-            if ended - began > _QUICKLY and not _is_of_handler(fault):
+            if ended - began > _QUICKLY:
                 self._looks_up_from = ended + _LOOKED_UP_FOR
-            raise
+            # The numbers of looking a name up are none of the system's.
+            raise OSError(errno.EHOSTUNREACH, reason_of(fault)) from fault
         self._addresses = [(family, address) for family, _, _, _, address in found]
         self._looked_up_at = time.monotonic()
 
