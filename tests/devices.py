@@ -3818,6 +3818,14 @@ def try_silent_host():
         told("nothing is left to open", (True, False), (port.is_open, port.is_opening))
         port.close()
         told("the display finds it", True, until(lambda: till.run_devices() or driver.is_online))
+    with SilentHost() as silent:
+        # The system asks again after a second.
+        answering, scanner = threading.Timer(0.2, silent.answers), WedgeScanner(silent.path)
+        answering.start()
+        scanner.start(None)
+        told("a scanner whose host answers late is there at first", True, scanner.is_online)
+        answering.join()
+        scanner.close()
 
 
 # ---- random faults

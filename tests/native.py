@@ -3344,6 +3344,14 @@ def try_silent_host():
         told("it isn't there", "offline 0", host.ask("state p1"))
         silent.answers()
         told("it is found", True, until(lambda: host.ask("run 0") and host.ask("state p1") == "online 0"))
+    with contextlib.ExitStack() as stack:
+        silent, host = stack.enter_context(SilentHost()), Host(stack)
+        # The system asks again after a second.
+        answering = threading.Timer(0.2, silent.answers)
+        answering.start()
+        told("a scanner whose host answers late is there at first", ["ok", "online 0"],
+             [host.ask(f"scanner s1 {silent.path}"), host.ask("state s1")])
+        answering.join()
 
 
 # ---- random faults

@@ -40,8 +40,8 @@ _MOST_LINES = 100_000
 # As many lines as a request of line feeds alone feeds; and from how many lines on the count begins again before its
 # end.
 _MOST_FEEDS, _LONG = 4096, 100
-# How long a lost port may take to open, in seconds, while other devices wait.
-_QUICKLY = 0.02
+# How long a lost port may take to open, in seconds, while other devices wait, and that of a scanner at first.
+_QUICKLY, _SCANNER_OPENS = 0.02, 2.0
 # After how long without an order nobody knows what a display shows, in seconds.
 _UNSEEN = 10.0
 # The longest timeout or pause, in seconds: that of the drivers of C, whose milliseconds have 31 bits.
@@ -716,9 +716,13 @@ class WedgeScanner(Driver):
         return self.port.open_error
 
     def start(self, device: ProfileDevice) -> None:
-        self.poll()
+        self._looks(_SCANNER_OPENS)
 
     def poll(self) -> None:
+        self._looks(_QUICKLY)
+
+    def _looks(self, seconds: float) -> None:
+        """Reads what the scanner has sent. Its port has so long to open, if it isn't."""
         if not self.port.is_open:
             if not self.port.is_opening and time.monotonic() - self._tried_at < self._pause:
                 return
@@ -728,7 +732,7 @@ class WedgeScanner(Driver):
             self._reader = self._new_reader()
         self._read_typed()
         with contextlib.suppress(PortError):
-            self._open()
+            self._open(0 if self.port.is_opening else seconds)
             for data in self.port.waiting():
                 self._read_at = time.monotonic()
                 self._read(data)
@@ -798,9 +802,9 @@ class WedgeScanner(Driver):
     def _new_reader(self) -> _Keys | _Lines:
         return _Keys() if self._has_keys else _Lines()
 
-    def _open(self) -> None:
+    def _open(self, seconds: float) -> None:
         try:
-            self.port.open(0 if self.port.is_opening else _QUICKLY)
+            self.port.open(seconds)
         finally:
             self._tried_at = time.monotonic()
 
