@@ -2367,6 +2367,47 @@ def try_status():
         shop.same_paper("a jam: the paper")
 
 
+class Unseeing(Printer):
+    """A printer whose sensor sees paper where there is none: nothing else tells of its end than that it has stopped."""
+
+    def _status_now(self, kind):
+        return 0x12 if kind == 4 else super()._status_now(kind)
+
+
+class Lingering(Printer):
+    """A printer that has stopped at the end of its paper as long as its cover is open, though there is a new roll."""
+
+    def _status_now(self, kind):
+        return super()._status_now(kind) | (kind == 2 and self.is_cover_open) << 5
+
+
+def try_end_beside_the_sensor():
+    """Printing has stopped at the end of the paper, where the sensor sees some. The till is told one thing, once."""
+    with contextlib.ExitStack() as stack:
+        shop = Shop(stack, "asked", made=Unseeing, timeout=max(TIMEOUT, 1.0))
+        shop.begins()
+        list(shop.control.events())
+        shop.device.load(0)
+        told("an end that no sensor sees", (114, 203), raised(shop.control.print, TEXT))
+        until(lambda: shop.till.run_devices(0.01) and False, 1.0)
+        told("it is told once", ([24], True), ([event.status for event in shop.control.events()], shop.control.rec_empty))
+        shop.device.load(1000)
+        told("a new roll", True, until(lambda: shop.till.run_devices(0.01) is not None and not shop.control.rec_empty))
+        told("it is told once, too", (None, [26]), (
+            raised(shop.control.print, TEXT), [event.status for event in shop.control.events()]))
+        shop.same_paper("an end that no sensor sees: the paper")
+    with contextlib.ExitStack() as stack:
+        till, device = stack.enter_context(opened()), stack.enter_context(Lingering(cable(), lines=1000))
+        device.cover(True)
+        till.drive("r1", EscPosPrinter(device.path, timeout=TIMEOUT, pause=PAUSE, lines=1000))
+        control = stack.enter_context(till.printer("r1").in_use())
+        told("an open cover above a new roll", True, until(
+            lambda: till.run_devices(0.01) is not None and control.cover_open))
+        list(control.events())
+        until(lambda: till.run_devices(0.01) and False, 1.0)
+        told("there is paper", ([], False), (list(control.events()), control.rec_empty))
+
+
 def try_near_end():
     """Paper that is near its end: the till takes a request of as many lines as its device's `near` while the printer
     sees paper."""

@@ -2491,6 +2491,54 @@ def try_blinks():
             told(f"both are printed over {kind}", [b"One", b"Two"], [item[1] for item in shop.paper()])
 
 
+class Unseeing(Printer):
+    """A printer whose sensor sees paper where there is none: nothing else tells of its end than that it has stopped."""
+
+    def _status_now(self, kind):
+        return 0x12 if kind == 4 else super()._status_now(kind)
+
+
+class Lingering(Printer):
+    """A printer that has stopped at the end of its paper as long as its cover is open, though there is a new roll."""
+
+    def _status_now(self, kind):
+        return super()._status_now(kind) | (kind == 2 and self.is_cover_open) << 5
+
+
+def try_end_beside_the_sensor():
+    """Printing has stopped at the end of the paper, where the sensor sees some. The till is told one thing, once."""
+
+    def events(host):
+        found = []
+        while (event := host.line("deliver r")) != "none":
+            found.append(event)
+        return found
+    with contextlib.ExitStack() as stack:
+        shop = Shop(stack, "asked", made=Unseeing, timeout=max(TIMEOUT, 1000))
+        told("a line", "ok", shop.print(b"Before\n"))
+        events(shop.host)
+        shop.device.load(0)
+        told("an end that no sensor sees", "err 114 203", shop.print(TEXT))
+        until(lambda: shop.host.ask("run 10") == "", 1)
+        told("it is told once", ["event StatusUpdateEvent 24"], events(shop.host))
+        told("it is empty", "ok true", shop.host.line("get r RecEmpty"))
+        shop.device.load(1000)
+        told("a new roll", True, shop.settle())
+        told("it prints", "ok", shop.print(TEXT))
+        told("that is told once, too", ["event StatusUpdateEvent 26"], events(shop.host))
+    with contextlib.ExitStack() as stack:
+        device, host = stack.enter_context(Lingering(cable(), lines=1000)), Host(stack)
+        device.cover(True)
+        told("a printer with an open cover", "ok", host.ask(
+            f"printer r1 {device.path} timeout {TIMEOUT} pause 10 lines 1000"))
+        host.lines("new r POSPrinter", "open r r1", "claim r 0", "set r DeviceEnabled true")
+        told("its cover is open", True, until(
+            lambda: host.ask("run 10") and host.line("get r CoverOpen") == "ok true"))
+        events(host)
+        until(lambda: host.ask("run 10") == "", 1)
+        told("there is paper", ([], "ok false"), (events(host), host.line("get r RecEmpty")))
+
+
 def try_on_with_open_cover():
     """A printer that is switched on with its cover open says nothing by itself until that is closed: it is asked."""
     for kind in ("usb", "tcp", "serial", "usb stays", "asked"):
