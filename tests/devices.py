@@ -3746,6 +3746,10 @@ def try_refusals():
          [type(port).__name__ + f" {port.name}" * isinstance(port, kijolvar.TcpPort) for port in map(
              kijolvar.port_of, ("/dev/usb/lp0", "/dev/ttyUSB0", "tcp:a:1", "tcp://a:1", "tcp:a", "tcp:[::1]:1",
                                 "tcp://[::1]"))])
+    with mock.patch("os.path.realpath", return_value="/dev/usb/lp0"):
+        told("links of such names that lead elsewhere", ["SerialPort", "SerialPort", "FilePort", "_KeyPort"],
+             [type(port).__name__ for port in (*map(kijolvar.port_of, ("/dev/ttyS0", "/dev/serial/by-id/s", "/dev/p")),
+                                               WedgeScanner("/dev/input/s").port)])
     told("no such ports", ["ValueError"] * 17, [name_of(kijolvar.port_of, f"tcp:{name}") for name in (
         "", ":1", "::1", "a:b", "a:0", "a:65536", "[a:b]", "::1:9100", "::1:9l00", "[::1", "[::1]9100", "a:", "a:+91",
         "[]", "[a", "a]", "[fe80::1%]")])

@@ -638,7 +638,9 @@ class _Keys:
 
 def _is_keyboard(device: Union[Port, Path]) -> bool:
     """Whether it is the path of a keyboard's events, or of a link to one."""
-    return not isinstance(device, Port) and os.path.realpath(device).startswith("/dev/input/")
+    if isinstance(device, Port):
+        return False
+    return any(os.fspath(path).startswith("/dev/input/") for path in (device, os.path.realpath(device)))
 
 
 class _KeyPort(FilePort):

@@ -837,7 +837,7 @@ def _is_host(host: str) -> bool:
 
 def _is_line(path: str) -> bool:
     """Whether a path is that of a serial line, or of a link to one."""
-    return os.path.realpath(path).startswith("/dev/tty") or path.startswith("/dev/serial/")
+    return path.startswith(("/dev/tty", "/dev/serial/")) or os.path.realpath(path).startswith("/dev/tty")
 
 
 def _lock(file: int) -> None:
