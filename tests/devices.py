@@ -2390,7 +2390,8 @@ def try_end_beside_the_sensor():
         shop.device.load(0)
         told("an end that no sensor sees", (114, 203), raised(shop.control.print, TEXT))
         until(lambda: shop.till.run_devices(0.01) and False, 1.0)
-        told("it is told once", ([24], True), ([event.status for event in shop.control.events()], shop.control.rec_empty))
+        told("it is told once", ([24], True), (
+            [event.status for event in shop.control.events()], shop.control.rec_empty))
         shop.device.load(1000)
         told("a new roll", True, until(lambda: shop.till.run_devices(0.01) is not None and not shop.control.rec_empty))
         told("it is told once, too", (None, [26]), (

@@ -21,8 +21,8 @@ enum {
     /* How many bytes ask for an acknowledgement: GS ( H, or GS r. */
     JOB_SIZE = 11,
     QUESTION_SIZE = 3,
-    /* How many bytes an automatic status has, and the bit of the answer to DLE EOT 2 that says that printing has stopped
-       at the end of the paper. */
+    /* How many bytes an automatic status has; and the bit of the answer to DLE EOT 2 by which printing has stopped at
+       the end of the paper. */
     STATUS_SIZE = 4,
     HAS_ENDED = 0x20,
     /* What the library has to know was asked: DLE EOT 1, and GS r 1. */
@@ -470,8 +470,8 @@ static void take_signs(kij_link *link, const kij_signs *signs, const kij_told *t
     link->statuses++;
 }
 
-/* Puts the replies to the three questions together to what an automatic status would say. The sensor tells of the paper:
-   there may be some again where printing has stopped at its end. One that is asked may have no such sensor. */
+/* Puts the replies to the three questions together to what an automatic status would say. The sensor tells of the
+   paper: there may be some again where printing has stopped at its end. One that is asked may have no such sensor. */
 static void compose(kij_link *link, bool has_ended) {
     bool counts = has_ended && link->is_asked;
     if (counts) link->hearing.paper = KIJ_PAPER_EMPTY;

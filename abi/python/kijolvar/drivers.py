@@ -553,7 +553,7 @@ _KEYS.update(zip(range(30, 42), ["aA", "sS", "dD", "fF", "gG", "hH", "jJ", "kK",
 _KEYS.update(zip(range(43, 54), ["\\|", "zZ", "xX", "cC", "vV", "bB", "nN", "mM", ",<", ".>", "/?"]))
 # The keypad.
 _KEYS.update(zip(range(71, 84), [2 * key for key in "789-456+1230."]))
-# What keys give: alone, and with Shift; and what Ctrl makes of that. Ctrl and ] is GS, which ends a field of a GS1 code.
+# What keys give: alone, and with Shift; and what Ctrl makes of that. Ctrl and ] is GS, which ends a field of GS1 codes.
 _ALONE, _SHIFTED = ({key: both[place] for key, both in _KEYS.items()} for place in (0, 1))
 _CONTROLLED = {"]": "\x1d"}
 

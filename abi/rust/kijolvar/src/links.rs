@@ -13,8 +13,8 @@ const REFRESH: &[u8] = b"\x1da\xff";
 /// How many bytes ask for an acknowledgement: GS ( H, or GS r.
 const JOB_SIZE: usize = 11;
 const QUESTION_SIZE: usize = 3;
-/// How many bytes an automatic status has, and the bit of the answer to DLE EOT 2 that says that printing has stopped at
-/// the end of the paper.
+/// How many bytes an automatic status has; and the bit of the answer to DLE EOT 2 by which printing has stopped at the
+/// end of the paper.
 const STATUS_SIZE: usize = 4;
 const HAS_ENDED: u8 = 0x20;
 /// How much goes out at once, and how much is unacknowledged at most in a line that holds bytes back: a question waits
