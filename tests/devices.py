@@ -3615,6 +3615,24 @@ def try_closed_by_the_other_end():
     signal.signal(signal.SIGPIPE, before)
 
 
+def try_closed_with_something_unread():
+    """What the system has taken for a connection is sent once that is closed, though something has come that nobody has
+    read."""
+    with socket.create_server(("127.0.0.1", 0)) as server:
+        port = kijolvar.TcpPort("127.0.0.1", server.getsockname()[1])
+        port.open()
+        device, sent, got = server.accept()[0], 0, 0
+        device.send(b"Hello")
+        told("something has come", True, port.ready(False, PATIENCE)[0])
+        while port.ready(True, 0.1)[1]:
+            sent += port.write_some(bytes(65_536))
+        port.close()
+        with device, contextlib.suppress(ConnectionError):
+            while found := device.recv(65_536):
+                got += len(found)
+        told("all that was taken is sent", sent, got)
+
+
 def try_forked_connections():
     """A process that is forked closes a connection that is being made."""
     with SilentHost() as silent:

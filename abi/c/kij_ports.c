@@ -415,10 +415,17 @@ static void drop_unsent(int file) {
     (void)tcsetattr(file, TCSANOW, &found);
 }
 
+/* Drops what has come over a connection and nobody has read: with that the system would drop what it hasn't sent yet. */
+static void drop_unread(int file) {
+    char bytes[1024];
+    for (int part = 0; part < KIJ_MOST_PARTS && recv(file, bytes, sizeof bytes, MSG_DONTWAIT) > 0; part++) continue;
+}
+
 /* Ends what a process that was forked meanwhile would keep up: a connection, or that other programs get no keys or no
    line. */
 static void let_go(const kij_port *port) {
     if (port->kind == KIJ_PORT_TCP) {
+        drop_unread(port->file);
         (void)shutdown(port->file, SHUT_RDWR);
         return;
     }

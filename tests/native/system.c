@@ -515,6 +515,34 @@ static void try_forked_connection(void) {
     close(listener);
 }
 
+/* What the system has taken for a connection is sent once that is closed, though something has come that nobody has
+   read. */
+static void try_unread(void) {
+    static char bytes[65536];
+    kij_port port;
+    char name[64];
+    int number = 0, listener = listen_here(8, &number);
+    long sent = 0, got = 0;
+    ssize_t found;
+    bool can_read = false, can_write = true;
+    make_tcp(&port, name, sizeof name, number);
+    told("a connection", true, kij_internal_port_open(&port, 1000));
+    int peer = accept(listener, NULL, NULL);
+    send_bytes(peer, &port, "Hello", 5);
+    while (can_write) {
+        size_t count = 0;
+        told("bytes are taken", true, kij_internal_port_write(&port, bytes, sizeof bytes, &count));
+        sent += (long)count;
+        kij_internal_port_wait(&port, true, 100, &can_read, &can_write);
+    }
+    kij_internal_port_close(&port);
+    while ((found = read(peer, bytes, sizeof bytes)) > 0) got += (long)found;
+    told("the other end is told that it is all", 0, (long)found);
+    told("it has got all of them", sent, got);
+    close(peer);
+    close(listener);
+}
+
 /* A name is looked up until it is found. It isn't looked up for a minute then, or if a look-up takes long. */
 static void try_names(void) {
     kij_port port;
@@ -1091,6 +1119,7 @@ int main(int count, char **words) {
     try_read_ahead();
     try_hosts();
     try_names();
+    try_unread();
     try_endless();
     try_signal();
     try_addresses();

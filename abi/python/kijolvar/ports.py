@@ -673,6 +673,13 @@ class TcpPort(Port):
         super().close()
         self._stop_joining()
 
+    def _let_go(self, file: int) -> None:
+        """Drops what nobody has read: with that the system would drop what it hasn't sent yet."""
+        with MinorFaults():
+            for _ in range(_MOST_PARTS):
+                if not os.read(file, _AT_ONCE):
+                    break
+
     def _stop_joining(self) -> None:
         if self._joining is not None:
             self._joining.close()

@@ -445,6 +445,16 @@ fn drop_unsent(file: RawFd) {
     }
 }
 
+/// Drops what has come over a connection and nobody has read: with that the system would drop what it hasn't sent yet.
+fn drop_unread(stream: &mut TcpStream) {
+    let mut room = [0; 1024];
+    for _ in 0..MOST_READS {
+        if !matches!(stream.read(&mut room), Ok(count) if count > 0) {
+            break;
+        }
+    }
+}
+
 /// Whether a file is a terminal line.
 fn is_line(file: &File) -> bool {
     use std::io::IsTerminal;
@@ -672,12 +682,15 @@ impl Cable {
     /// would keep the connection, the line, and a keyboard's keys. So these end first. In such a process the port is
     /// still that of the process that opened it, and nothing is dropped or ended.
     pub(crate) fn close(&mut self) {
-        let stream = self.stream.take();
+        let mut stream = self.stream.take();
         if self.process != std::process::id() {
             return;
         }
-        match &stream {
-            Some(Stream::Tcp(stream)) => drop(stream.shutdown(Shutdown::Both)),
+        match &mut stream {
+            Some(Stream::Tcp(stream)) => {
+                drop_unread(stream);
+                let _ = stream.shutdown(Shutdown::Both);
+            }
             Some(Stream::File(file)) => {
                 if matches!(self.port, Port::Keys(_)) {
                     // SAFETY: the file is open.
@@ -1243,6 +1256,23 @@ mod tests {
         while cable.read(&mut room).is_ok() {}
         // A terminal that hangs up ends, or fails to be read.
         assert!(matches!(cable.fault, Some(5 | EPIPE)), "{:?}", cable.fault);
+    }
+
+    #[test]
+    fn what_the_system_has_taken_is_sent_though_something_is_unread() {
+        let listener = TcpListener::bind("127.0.0.1:0").unwrap();
+        let mut cable = Cable::new(listener.local_addr().unwrap().into());
+        assert!(cable.open(SOON * 20));
+        let (mut device, _) = listener.accept().unwrap();
+        device.write_all(b"Hello").unwrap();
+        assert!(cable.wait(false, SOON * 20).reading);
+        let mut sent = 0;
+        while cable.wait(true, SOON / 5).writing {
+            sent += cable.write(&[b'x'; 16_384]).unwrap();
+        }
+        cable.close();
+        let mut got = Vec::new();
+        assert_eq!((device.read_to_end(&mut got).ok(), got.len()), (Some(sent), sent));
     }
 
     #[test]
