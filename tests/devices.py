@@ -2841,6 +2841,8 @@ def try_torn_scans():
              keys.take(typed("12")[:-48] + events + typed("3") + typed("34")))
     told("too many keys", [None, b"34"], keys.take(typed("1" * 4097) + typed("34")))
     told("all but the end of Enter is dropped", [None, b"34"], keys.take(dropped + typed("")[-24:] + typed("34")))
+    told("Enter was held down then", [None, b"34"], keys.take(
+        dropped + pressed(28, values=(2,)) + pressed(3) + typed("")[-24:] + typed("34")))
 
 
 def try_half_codes():

@@ -545,7 +545,7 @@ _KEY, _DROPPED, _GRAB = 1, (0, 3), 0x40044590
 _SET_MASK, _NO_SCAN_CODES = 0x40104593, struct.pack("=IIQ", 4, 0, 0)
 # How many bytes of key events are kept until they are told.
 _MOST_TYPED = 680 * _EVENT.size
-_ENTER, _SHIFTS, _CONTROLS, _NUM_LOCK, _DOWN = (28, 96), (42, 54), (29, 97), 69, 1
+_ENTER, _SHIFTS, _CONTROLS, _NUM_LOCK, _DOWN, _UP = (28, 96), (42, 54), (29, 97), 69, 1, 0
 _KEYS: dict[int, str] = {57: "  ", 55: "**", 98: "//"}
 _KEYS.update(zip(range(2, 14), ["1!", "2@", "3#", "4$", "5%", "6^", "7&", "8*", "9(", "0)", "-_", "=+"]))
 _KEYS.update(zip(range(16, 28), ["qQ", "wW", "eE", "rR", "tT", "yY", "uU", "iI", "oO", "pP", "[{", "]}"]))
@@ -614,7 +614,7 @@ class _Keys:
                 self._is_controlled = value != 0
             elif key in _ENTER:
                 # A code that was lost up to its end ends where Enter goes up.
-                codes += self._ended() if value == _DOWN or self._is_noise else []
+                codes += self._ended() if value == _DOWN or value == _UP and self._is_noise else []
             elif value == _DOWN and key != _NUM_LOCK:
                 self._types(key)
         return codes
