@@ -231,9 +231,10 @@ static bool is_host(const char *host) {
     char text[HOST_ROOM];
     struct in6_addr found;
     if (strchr(host, ':') == NULL) return *host != 0;
-    size_t size = strcspn(host, "%");
-    snprintf(text, sizeof text, "%.*s", (int)size, host);
-    return inet_pton(AF_INET6, text, &found) == 1 && (host[size] == 0 || host[size + 1] != 0);
+    const char *zone = strchr(host, '%');
+    bool has_zone = zone != NULL && zone[1] != 0 && strchr(zone + 1, '%') == NULL;
+    snprintf(text, sizeof text, "%.*s", (int)strcspn(host, "%"), host);
+    return inet_pton(AF_INET6, text, &found) == 1 && (zone == NULL || has_zone);
 }
 
 /* Reads tcp:HOST, tcp:HOST:PORT, and both with // behind the first colon. An address of IPv6 is in brackets: nothing
@@ -243,7 +244,7 @@ static bool is_address(const char *name, char *host, size_t host_room, char *ser
     if (begins_with(from, "//")) from += 2;
     bool has_brackets = *from == '[';
     if (has_brackets) from++;
-    size_t size = strcspn(from, has_brackets ? "]" : ":[]");
+    size_t size = strcspn(from, has_brackets ? "[]" : ":[]");
     const char *end = from + size;
     if (size >= host_room || (has_brackets && *end++ != ']') || (*end != 0 && *end != ':')) return false;
     memcpy(host, from, size);

@@ -111,7 +111,7 @@ impl Port {
     }
 
     /// Whether the settings of a serial line can be set, and a host may be looked up, at a number that isn't 0. Only an
-    /// IPv6 address has colons, and it may have a zone behind it, which isn't empty.
+    /// IPv6 address has colons, and it may have a zone behind it.
     pub(crate) fn is_sound(&self) -> bool {
         match self {
             Port::Serial(_, settings) => {
@@ -119,7 +119,7 @@ impl Port {
             }
             Port::Tcp(host, port) => {
                 let (address, zone) = host.split_once('%').unwrap_or((host, "-"));
-                let is_six = !zone.is_empty() && address.parse::<Ipv6Addr>().is_ok();
+                let is_six = !zone.is_empty() && !zone.contains('%') && address.parse::<Ipv6Addr>().is_ok();
                 *port != 0 && !host.is_empty() && (!host.contains(':') || is_six)
             }
             _ => true,
@@ -190,7 +190,7 @@ impl From<SocketAddr> for Port {
 /// nothing says whether the end of a bare one is a number.
 fn read_address(address: &str) -> Option<(&str, u16)> {
     let (host, rest) = match address.strip_prefix('[') {
-        Some(inside) => inside.split_once(']')?,
+        Some(inside) => inside.split_once(']').filter(|(host, _)| !host.contains('['))?,
         None => address.split_at(address.find([':', '[', ']']).unwrap_or(address.len())),
     };
     match rest.strip_prefix(':') {
