@@ -3884,6 +3884,20 @@ def try_silent_host():
         told("nothing is left to open", (True, False), (port.is_open, port.is_opening))
         port.close()
         told("the display finds it", True, until(lambda: till.run_devices() or driver.is_online))
+    with SilentHost() as first, SilentHost() as second:
+        found = [(socket.AF_INET, socket.SOCK_STREAM, 6, "", silent.address) for silent in (first, second)]
+        port = kijolvar.TcpPort("printer")
+        with mock.patch("socket.getaddrinfo", return_value=found):
+            told("two addresses that say nothing", errno.ETIMEDOUT, errno_of(port.open, 0))
+        time.sleep(1.2)
+        told("the second has its time though nobody looked", (errno.ETIMEDOUT, True),
+             (errno_of(port.open, 0), port.is_opening))
+        second.answers()
+        if port.is_opening:
+            select.select([], [port._joining._made], [], PATIENCE)
+        time.sleep(1.2)
+        told("it is found, too", None, errno_of(port.open, 0))
+        port.close()
     with SilentHost() as silent:
         # The system asks again after a second.
         answering, scanner = threading.Timer(0.2, silent.answers), WedgeScanner(silent.path)

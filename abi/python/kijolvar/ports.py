@@ -755,12 +755,14 @@ class _Joining:
 
     Args:
         addresses: Those of a host.
-        seconds: How long all of them have together, of which each one has its part.
+        seconds: How long all of them have together, of which each one has its part. If no call has looked while an
+            address had it, those behind it have theirs all the same.
     """
 
     def __init__(self, addresses: Sequence[Address], seconds: float) -> None:
         self.process = os.getpid()
         self._left = list(addresses)
+        self._seconds, self._count = seconds, len(addresses)
         self._ends_at = time.monotonic() + seconds
         # The connection to the address whose turn it is, and until when that has time.
         self._made: socket.socket | None = None
@@ -804,8 +806,9 @@ class _Joining:
 
     def _begin(self) -> None:
         """Begins to connect to the next address."""
-        now = time.monotonic()
-        self._turn_ends_at = now + (self._ends_at - now) / len(self._left)
+        now, left = time.monotonic(), len(self._left)
+        self._ends_at = max(self._ends_at, now + self._seconds * left / self._count)
+        self._turn_ends_at = now + (self._ends_at - now) / left
         family, address = self._left.pop(0)
         self._made = socket.socket(family, socket.SOCK_STREAM | socket.SOCK_NONBLOCK)
         _check(self._made.connect_ex(address), 0, errno.EINPROGRESS)
