@@ -2691,13 +2691,14 @@ def try_disturbed_bytes():
     """A byte that came with a wrong parity, or without its stop bit as at another speed: a printer's or a display's is
     dropped, and a scanner's reads as 0."""
     for made, wanted in ((EscPosPrinter, True), (SerialDisplay, True), (WedgeScanner, False)):
-        for parity in ("none", "even"):
+        for way in ("parity none", "parity even", "a link that leads to a line later"):
             with Scanner(cable()) as device:
-                driver = made(SerialPort(device.path, parity=parity))
+                driver = made(SerialPort(device.path, parity=way.split()[1]) if "parity" in way else device.path)
                 port = driver.link.port if made is EscPosPrinter else driver.port
-                port.open()
+                with mock.patch("kijolvar.ports._is_line", return_value=True):
+                    port.open()
                 flags = termios.tcgetattr(port.fileno())[0]
-                told(f"{made.__name__}, parity {parity}: bytes are checked, and a wrong one is dropped", (True, wanted),
+                told(f"{made.__name__}, {way}: bytes are checked, and a wrong one is dropped", (True, wanted),
                      (bool(flags & termios.INPCK), bool(flags & termios.IGNPAR)))
                 port.close()
 

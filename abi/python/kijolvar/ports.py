@@ -536,6 +536,8 @@ class FilePort(Port):
     def _opened(self, seconds: float) -> int:
         if self._may_be_line:
             self._line = SerialPort(self.name, flow=self._flow) if _is_line(self.name) else None
+            if self._line is not None:
+                self._line.keeps_faults = self.keeps_faults
         file = os.open(self.name, self._way | os.O_NONBLOCK | os.O_NOCTTY | os.O_CLOEXEC)
         try:
             self._prepare(file)
