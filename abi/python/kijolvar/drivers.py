@@ -640,7 +640,8 @@ def _is_keyboard(device: Union[Port, Path]) -> bool:
     """Whether it is the path of a keyboard's events, or of a link to one."""
     if isinstance(device, Port):
         return False
-    return any(os.fspath(path).startswith("/dev/input/") for path in (device, os.path.realpath(device)))
+    path = os.fspath(device)
+    return path.startswith("/dev/input/") or os.path.realpath(path).startswith("/dev/input/")
 
 
 class _KeyPort(FilePort):
