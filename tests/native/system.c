@@ -672,6 +672,20 @@ static void try_addresses(void) {
     close(listener);
 }
 
+/* A name may have more addresses than a few. */
+static void try_many_addresses(void) {
+    kij_port port;
+    char name[64];
+    int gone = 0, number = 0;
+    close(listen_here(8, &gone));
+    int listener = listen_here(8, &number);
+    make_tcp(&port, name, sizeof name, number);
+    for (size_t place = 0; place < 6; place++) keep_address(&port, place, place < 5 ? gone : number);
+    told("the sixth address", true, kij_internal_port_open(&port, 1000));
+    kij_internal_port_close(&port);
+    close(listener);
+}
+
 /* The second address has its time too, if no call has looked while the first one had its own. */
 static void try_rare_looks(void) {
     kij_port port;
@@ -1123,6 +1137,7 @@ int main(int count, char **words) {
     try_endless();
     try_signal();
     try_addresses();
+    try_many_addresses();
     try_rare_looks();
     try_joining();
     try_patience();
