@@ -899,7 +899,7 @@ impl Addresses {
             return Err(fault);
         }
         self.known = found;
-        // Looking it up has taken none of this time.
+        // The time that the look-up took counts no more.
         connect_to_any(&self.known, end_after(time))
     }
 }
