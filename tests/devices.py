@@ -2367,6 +2367,48 @@ def try_status():
         shop.same_paper("a jam: the paper")
 
 
+class Unseeing(Printer):
+    """A printer whose sensor sees paper where there is none: nothing else tells of its end than that it has stopped."""
+
+    def _status_now(self, kind):
+        return 0x12 if kind == 4 else super()._status_now(kind)
+
+
+class Lingering(Printer):
+    """A printer that has stopped at the end of its paper as long as its cover is open, though there is a new roll."""
+
+    def _status_now(self, kind):
+        return super()._status_now(kind) | (kind == 2 and self.is_cover_open) << 5
+
+
+def try_end_beside_the_sensor():
+    """Printing has stopped at the end of the paper, where the sensor sees some. The till is told one thing, once."""
+    with contextlib.ExitStack() as stack:
+        shop = Shop(stack, "asked", made=Unseeing, timeout=max(TIMEOUT, 1.0))
+        shop.begins()
+        list(shop.control.events())
+        shop.device.load(0)
+        told("an end that no sensor sees", (114, 203), raised(shop.control.print, TEXT))
+        until(lambda: shop.till.run_devices(0.01) and False, 1.0)
+        told("it is told once", ([24], True), (
+            [event.status for event in shop.control.events()], shop.control.rec_empty))
+        shop.device.load(1000)
+        told("a new roll", True, until(lambda: shop.till.run_devices(0.01) is not None and not shop.control.rec_empty))
+        told("it is told once, too", (None, [26]), (
+            raised(shop.control.print, TEXT), [event.status for event in shop.control.events()]))
+        shop.same_paper("an end that no sensor sees: the paper")
+    with contextlib.ExitStack() as stack:
+        till, device = stack.enter_context(opened()), stack.enter_context(Lingering(cable(), lines=1000))
+        device.cover(True)
+        till.drive("r1", EscPosPrinter(device.path, timeout=TIMEOUT, pause=PAUSE, lines=1000))
+        control = stack.enter_context(till.printer("r1").in_use())
+        told("an open cover above a new roll", True, until(
+            lambda: till.run_devices(0.01) is not None and control.cover_open))
+        list(control.events())
+        until(lambda: till.run_devices(0.01) and False, 1.0)
+        told("there is paper", ([], False), (list(control.events()), control.rec_empty))
+
+
 def try_near_end():
     """Paper that is near its end: the till takes a request of as many lines as its device's `near` while the printer
     sees paper."""
@@ -2649,13 +2691,14 @@ def try_disturbed_bytes():
     """A byte that came with a wrong parity, or without its stop bit as at another speed: a printer's or a display's is
     dropped, and a scanner's reads as 0."""
     for made, wanted in ((EscPosPrinter, True), (SerialDisplay, True), (WedgeScanner, False)):
-        for parity in ("none", "even"):
+        for way in ("parity none", "parity even", "a link that leads to a line later"):
             with Scanner(cable()) as device:
-                driver = made(SerialPort(device.path, parity=parity))
+                driver = made(SerialPort(device.path, parity=way.split()[1]) if "parity" in way else device.path)
                 port = driver.link.port if made is EscPosPrinter else driver.port
-                port.open()
+                with mock.patch("kijolvar.ports._is_line", return_value=True):
+                    port.open()
                 flags = termios.tcgetattr(port.fileno())[0]
-                told(f"{made.__name__}, parity {parity}: bytes are checked, and a wrong one is dropped", (True, wanted),
+                told(f"{made.__name__}, {way}: bytes are checked, and a wrong one is dropped", (True, wanted),
                      (bool(flags & termios.INPCK), bool(flags & termios.IGNPAR)))
                 port.close()
 
@@ -2792,11 +2835,15 @@ def try_torn_scans():
     told("the keypad, with NumLock", [b"12403-."], keys.take(
         pressed(69) + typed("12")[:-48] + pressed(75, 82) + typed("3")[:-48] + pressed(74, 83, 96)))
     told("a key that is held", [b"1"], keys.take(pressed(2, values=(1, 2, 2, 0)) + pressed(28, values=(1, 2, 0))))
-    for name, events in (("Tab", pressed(15)), ("Ctrl and A", control.replace(*map(pressed, (27, 30))))):
+    shifted = pressed(54, values=(1,)) + control + pressed(54, values=(0,))
+    for name, events in (("Tab", pressed(15)), ("Ctrl and A", control.replace(*map(pressed, (27, 30)))),
+                         ("Ctrl, Shift and ]", shifted)):
         told(f"a key that gives nothing: {name}", [None, b"34"],
              keys.take(typed("12")[:-48] + events + typed("3") + typed("34")))
     told("too many keys", [None, b"34"], keys.take(typed("1" * 4097) + typed("34")))
     told("all but the end of Enter is dropped", [None, b"34"], keys.take(dropped + typed("")[-24:] + typed("34")))
+    told("Enter was held down then", [None, b"34"], keys.take(
+        dropped + pressed(28, values=(2,)) + pressed(3) + typed("")[-24:] + typed("34")))
 
 
 def try_half_codes():
@@ -2944,6 +2991,32 @@ def try_typed_meanwhile():
         shows("whose line takes nothing yet")
         with mock.patch.object(port, "_count_unsent", lambda: not found):
             shows("whose line sends slowly")
+
+
+def try_typed_beside_nothing():
+    """What is typed while a call waits for a printer whose port is readable all the time, and gives nothing, is read as
+    it comes: the system keeps little of it."""
+    reading, typing, reads = *os.pipe2(os.O_NONBLOCK), []
+
+    class Keyboard:
+        def read_ahead(self):
+            with contextlib.suppress(BlockingIOError):
+                reads.append(os.read(reading, 1000))
+            return reading
+
+    def types():
+        for _ in range(100):
+            os.write(typing, b"1")
+            time.sleep(0.005)
+    link, thread = PrinterLink(kijolvar.FilePort("/dev/null"), 0.6, PAUSE), threading.Thread(target=types)
+    with mock.patch.object(kijolvar.ports.BESIDE, "keyboards", [Keyboard()]):
+        thread.start()
+        link.start()
+        thread.join()
+    told("what is typed beside a port that gives nothing is read in small parts", True, len(reads) > 30)
+    link.port.close()
+    os.close(reading)
+    os.close(typing)
 
 
 def heard_of(shop, count):
@@ -3353,6 +3426,7 @@ def try_ports_again():
             port = kijolvar.TcpPort("printer")
             faults = [name_of(port.open) for _ in range(3)]
             told(f"a look-up that fails after {took} s", (["PortError"] * 3, wanted), (faults, len(asked)))
+            told("why", errno.EHOSTUNREACH, port.open_error.errno)
             port._looks_up_from -= 61
             told(f"a look-up that fails after {took} s, a minute later", ("PortError", wanted + 1),
                  (name_of(port.open), len(asked)))
@@ -3544,6 +3618,24 @@ def try_closed_by_the_other_end():
     signal.signal(signal.SIGPIPE, before)
 
 
+def try_closed_with_something_unread():
+    """What the system has taken for a connection is sent once that is closed, though something has come that nobody has
+    read."""
+    with socket.create_server(("127.0.0.1", 0)) as server:
+        port = kijolvar.TcpPort("127.0.0.1", server.getsockname()[1])
+        port.open()
+        device, sent, got = server.accept()[0], 0, 0
+        device.send(b"Hello")
+        told("something has come", True, port.ready(False, PATIENCE)[0])
+        while port.ready(True, 0.1)[1]:
+            sent += port.write_some(bytes(65_536))
+        port.close()
+        with device, contextlib.suppress(ConnectionError):
+            while found := device.recv(65_536):
+                got += len(found)
+        told("all that was taken is sent", sent, got)
+
+
 def try_forked_connections():
     """A process that is forked closes a connection that is being made."""
     with SilentHost() as silent:
@@ -3676,8 +3768,13 @@ def try_refusals():
          [type(port).__name__ + f" {port.name}" * isinstance(port, kijolvar.TcpPort) for port in map(
              kijolvar.port_of, ("/dev/usb/lp0", "/dev/ttyUSB0", "tcp:a:1", "tcp://a:1", "tcp:a", "tcp:[::1]:1",
                                 "tcp://[::1]"))])
-    told("no such ports", ["ValueError"] * 7, [name_of(kijolvar.port_of, f"tcp:{name}") for name in (
-        "", ":1", "::1", "a:b", "a:0", "a:65536", "[a:b]")])
+    with mock.patch("os.path.realpath", return_value="/dev/usb/lp0"):
+        told("links of such names that lead elsewhere", ["SerialPort", "SerialPort", "FilePort", "_KeyPort"],
+             [type(port).__name__ for port in (*map(kijolvar.port_of, ("/dev/ttyS0", "/dev/serial/by-id/s", "/dev/p")),
+                                               WedgeScanner("/dev/input/s").port)])
+    told("no such ports", ["ValueError"] * 17, [name_of(kijolvar.port_of, f"tcp:{name}") for name in (
+        "", ":1", "::1", "a:b", "a:0", "a:65536", "[a:b]", "::1:9100", "::1:9l00", "[::1", "[::1]9100", "a:", "a:+91",
+        "[]", "[a", "a]", "[fe80::1%]")])
     told("a name that no host has", "PortError", name_of(kijolvar.port_of("tcp:.a").open))
 
 
@@ -3767,6 +3864,11 @@ def try_silent_host():
         told("it has a second again", (errno.ETIMEDOUT, True), (errno_of(port.open, 0), port.is_opening))
         port.close()
         told("it is given up", False, port.is_opening)
+        with mock.patch("socket.socket.connect_ex", return_value=errno.ECONNREFUSED):
+            told("it refuses", errno.ECONNREFUSED, errno_of(port.open, 0))
+        told("it says nothing then", (errno.ETIMEDOUT, True), (errno_of(port.open, 0), port.is_opening))
+        told("until that is known it has refused", errno.ECONNREFUSED, port.open_error.errno)
+        port.close()
         till = stack.enter_context(opened())
         till.drive("p1", driver := SerialDisplay(silent.path, timeout=0.01, pause=0))
         began = time.monotonic()
@@ -3783,6 +3885,28 @@ def try_silent_host():
         told("nothing is left to open", (True, False), (port.is_open, port.is_opening))
         port.close()
         told("the display finds it", True, until(lambda: till.run_devices() or driver.is_online))
+    with SilentHost() as first, SilentHost() as second:
+        found = [(socket.AF_INET, socket.SOCK_STREAM, 6, "", silent.address) for silent in (first, second)]
+        port = kijolvar.TcpPort("printer")
+        with mock.patch("socket.getaddrinfo", return_value=found):
+            told("two addresses that say nothing", errno.ETIMEDOUT, errno_of(port.open, 0))
+        time.sleep(1.2)
+        told("the second has its time though nobody looked", (errno.ETIMEDOUT, True),
+             (errno_of(port.open, 0), port.is_opening))
+        second.answers()
+        if port.is_opening:
+            select.select([], [port._joining._made], [], PATIENCE)
+        time.sleep(1.2)
+        told("it is found, too", None, errno_of(port.open, 0))
+        port.close()
+    with SilentHost() as silent:
+        # The system asks again after a second.
+        answering, scanner = threading.Timer(0.2, silent.answers), WedgeScanner(silent.path)
+        answering.start()
+        scanner.start(None)
+        told("a scanner whose host answers late is there at first", True, scanner.is_online)
+        answering.join()
+        scanner.close()
 
 
 # ---- random faults

@@ -2491,6 +2491,54 @@ def try_blinks():
             told(f"both are printed over {kind}", [b"One", b"Two"], [item[1] for item in shop.paper()])
 
 
+class Unseeing(Printer):
+    """A printer whose sensor sees paper where there is none: nothing else tells of its end than that it has stopped."""
+
+    def _status_now(self, kind):
+        return 0x12 if kind == 4 else super()._status_now(kind)
+
+
+class Lingering(Printer):
+    """A printer that has stopped at the end of its paper as long as its cover is open, though there is a new roll."""
+
+    def _status_now(self, kind):
+        return super()._status_now(kind) | (kind == 2 and self.is_cover_open) << 5
+
+
+def try_end_beside_the_sensor():
+    """Printing has stopped at the end of the paper, where the sensor sees some. The till is told one thing, once."""
+
+    def events(host):
+        found = []
+        while (event := host.line("deliver r")) != "none":
+            found.append(event)
+        return found
+    with contextlib.ExitStack() as stack:
+        shop = Shop(stack, "asked", made=Unseeing, timeout=max(TIMEOUT, 1000))
+        told("a line", "ok", shop.print(b"Before\n"))
+        events(shop.host)
+        shop.device.load(0)
+        told("an end that no sensor sees", "err 114 203", shop.print(TEXT))
+        until(lambda: shop.host.ask("run 10") == "", 1)
+        told("it is told once", ["event StatusUpdateEvent 24"], events(shop.host))
+        told("it is empty", "ok true", shop.host.line("get r RecEmpty"))
+        shop.device.load(1000)
+        told("a new roll", True, shop.settle())
+        told("it prints", "ok", shop.print(TEXT))
+        told("that is told once, too", ["event StatusUpdateEvent 26"], events(shop.host))
+    with contextlib.ExitStack() as stack:
+        device, host = stack.enter_context(Lingering(cable(), lines=1000)), Host(stack)
+        device.cover(True)
+        told("a printer with an open cover", "ok", host.ask(
+            f"printer r1 {device.path} timeout {TIMEOUT} pause 10 lines 1000"))
+        host.lines("new r POSPrinter", "open r r1", "claim r 0", "set r DeviceEnabled true")
+        told("its cover is open", True, until(
+            lambda: host.ask("run 10") and host.line("get r CoverOpen") == "ok true"))
+        events(host)
+        until(lambda: host.ask("run 10") == "", 1)
+        told("there is paper", ([], "ok false"), (events(host), host.line("get r RecEmpty")))
+
+
 def try_on_with_open_cover():
     """A printer that is switched on with its cover open says nothing by itself until that is closed: it is asked."""
     for kind in ("usb", "tcp", "serial", "usb stays", "asked"):
@@ -2666,7 +2714,8 @@ def try_refusals():
         told("a narrow printer", "KIJ_BAD_SETTINGS", host.ask(f"printer r1 {port} width 41"))
         told("a short roll", "KIJ_BAD_SETTINGS", host.ask(f"printer r1 {port} lines 20"))
         told("too long a roll", "KIJ_BAD_SETTINGS", host.ask(f"printer r1 {port} lines 100001"))
-        told("no speed of a line", "KIJ_BAD_SETTINGS", host.ask(f"printer r1 {port} serial 9601"))
+        told("no speed of a line", ["KIJ_BAD_SETTINGS"] * 2, [host.ask(f"printer r1 {port} serial {speed}")
+                                                              for speed in (0, 9601)])
         told("no time for an order", ["KIJ_BAD_SETTINGS"] * 2,
              [host.ask(f"printer r1 {port} timeout 0"), host.ask(f"display p1 {port} timeout 0")])
         told("longer times than 2,147,483 seconds", ["KIJ_BAD_SETTINGS"] * 5,
@@ -2675,8 +2724,9 @@ def try_refusals():
         told("an order that needn't end, and a port that is never tried again", ["KIJ_BAD_SETTINGS"] * 5,
              [host.ask(f"{words} {port} {key} -1") for key, made in (("timeout", 2), ("pause", 3))
               for words in ("printer r1", "display p1", "scanner s1")[:made]])
-        for name in ("tcp:", "tcp:h:", "tcp:h:91OO", "tcp:h:0", "tcp:h:99999", "tcp:[::1", "tcp:[::1]9101",
-                     "tcp:[::1]x:9100", "tcp:a:b:9100"):
+        for name in ("tcp:", "tcp:h:", "tcp:h:91OO", "tcp:h:+91", "tcp:h:0", "tcp:h:99999", "tcp:[::1", "tcp:[::1]9101",
+                     "tcp:[::1]x:9100", "tcp:a:b:9100", "tcp:::1", "tcp:::1:9100", "tcp:::1:9l00", "tcp:[]", "tcp:[h",
+                     "tcp:h]", "tcp:[fe80::1%]"):
             told(f"no port: {name}", ["KIJ_BAD_SETTINGS"] * 3,
                  [host.ask(f"printer r1 {name}"), host.ask(f"display p1 {name}"), host.ask(f"scanner s1 {name}")])
         told("none is driven", "KIJ_NO_DEVICE", host.ask("state r1"))
@@ -3304,6 +3354,7 @@ def try_keys():
         comes("a key without a character", "event ErrorEvent 111 0 2", 2, 59, 3)
         comes("a code after it", "ok 3132", 2, 3)
         comes("another control", "event ErrorEvent 111 0 2", (29, 1), 30, (29, 0))
+        comes("a separator with Shift", "event ErrorEvent 111 0 2", (42, 1), (29, 1), 27, (29, 0), (42, 0))
         comes("Enter that is held", "ok 33", 4, (28, 1), (28, 2), (28, 0))
 
 
@@ -3341,6 +3392,14 @@ def try_silent_host():
         told("it isn't there", "offline 0", host.ask("state p1"))
         silent.answers()
         told("it is found", True, until(lambda: host.ask("run 0") and host.ask("state p1") == "online 0"))
+    with contextlib.ExitStack() as stack:
+        silent, host = stack.enter_context(SilentHost()), Host(stack)
+        # The system asks again after a second.
+        answering = threading.Timer(0.2, silent.answers)
+        answering.start()
+        told("a scanner whose host answers late is there at first", ["ok", "online 0"],
+             [host.ask(f"scanner s1 {silent.path}"), host.ask("state s1")])
+        answering.join()
 
 
 # ---- random faults

@@ -584,7 +584,7 @@ typedef struct kij_serial_settings {
     /** Whether the path is a serial line, whatever its name. A path of /dev/tty.. or /dev/serial/.. always is one, and
      * so is a link to /dev/tty.., which may be missing until the port is opened. */
     bool is_serial;
-    /** Bits per second, as the device is set up: 1,200 to 230,400. */
+    /** Bits per second, as the device is set up: a speed that Linux knows, 50 to 4,000,000. */
     int speed;
     /** The bits of a byte, 7 or 8, and the stop bits behind it, 1 or 2. */
     int bits;
@@ -710,9 +710,9 @@ typedef struct kij_scanner_settings {
  *
  * @param device   the name of a printer of the profile
  * @param port     /dev/usb/lp0, /dev/ttyUSB0, tcp:HOST or tcp:HOST:PORT (9100 if there is none). HOST had better be an
- * address in numbers, as 192.0.2.7 or [2001:db8::7]: the timeout doesn't limit how long the system looks a name up. It
- * is looked up at most once a minute. Once it is found, its addresses are kept, and it is looked up again if none can
- * be reached
+ * address in numbers, as 192.0.2.7 or [2001:db8::7], which needs its brackets: the timeout doesn't limit how long the
+ * system looks a name up. Once it is found, its addresses are kept, and it is looked up again if none can be reached.
+ * After a look-up that found it, or took long, the next one is a minute later
  * @param settings null is KIJ_ESCPOS_SETTINGS
  * @return KIJ_BAD_DEVICE, KIJ_KIND_DIFFERS, KIJ_DRIVEN, KIJ_NO_DEVICE (it can't be driven, as one with `flaky`),
  * KIJ_BAD_SETTINGS, KIJ_NO_MEMORY or KIJ_BAD_ARGUMENT on failure; then no device has a driver of this call. If only the

@@ -10,10 +10,11 @@
 
 static kij_result plain(int code) { return kij_internal_result(code, 0, KIJ_NO_CATEGORY); }
 
-/* How long a lost port may take to open while other devices wait, how long a drawer may take to open, how long output
-   that has failed waits, after how long without an order nobody knows what a display shows, after how long without a
-   byte a code that has begun has no end, and how often that is looked for, in milliseconds. */
-static const int64_t quickly = 20, briefly = 250, settle = 1000, rest = 100, unseen = 10000, lull = 1000, often = 100;
+/* How long a lost port may take to open while other devices wait, and that of a scanner at first, how long a drawer may
+   take to open, how long output that has failed waits, after how long without an order nobody knows what a display
+   shows, after how long without a byte a code that has begun has no end, and how often that is looked for, in
+   milliseconds. */
+static const int64_t quickly = 20, opening = 2000, settle = 1000, rest = 100, unseen = 10000, lull = 1000, often = 100;
 
 /* The longest timeout or pause, in milliseconds: whole seconds, as in Rust and Python. The longest code of a scanner
    and the highest type, how many ports are waited for at once, of how many orders of a printer the till keeps the
@@ -1276,7 +1277,7 @@ kij_result kij_wedge_scanner_open(kij_till *till, const char *device, const char
     code = make_drive(till, device, KIJ_SCANNER, &drive);
     if (code == KIJ_OK) {
         drive->type = settings->type;
-        drive->timeout = briefly;
+        drive->timeout = opening;
         drive->pause = settings->pause;
         code = open_port(till, drive, port, &settings->serial, settings->has_keys);
     }

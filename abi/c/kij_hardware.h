@@ -26,7 +26,7 @@ typedef struct kij_address {
 
 /* How many addresses of a TCP port are kept, and in how many parts is read what has come: a device may send on and on.
    */
-enum { KIJ_ADDRESS_ROOM = 4, KIJ_MOST_PARTS = 64 };
+enum { KIJ_ADDRESS_ROOM = 16, KIJ_MOST_PARTS = 64 };
 
 /* A port. Its name stays as long as it does. */
 typedef struct kij_port {

@@ -21,8 +21,10 @@ enum {
     /* How many bytes ask for an acknowledgement: GS ( H, or GS r. */
     JOB_SIZE = 11,
     QUESTION_SIZE = 3,
-    /* How many bytes an automatic status has. */
+    /* How many bytes an automatic status has; and the bit of the answer to DLE EOT 2 by which printing has stopped at
+       the end of the paper. */
     STATUS_SIZE = 4,
+    HAS_ENDED = 0x20,
     /* What the library has to know was asked: DLE EOT 1, and GS r 1. */
     ASKED_NOW = 1,
     ASKED_PAPER = 5,
@@ -468,10 +470,14 @@ static void take_signs(kij_link *link, const kij_signs *signs, const kij_told *t
     link->statuses++;
 }
 
-/* Puts the replies to the three questions together to what an automatic status would say. */
-static void compose(kij_link *link) {
+/* Puts the replies to the three questions together to what an automatic status would say. The sensor tells of the
+   paper: there may be some again where printing has stopped at its end. One that is asked may have no such sensor. */
+static void compose(kij_link *link, bool has_ended) {
+    bool counts = has_ended && link->is_asked;
+    if (counts) link->hearing.paper = KIJ_PAPER_EMPTY;
+    else link->heard[1].bytes[0] &= (uint8_t)~HAS_ENDED;
     if (link->told_count == 0 || memcmp(&link->hearing, &link->signs, sizeof link->signs) != 0)
-        take_signs(link, &link->hearing, link->heard, 3);
+        take_signs(link, &link->hearing, link->heard, counts ? 2 : 3);
 }
 
 /* The answer to a question of DLE EOT. A printer that says by itself how it is gets the other two questions while it is
@@ -491,6 +497,7 @@ static void take_part(kij_link *link, const char *line, const kij_told *told) {
     }
     /* It has said it by itself meanwhile. */
     if (link->statuses != link->asked_why_at) return;
+    bool has_ended = link->hearing.paper == KIJ_PAPER_EMPTY;
     link->heard[link->question / 2] = *told;
     hear(&link->hearing, line);
     if (!link->is_asked && !link->hearing.is_offline) {
@@ -503,7 +510,7 @@ static void take_part(kij_link *link, const char *line, const kij_told *told) {
         return;
     }
     link->rounds++;
-    compose(link);
+    compose(link, has_ended);
 }
 
 /* A reply of a printer that says by itself how it is: an acknowledgement, an automatic status, which alone has several

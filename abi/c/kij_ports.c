@@ -24,9 +24,9 @@
 #include <time.h>
 #include <unistd.h>
 
-/* How long a name isn't looked up again, and how long a host has to answer at least, though no call waits for it so
-   long, in milliseconds. */
-static const int64_t rarely = 60000, answers = 1000;
+/* How long a name isn't looked up again, from when on a look-up has taken long, and how long a host has to answer at
+   least, though no call waits for it so long, in milliseconds. */
+static const int64_t rarely = 60000, slowly = 250, answers = 1000;
 
 /* The characters by which a serial line says that it can take more, and that it can't. */
 enum { XON = 0x11, XOFF = 0x13 };
@@ -75,8 +75,12 @@ static speed_t speed_of(int speed) {
         int speed;
         speed_t number;
     } speeds[] = {
-        {1200, B1200},   {2400, B2400},   {4800, B4800},     {9600, B9600},     {19200, B19200},
-        {38400, B38400}, {57600, B57600}, {115200, B115200}, {230400, B230400},
+        {50, B50},           {75, B75},           {110, B110},         {134, B134},         {150, B150},
+        {200, B200},         {300, B300},         {600, B600},         {1200, B1200},       {1800, B1800},
+        {2400, B2400},       {4800, B4800},       {9600, B9600},       {19200, B19200},     {38400, B38400},
+        {57600, B57600},     {115200, B115200},   {230400, B230400},   {460800, B460800},   {500000, B500000},
+        {576000, B576000},   {921600, B921600},   {1000000, B1000000}, {1152000, B1152000}, {1500000, B1500000},
+        {2000000, B2000000}, {2500000, B2500000}, {3000000, B3000000}, {3500000, B3500000}, {4000000, B4000000},
     };
     for (size_t place = 0; place < sizeof speeds / sizeof speeds[0]; place++)
         if (speeds[place].speed == speed) return speeds[place].number;
@@ -227,25 +231,26 @@ static bool is_host(const char *host) {
     char text[HOST_ROOM];
     struct in6_addr found;
     if (strchr(host, ':') == NULL) return *host != 0;
+    const char *zone = strchr(host, '%');
+    bool has_zone = zone != NULL && zone[1] != 0 && strchr(zone + 1, '%') == NULL;
     snprintf(text, sizeof text, "%.*s", (int)strcspn(host, "%"), host);
-    return inet_pton(AF_INET6, text, &found) == 1;
+    return inet_pton(AF_INET6, text, &found) == 1 && (zone == NULL || has_zone);
 }
 
-/* Reads tcp:HOST, tcp:HOST:PORT, and both with // behind the first colon. An address of IPv6 may be in brackets. */
+/* Reads tcp:HOST, tcp:HOST:PORT, and both with // behind the first colon. An address of IPv6 is in brackets: nothing
+   says whether the end of a bare one is a number. */
 static bool is_address(const char *name, char *host, size_t host_room, char *service, size_t service_room) {
     const char *from = name + strlen("tcp:");
     if (begins_with(from, "//")) from += 2;
-    const char *bracket = *from == '[' ? strchr(from, ']') : NULL;
-    const char *colon = strrchr(bracket == NULL ? from : bracket, ':');
-    size_t size = colon == NULL ? strlen(from) : (size_t)(colon - from);
-    if (bracket != NULL) size = (size_t)(bracket - ++from);
-    if (size == 0 || size >= host_room || *from == '[') return false;
-    /* Behind the bracket stands the number, or nothing. */
-    if (bracket != NULL && bracket[1] != 0 && bracket + 1 != colon) return false;
+    bool has_brackets = *from == '[';
+    if (has_brackets) from++;
+    size_t size = strcspn(from, has_brackets ? "[]" : ":[]");
+    const char *end = from + size;
+    if (size >= host_room || (has_brackets && *end++ != ']') || (*end != 0 && *end != ':')) return false;
     memcpy(host, from, size);
     host[size] = 0;
     if (!is_host(host)) return false;
-    int written = snprintf(service, service_room, "%s", colon == NULL ? "9100" : colon + 1);
+    int written = snprintf(service, service_room, "%s", *end == 0 ? "9100" : end + 1);
     return written > 0 && (size_t)written < service_room && is_number(service);
 }
 
@@ -332,17 +337,19 @@ static void keep_addresses(kij_port *port, const struct addrinfo *found) {
 }
 
 /* Looks the name of a TCP port up: 0 or errno. The addresses that are kept stay if there are no others. It isn't looked
-   up again for a while, whether it was found or not: without a network that takes long. */
+   up again for a while, unless there is no address and that is known at once, as before there is a network. */
 static int resolve(kij_port *port) {
     char host[HOST_ROOM], service[SERVICE_ROOM];
     struct addrinfo wanted, *found = NULL;
     if (!is_address(port->name, host, sizeof host, service, sizeof service)) return EINVAL;
-    if (kij_internal_now() < port->resolve_at) return EHOSTUNREACH;
+    int64_t began = kij_internal_now();
+    if (began < port->resolve_at) return EHOSTUNREACH;
     memset(&wanted, 0, sizeof wanted);
     wanted.ai_socktype = SOCK_STREAM;
     wanted.ai_flags = AI_NUMERICSERV;
     bool is_found = getaddrinfo(host, service, &wanted, &found) == 0;
-    port->resolve_at = kij_internal_now() + rarely;
+    int64_t now = kij_internal_now();
+    if (is_found || port->address_count > 0 || now - began > slowly) port->resolve_at = now + rarely;
     if (!is_found) return EHOSTUNREACH;
     keep_addresses(port, found);
     freeaddrinfo(found);
@@ -409,10 +416,17 @@ static void drop_unsent(int file) {
     (void)tcsetattr(file, TCSANOW, &found);
 }
 
+/* Drops what has come over a connection and nobody has read: with that the system would drop what it hasn't sent yet. */
+static void drop_unread(int file) {
+    char bytes[1024];
+    for (int part = 0; part < KIJ_MOST_PARTS && recv(file, bytes, sizeof bytes, MSG_DONTWAIT) > 0; part++) continue;
+}
+
 /* Ends what a process that was forked meanwhile would keep up: a connection, or that other programs get no keys or no
    line. */
 static void let_go(const kij_port *port) {
     if (port->kind == KIJ_PORT_TCP) {
+        drop_unread(port->file);
         (void)shutdown(port->file, SHUT_RDWR);
         return;
     }

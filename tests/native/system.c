@@ -27,7 +27,7 @@
 #include <time.h>
 #include <unistd.h>
 
-static int failed, lookups, lookup_fault, calls, read_fault, write_fault, sync_fault, syncs, flush_fault;
+static int failed, lookups, lookup_fault, lookup_time, calls, read_fault, write_fault, sync_fault, syncs, flush_fault;
 static bool is_partial;
 /* How often a file is read from its beginning with another byte each time; always if it is less than 0. */
 static int changes;
@@ -53,6 +53,7 @@ ssize_t __wrap_pwrite(int file, const void *bytes, size_t size, off_t at);
 int __wrap_getaddrinfo(const char *host, const char *service, const struct addrinfo *wanted, struct addrinfo **found) {
     lookups++;
     snprintf(looked_up, sizeof looked_up, "%s %s", host, service);
+    kij_internal_sleep(lookup_time);
     return lookup_fault != 0 ? lookup_fault : __real_getaddrinfo(host, service, wanted, found);
 }
 
@@ -215,6 +216,31 @@ static void try_line_settings(void) {
         told("what it does with breaks and parity", (long)(IGNBRK | wanted), (long)(found.c_iflag & mask));
         kij_internal_port_close(&port);
     }
+    close(other);
+}
+
+/* A line has the speed that it is told, which is one that Linux knows. */
+static void try_speeds(void) {
+    static const struct {
+        int speed;
+        speed_t number;
+    } speeds[] = {{50, B50}, {300, B300}, {1200, B1200}, {115200, B115200}, {921600, B921600}, {4000000, B4000000}};
+    kij_port port;
+    struct termios found;
+    int other = make_line(&port);
+    for (size_t place = 0; place < sizeof speeds / sizeof speeds[0]; place++) {
+        port.serial.speed = speeds[place].speed;
+        told("a speed", true, kij_internal_is_serial(&port.serial));
+        told("a line with it", true, kij_internal_port_open(&port, 100));
+        told("its settings", 0, tcgetattr(port.file, &found));
+        told("its speed out", (long)speeds[place].number, (long)cfgetospeed(&found));
+        told("its speed in", (long)speeds[place].number, (long)cfgetispeed(&found));
+        kij_internal_port_close(&port);
+    }
+    port.serial.speed = 0;
+    told("no speed", false, kij_internal_is_serial(&port.serial));
+    port.serial.speed = 9601;
+    told("another speed", false, kij_internal_is_serial(&port.serial));
     close(other);
 }
 
@@ -489,7 +515,35 @@ static void try_forked_connection(void) {
     close(listener);
 }
 
-/* A name is looked up once, and then at most once a minute while it can't be reached. */
+/* What the system has taken for a connection is sent once that is closed, though something has come that nobody has
+   read. */
+static void try_unread(void) {
+    static char bytes[65536];
+    kij_port port;
+    char name[64];
+    int number = 0, listener = listen_here(8, &number);
+    long sent = 0, got = 0;
+    ssize_t found;
+    bool can_read = false, can_write = true;
+    make_tcp(&port, name, sizeof name, number);
+    told("a connection", true, kij_internal_port_open(&port, 1000));
+    int peer = accept(listener, NULL, NULL);
+    send_bytes(peer, &port, "Hello", 5);
+    while (can_write) {
+        size_t count = 0;
+        told("bytes are taken", true, kij_internal_port_write(&port, bytes, sizeof bytes, &count));
+        sent += (long)count;
+        kij_internal_port_wait(&port, true, 100, &can_read, &can_write);
+    }
+    kij_internal_port_close(&port);
+    while ((found = read(peer, bytes, sizeof bytes)) > 0) got += (long)found;
+    told("the other end is told that it is all", 0, (long)found);
+    told("it has got all of them", sent, got);
+    close(peer);
+    close(listener);
+}
+
+/* A name is looked up until it is found. It isn't looked up for a minute then, or if a look-up takes long. */
 static void try_names(void) {
     kij_port port;
     char name[64];
@@ -497,9 +551,14 @@ static void try_names(void) {
     make_tcp(&port, name, sizeof name, number);
     lookup_fault = EAI_AGAIN;
     told("a name that isn't found", false, kij_internal_port_open(&port, 1000));
+    told("why", EHOSTUNREACH, port.error);
     told("a second time", false, kij_internal_port_open(&port, 1000));
-    told("it isn't looked up again at once", 1, lookups);
-    lookup_fault = 0;
+    told("it is looked up again", 2, lookups);
+    lookup_time = 300;
+    told("a name of which that is known late", false, kij_internal_port_open(&port, 1000));
+    told("a fourth time", false, kij_internal_port_open(&port, 1000));
+    told("it isn't looked up again at once", 3, lookups);
+    lookup_fault = lookup_time = lookups = 0;
     port.resolve_at = 0;
     told("a name that is found", true, kij_internal_port_open(&port, 1000));
     kij_internal_port_close(&port);
@@ -508,10 +567,14 @@ static void try_names(void) {
     close(listener);
     told("nobody is there", false, kij_internal_port_open(&port, 1000));
     told("why", ECONNREFUSED, port.error);
-    told("it was looked up once", 2, lookups);
+    told("it was looked up once", 1, lookups);
     port.resolve_at = 0;
+    lookup_fault = EAI_AGAIN;
     told("nobody is there later", false, kij_internal_port_open(&port, 1000));
-    told("it is looked up again", 3, lookups);
+    told("it is looked up again", 2, lookups);
+    told("nor later still", false, kij_internal_port_open(&port, 1000));
+    told("the address that it had is tried alone", 2, lookups);
+    lookup_fault = 0;
 }
 
 /* What is looked up for a port's name. */
@@ -522,7 +585,6 @@ static void try_hosts(void) {
         {"tcp:192.0.2.7", "192.0.2.7 9100"},
         {"tcp:[2001:db8::7]", "2001:db8::7 9100"},
         {"tcp:[::1]:91", "::1 91"},
-        {"tcp:::1:91", "::1 91"},
         {"tcp:[fe80::1%eth0]:91", "fe80::1%eth0 91"},
     };
     static const kij_serial_settings serial = KIJ_SERIAL_SETTINGS;
@@ -607,6 +669,20 @@ static void try_addresses(void) {
     kij_internal_port_close(&port);
     empty(full, waiting);
     close(full);
+    close(listener);
+}
+
+/* A name may have more addresses than a few. */
+static void try_many_addresses(void) {
+    kij_port port;
+    char name[64];
+    int gone = 0, number = 0;
+    close(listen_here(8, &gone));
+    int listener = listen_here(8, &number);
+    make_tcp(&port, name, sizeof name, number);
+    for (size_t place = 0; place < 6; place++) keep_address(&port, place, place < 5 ? gone : number);
+    told("the sixth address", true, kij_internal_port_open(&port, 1000));
+    kij_internal_port_close(&port);
     close(listener);
 }
 
@@ -1040,6 +1116,7 @@ int main(int count, char **words) {
     }
     snprintf(path, sizeof path, "%s/system-totals", words[1]);
     try_line_settings();
+    try_speeds();
     try_disturbed_bytes();
     try_left_settings();
     try_held_questions();
@@ -1056,9 +1133,11 @@ int main(int count, char **words) {
     try_read_ahead();
     try_hosts();
     try_names();
+    try_unread();
     try_endless();
     try_signal();
     try_addresses();
+    try_many_addresses();
     try_rare_looks();
     try_joining();
     try_patience();

@@ -16,7 +16,7 @@ from ._control import device_word
 from ._faults import InCallError, NoDeviceError
 from ._session import is_called
 from ._wire import JOB_PAPER, Asked, WireSettings
-from .ports import Port, PortError, TcpPort
+from .ports import Port, PortError, TcpPort, rest_beside
 
 if TYPE_CHECKING:
     from .till import Till
@@ -34,7 +34,10 @@ _JOB_SIZE, _NUMBER_SIZE, _QUESTION_SIZE = 11, 4, 3
 _READ_AT_ONCE = 64
 # What the library has to know was asked. The questions of DLE EOT are asked in turn: the printer, why it is offline
 # (which has twice its number), and the paper (which has twice that).
-_PRINTER, _PAPER, _PAPER_IN_ORDER = int(Asked.PRINTER), int(Asked.PAPER), int(Asked.PAPER_IN_ORDER)
+_PRINTER, _CAUSE, _PAPER = int(Asked.PRINTER), int(Asked.OFFLINE_CAUSE), int(Asked.PAPER)
+_PAPER_IN_ORDER = int(Asked.PAPER_IN_ORDER)
+# The bit of the cause that says that printing has stopped at the end of the paper.
+_HAS_ENDED = 0x20
 # How many pieces of an order may be due, and how many bytes behind the first of them: at any port, and at one that
 # holds back what is sent, where a question waits until they have gone out.
 _MOST_DUE, _ENOUGH, _ENOUGH_HELD = 32, 2048, 512
@@ -555,13 +558,19 @@ class PrinterLink:
             self._composes()
 
     def _composes(self) -> None:
-        """Puts the answers together to what an automatic status would tell. The paper's sensor tells the most."""
+        """Puts the answers together to what an automatic status would tell."""
+        self._forgets_end()
         heard = list(self._heard.values())
         signs = {name: sign for _, told in heard for name, sign in told.items()}
         if signs != self.signs:
             self._is_told(signs, [told for told, _ in heard])
             # It may have lost the question for its status.
             self._is_refreshing = False
+
+    def _forgets_end(self) -> None:
+        """The paper's sensor tells the most: there may be some again where printing has stopped at its end."""
+        told, signs = self._heard[_CAUSE]
+        self._heard[_CAUSE] = Told(bytes([told.data[-1] & ~_HAS_ENDED]), _CAUSE), signs
 
     def _comes_back(self) -> None:
         """The printer answers, for the first time or again. It may have been off: then it tells no status by itself."""
@@ -623,7 +632,8 @@ class PrinterLink:
             if can_write:
                 self._writes()
             elif can_read and not data:
-                time.sleep(_OFTEN)
+                # A port may be readable all the time, and give nothing.
+                rest_beside(min(left, _OFTEN))
         return True
 
     def _asks_on(self) -> None:
@@ -760,9 +770,9 @@ class PrinterLink:
     def _lose(self) -> None:
         """The port was lost, with what wasn't sent. What was sent may still be acknowledged over the next one. What had
         come before counts, unless the port has kept back what it is about."""
-        rest = self.port._take_rest()
+        left = self.port._take_rest()
         if not self.port.holds_back:
-            self._takes(rest)
+            self._takes(left)
         self.port.close()
         self._forget()
 
@@ -877,6 +887,13 @@ class AskedLink(PrinterLink):
     def _asks_more(self, asked: int) -> None:
         self._rounds += asked == _PAPER
         self._asks_next(asked)
+
+    def _forgets_end(self) -> None:
+        """It may have no sensor that sees the end of the paper."""
+        if self._heard[_CAUSE][1].get("paper") == "empty":
+            del self._heard[_PAPER]
+        else:
+            super()._forgets_end()
 
     def _taken_up(self, data: bytes, is_once: bool, is_waiting: bool) -> Job:
         self._gives_up()

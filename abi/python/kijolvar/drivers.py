@@ -40,8 +40,8 @@ _MOST_LINES = 100_000
 # As many lines as a request of line feeds alone feeds; and from how many lines on the count begins again before its
 # end.
 _MOST_FEEDS, _LONG = 4096, 100
-# How long a lost port may take to open, in seconds, while other devices wait.
-_QUICKLY = 0.02
+# How long a lost port may take to open, in seconds, while other devices wait, and that of a scanner at first.
+_QUICKLY, _SCANNER_OPENS = 0.02, 2.0
 # After how long without an order nobody knows what a display shows, in seconds.
 _UNSEEN = 10.0
 # The longest timeout or pause, in seconds: that of the drivers of C, whose milliseconds have 31 bits.
@@ -545,7 +545,7 @@ _KEY, _DROPPED, _GRAB = 1, (0, 3), 0x40044590
 _SET_MASK, _NO_SCAN_CODES = 0x40104593, struct.pack("=IIQ", 4, 0, 0)
 # How many bytes of key events are kept until they are told.
 _MOST_TYPED = 680 * _EVENT.size
-_ENTER, _SHIFTS, _CONTROLS, _NUM_LOCK, _DOWN = (28, 96), (42, 54), (29, 97), 69, 1
+_ENTER, _SHIFTS, _CONTROLS, _NUM_LOCK, _DOWN, _UP = (28, 96), (42, 54), (29, 97), 69, 1, 0
 _KEYS: dict[int, str] = {57: "  ", 55: "**", 98: "//"}
 _KEYS.update(zip(range(2, 14), ["1!", "2@", "3#", "4$", "5%", "6^", "7&", "8*", "9(", "0)", "-_", "=+"]))
 _KEYS.update(zip(range(16, 28), ["qQ", "wW", "eE", "rR", "tT", "yY", "uU", "iI", "oO", "pP", "[{", "]}"]))
@@ -553,9 +553,9 @@ _KEYS.update(zip(range(30, 42), ["aA", "sS", "dD", "fF", "gG", "hH", "jJ", "kK",
 _KEYS.update(zip(range(43, 54), ["\\|", "zZ", "xX", "cC", "vV", "bB", "nN", "mM", ",<", ".>", "/?"]))
 # The keypad.
 _KEYS.update(zip(range(71, 84), [2 * key for key in "789-456+1230."]))
-# What keys give: alone, with Shift, and with Ctrl. Ctrl and ] is GS, which ends a field of a GS1 code.
+# What keys give: alone, and with Shift; and what Ctrl makes of that. Ctrl and ] is GS, which ends a field of GS1 codes.
 _ALONE, _SHIFTED = ({key: both[place] for key, both in _KEYS.items()} for place in (0, 1))
-_CONTROLLED = {27: "\x1d"}
+_CONTROLLED = {"]": "\x1d"}
 
 
 class _Lines:
@@ -614,17 +614,19 @@ class _Keys:
                 self._is_controlled = value != 0
             elif key in _ENTER:
                 # A code that was lost up to its end ends where Enter goes up.
-                codes += self._ended() if value == _DOWN or self._is_noise else []
+                codes += self._ended() if value == _DOWN or value == _UP and self._is_noise else []
             elif value == _DOWN and key != _NUM_LOCK:
                 self._types(key)
         return codes
 
     def _types(self, key: int) -> None:
         """A key goes down. One that gives nothing is a character that would be missing."""
-        keys = _CONTROLLED if self._is_controlled else _SHIFTED if self._is_shifted else _ALONE
+        given = (_SHIFTED if self._is_shifted else _ALONE).get(key, "")
+        if self._is_controlled:
+            given = _CONTROLLED.get(given, "")
         if not self._is_noise:
-            self._begun += keys.get(key, "").encode()
-            self._is_noise = key not in keys or len(self._begun) > _LONGEST
+            self._begun += given.encode()
+            self._is_noise = not given or len(self._begun) > _LONGEST
 
     def _ended(self) -> list[bytes | None]:
         """The code that Enter ends; none if nothing came."""
@@ -636,7 +638,10 @@ class _Keys:
 
 def _is_keyboard(device: Union[Port, Path]) -> bool:
     """Whether it is the path of a keyboard's events, or of a link to one."""
-    return not isinstance(device, Port) and os.path.realpath(device).startswith("/dev/input/")
+    if isinstance(device, Port):
+        return False
+    path = os.fspath(device)
+    return path.startswith("/dev/input/") or os.path.realpath(path).startswith("/dev/input/")
 
 
 class _KeyPort(FilePort):
@@ -714,9 +719,13 @@ class WedgeScanner(Driver):
         return self.port.open_error
 
     def start(self, device: ProfileDevice) -> None:
-        self.poll()
+        self._looks(_SCANNER_OPENS)
 
     def poll(self) -> None:
+        self._looks(_QUICKLY)
+
+    def _looks(self, seconds: float) -> None:
+        """Reads what the scanner has sent. Its port has so long to open, if it isn't."""
         if not self.port.is_open:
             if not self.port.is_opening and time.monotonic() - self._tried_at < self._pause:
                 return
@@ -726,7 +735,7 @@ class WedgeScanner(Driver):
             self._reader = self._new_reader()
         self._read_typed()
         with contextlib.suppress(PortError):
-            self._open()
+            self._open(0 if self.port.is_opening else seconds)
             for data in self.port.waiting():
                 self._read_at = time.monotonic()
                 self._read(data)
@@ -796,9 +805,9 @@ class WedgeScanner(Driver):
     def _new_reader(self) -> _Keys | _Lines:
         return _Keys() if self._has_keys else _Lines()
 
-    def _open(self) -> None:
+    def _open(self, seconds: float) -> None:
         try:
-            self.port.open(0 if self.port.is_opening else _QUICKLY)
+            self.port.open(seconds)
         finally:
             self._tried_at = time.monotonic()
 

@@ -48,7 +48,7 @@ _ANSWERS = 1.0
 _ACKNOWLEDGED_WITHIN, _ASKED_EVERY = 60_000, 10
 # The system's number of the option for the first. Not all type stubs of `socket` have its name.
 _USER_TIMEOUT = 18
-_TCP = re.compile(r"tcp:(?://)?(?:\[(?P<address>.+)\]|(?P<name>[^:\[\]]*))(?::(?P<port>[0-9]+))?")
+_TCP = re.compile(r"tcp:(?://)?(?:\[(?P<address>[^\[\]]+)\]|(?P<name>[^:\[\]]*))(?::(?P<port>[0-9]+))?")
 # The system's call: an object of `socket` would close the port's descriptor with itself.
 _send = ctypes.CDLL(None, use_errno=True).send
 _send.argtypes, _send.restype = [ctypes.c_int, ctypes.c_char_p, ctypes.c_size_t, ctypes.c_int], ctypes.c_ssize_t
@@ -221,7 +221,9 @@ class Port(Unique):
         try:
             self._open(seconds)
         except PortError as fault:
-            if not _is_of_handler(fault):
+            # What a connection that is being made comes to isn't known yet.
+            is_known = not (self.is_opening and self._open_error)
+            if is_known and not _is_of_handler(fault):
                 # Without the trace, which refers to the callers.
                 self._open_error = PortError(*fault.args)
             raise
@@ -359,7 +361,7 @@ class Port(Unique):
             if can_write:
                 sent += self.write_some(data[sent:])
             elif can_read and not self.read_some():
-                time.sleep(min(left, 0.001))
+                rest_beside(min(left, 0.001))
         return self._drained(end)
 
     def read(self, seconds: float = 0.0) -> bytes:
@@ -421,7 +423,7 @@ class Port(Unique):
         while self._ends_empty and self._count_unsent():
             if time.monotonic() >= end:
                 return False
-            _wait_beside(0.001)
+            rest_beside(0.001)
         return True
 
     def _count_unsent(self) -> int:
@@ -454,6 +456,11 @@ def _wait_beside(seconds: float, file: int | None = None, events: int = 0) -> in
             return flags
         # A file that a driver doesn't read would be ready again at once.
         time.sleep(min(left, 0.001))
+
+
+def rest_beside(seconds: float) -> None:
+    """Waits so long, and has keyboards read meanwhile."""
+    _wait_beside(seconds)
 
 
 def _is_of_handler(fault: Exception) -> bool:
@@ -529,6 +536,8 @@ class FilePort(Port):
     def _opened(self, seconds: float) -> int:
         if self._may_be_line:
             self._line = SerialPort(self.name, flow=self._flow) if _is_line(self.name) else None
+            if self._line is not None:
+                self._line.keeps_faults = self.keeps_faults
         file = os.open(self.name, self._way | os.O_NONBLOCK | os.O_NOCTTY | os.O_CLOEXEC)
         try:
             self._prepare(file)
@@ -666,6 +675,13 @@ class TcpPort(Port):
         super().close()
         self._stop_joining()
 
+    def _let_go(self, file: int) -> None:
+        """Drops what nobody has read: with that the system would drop what it hasn't sent yet."""
+        with MinorFaults():
+            for _ in range(_MOST_PARTS):
+                if not os.read(file, _AT_ONCE):
+                    break
+
     def _stop_joining(self) -> None:
         if self._joining is not None:
             self._joining.close()
@@ -699,16 +715,19 @@ class TcpPort(Port):
         """Finds the addresses of the name."""
         began = time.monotonic()
         if began < self._looks_up_from:
-            raise OSError(errno.EAGAIN, "its name wasn't found, and is looked up later")
+            raise OSError(errno.EHOSTUNREACH, "its name wasn't found, and is looked up later")
         try:
             found = socket.getaddrinfo(*self._where, type=socket.SOCK_STREAM)
         except UnicodeError as fault:
             raise OSError(errno.EINVAL, f"no host has such a name: {fault}") from fault
         except OSError as fault:
+            if _is_of_handler(fault):
+                raise
             ended = time.monotonic()
-            if ended - began > _QUICKLY and not _is_of_handler(fault):
+            if ended - began > _QUICKLY:
                 self._looks_up_from = ended + _LOOKED_UP_FOR
-            raise
+            # The numbers of looking a name up are none of the system's.
+            raise OSError(errno.EHOSTUNREACH, reason_of(fault)) from fault
         self._addresses = [(family, address) for family, _, _, _, address in found]
         self._looked_up_at = time.monotonic()
 
@@ -738,12 +757,14 @@ class _Joining:
 
     Args:
         addresses: Those of a host.
-        seconds: How long all of them have together, of which each one has its part.
+        seconds: How long all of them have together, of which each one has its part. If no call has looked while an
+            address had it, those behind it have theirs all the same.
     """
 
     def __init__(self, addresses: Sequence[Address], seconds: float) -> None:
         self.process = os.getpid()
         self._left = list(addresses)
+        self._seconds, self._count = seconds, len(addresses)
         self._ends_at = time.monotonic() + seconds
         # The connection to the address whose turn it is, and until when that has time.
         self._made: socket.socket | None = None
@@ -787,8 +808,9 @@ class _Joining:
 
     def _begin(self) -> None:
         """Begins to connect to the next address."""
-        now = time.monotonic()
-        self._turn_ends_at = now + (self._ends_at - now) / len(self._left)
+        now, left = time.monotonic(), len(self._left)
+        self._ends_at = max(self._ends_at, now + self._seconds * left / self._count)
+        self._turn_ends_at = now + (self._ends_at - now) / left
         family, address = self._left.pop(0)
         self._made = socket.socket(family, socket.SOCK_STREAM | socket.SOCK_NONBLOCK)
         _check(self._made.connect_ex(address), 0, errno.EINPROGRESS)
@@ -827,7 +849,7 @@ def _is_host(host: str) -> bool:
 
 def _is_line(path: str) -> bool:
     """Whether a path is that of a serial line, or of a link to one."""
-    return os.path.realpath(path).startswith("/dev/tty") or path.startswith("/dev/serial/")
+    return path.startswith(("/dev/tty", "/dev/serial/")) or os.path.realpath(path).startswith("/dev/tty")
 
 
 def _lock(file: int) -> None:

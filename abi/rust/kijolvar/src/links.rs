@@ -13,8 +13,10 @@ const REFRESH: &[u8] = b"\x1da\xff";
 /// How many bytes ask for an acknowledgement: GS ( H, or GS r.
 const JOB_SIZE: usize = 11;
 const QUESTION_SIZE: usize = 3;
-/// How many bytes an automatic status has.
+/// How many bytes an automatic status has; and the bit of the answer to DLE EOT 2 by which printing has stopped at the
+/// end of the paper.
 const STATUS_SIZE: usize = 4;
+const HAS_ENDED: u8 = 0x20;
 /// How much goes out at once, and how much is unacknowledged at most in a line that holds bytes back: a question waits
 /// behind it.
 const ENOUGH: usize = 2048;
@@ -559,12 +561,14 @@ impl Link {
         }
         if self.question == 0 {
             self.heard.clear();
+            self.hearing = Signs::default();
             self.is_hearing |= self.questioned_at > self.offline_at;
         }
         if self.heard.len() != self.question {
             // An automatic status has come meanwhile.
             return;
         }
+        let has_ended = self.hearing.paper == Paper::Empty;
         self.heard.push(told);
         self.hearing.hear(line);
         if !self.is_asked && !self.hearing.is_offline {
@@ -575,8 +579,21 @@ impl Link {
             return;
         }
         self.rounds += 1;
+        self.compose(has_ended);
+    }
+
+    /// Puts the replies to the three questions together to what an automatic status would say. The sensor tells of the
+    /// paper: there may be some again where printing has stopped at its end. One that is asked may have no such sensor.
+    fn compose(&mut self, has_ended: bool) {
+        let mut heard = self.heard.clone();
+        if has_ended && self.is_asked {
+            self.hearing.paper = Paper::Empty;
+            heard.pop();
+        } else {
+            heard[1].bytes.iter_mut().for_each(|byte| *byte &= !HAS_ENDED);
+        }
         if self.told.is_empty() || self.hearing != self.signs {
-            self.take_signs(self.hearing, self.heard.clone());
+            self.take_signs(self.hearing, heard);
         }
     }
 

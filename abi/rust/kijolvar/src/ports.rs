@@ -36,7 +36,7 @@ pub enum Flow {
 /// How a serial line is set up. The default is 9,600 bits per second, 8 bits, 1 stop bit, no parity, RTS/CTS.
 #[derive(Debug, Clone, Copy, PartialEq, Eq)]
 pub struct SerialSettings {
-    /// Bits per second, as the device is set up: 1,200 to 230,400.
+    /// Bits per second, as the device is set up: a speed that Linux knows, 50 to 4,000,000.
     pub speed: u32,
     /// The bits of a byte, 7 or 8.
     pub bits: u8,
@@ -83,8 +83,8 @@ impl Port {
     /// An address of IPv6 is in brackets: `tcp:[::1]:9100`.
     ///
     /// A path of /dev/tty.. or /dev/serial/.. is a serial line by its device's usual settings ([`Port::Line`]), as is a
-    /// link to one. A path of /dev/input/.., or a link to one, is a keyboard. [`Till::drive`](crate::Till::drive)
-    /// refuses a host that can't be one, such as that of `tcp:192.168.1.9:91OO`, whose number is misspelt.
+    /// link to one. A path of /dev/input/.., or a link to one, is a keyboard. Any other name that begins with `tcp:`,
+    /// such as `tcp:192.168.1.9:91OO`, has the number 0, which [`Till::drive`](crate::Till::drive) refuses.
     ///
     /// ```
     /// use kijolvar::Port;
@@ -96,10 +96,9 @@ impl Port {
     pub fn of(name: &str) -> Port {
         if let Some(address) = name.strip_prefix("tcp:") {
             let address = address.strip_prefix("//").unwrap_or(address);
-            let number = address.rsplit_once(':').and_then(|(host, port)| Some((host, port.parse().ok()?)));
-            let (host, port) = number.unwrap_or((address, 9100));
-            let inside = host.strip_prefix('[').and_then(|host| host.strip_suffix(']'));
-            return Port::Tcp(inside.unwrap_or(host).to_string(), port);
+            // No port has the number 0.
+            let (host, port) = read_address(address).unwrap_or((address, 0));
+            return Port::Tcp(host.to_string(), port);
         }
         let path = Path::new(name);
         if is_line_name(path) || name.starts_with("/dev/serial/") || is_line_link(path) {
@@ -119,8 +118,9 @@ impl Port {
                 speed_of(settings.speed).is_some() && matches!(settings.bits, 7 | 8) && matches!(settings.stops, 1 | 2)
             }
             Port::Tcp(host, port) => {
-                let address = host.split_once('%').map_or(&host[..], |(address, _)| address);
-                *port != 0 && !host.is_empty() && (!host.contains(':') || address.parse::<Ipv6Addr>().is_ok())
+                let (address, zone) = host.split_once('%').unwrap_or((host, "-"));
+                let is_six = !zone.is_empty() && !zone.contains('%') && address.parse::<Ipv6Addr>().is_ok();
+                *port != 0 && !host.is_empty() && (!host.contains(':') || is_six)
             }
             _ => true,
         }
@@ -183,6 +183,20 @@ impl From<SocketAddr> for Port {
             _ => address.ip().to_string(),
         };
         Port::Tcp(host, address.port())
+    }
+}
+
+/// Returns the host and the number of `HOST` or `HOST:PORT`, if it is one of them. An address of IPv6 is in brackets:
+/// nothing says whether the end of a bare one is a number.
+fn read_address(address: &str) -> Option<(&str, u16)> {
+    let (host, rest) = match address.strip_prefix('[') {
+        Some(inside) => inside.split_once(']').filter(|(host, _)| !host.contains('['))?,
+        None => address.split_at(address.find([':', '[', ']']).unwrap_or(address.len())),
+    };
+    match rest.strip_prefix(':') {
+        Some(digits) if digits.bytes().all(|digit| digit.is_ascii_digit()) => Some((host, digits.parse().ok()?)),
+        None if rest.is_empty() => Some((host, 9100)),
+        _ => None,
     }
 }
 
@@ -331,12 +345,13 @@ const XOFF: u8 = 0x13;
 
 /// The number by which a speed is set.
 fn speed_of(speed: u32) -> Option<u32> {
-    let speeds = [1200, 2400, 4800, 9600, 19_200, 38_400];
-    let faster = [57_600, 115_200, 230_400];
+    let slow = [50, 75, 110, 134, 150, 200, 300, 600, 1200, 1800, 2400, 4800, 9600, 19_200, 38_400];
+    let fast = [
+        57_600, 115_200, 230_400, 460_800, 500_000, 576_000, 921_600, 1_000_000, 1_152_000, 1_500_000, 2_000_000,
+        2_500_000, 3_000_000, 3_500_000, 4_000_000,
+    ];
     let place = |of: &[u32]| of.iter().position(|one| *one == speed).map(|place| place as u32);
-    // 1,800 is between the first two.
-    let number = |place: u32| if place == 0 { 9 } else { place + 10 };
-    place(&speeds).map(number).or_else(|| place(&faster).map(|place| 0o10001 + place))
+    place(&slow).map(|place| 1 + place).or_else(|| place(&fast).map(|place| 0o10_001 + place))
 }
 
 /// Returns the settings of a terminal line.
@@ -427,6 +442,16 @@ fn drop_unsent(file: RawFd) {
     unsafe {
         ioctl(file, TCFLSH, TCOFLUSH);
         ioctl(file, TCSETS, &line as *const Line);
+    }
+}
+
+/// Drops what has come over a connection and nobody has read: with that the system would drop what it hasn't sent yet.
+fn drop_unread(stream: &mut TcpStream) {
+    let mut room = [0; 1024];
+    for _ in 0..MOST_READS {
+        if !matches!(stream.read(&mut room), Ok(count) if count > 0) {
+            break;
+        }
     }
 }
 
@@ -657,12 +682,15 @@ impl Cable {
     /// would keep the connection, the line, and a keyboard's keys. So these end first. In such a process the port is
     /// still that of the process that opened it, and nothing is dropped or ended.
     pub(crate) fn close(&mut self) {
-        let stream = self.stream.take();
+        let mut stream = self.stream.take();
         if self.process != std::process::id() {
             return;
         }
-        match &stream {
-            Some(Stream::Tcp(stream)) => drop(stream.shutdown(Shutdown::Both)),
+        match &mut stream {
+            Some(Stream::Tcp(stream)) => {
+                drop_unread(stream);
+                let _ = stream.shutdown(Shutdown::Both);
+            }
             Some(Stream::File(file)) => {
                 if matches!(self.port, Port::Keys(_)) {
                     // SAFETY: the file is open.
@@ -871,7 +899,8 @@ impl Addresses {
             return Err(fault);
         }
         self.known = found;
-        connect_to_any(&self.known, end)
+        // The time that the look-up took counts no more.
+        connect_to_any(&self.known, end_after(time))
     }
 }
 
@@ -950,7 +979,9 @@ mod tests {
 
     #[test]
     fn a_line_has_its_speed() {
-        for (speed, number) in [(1200, 0o11), (9600, 0o15), (38_400, 0o17), (230_400, 0o10_003)] {
+        let slow = [(50, 1), (134, 4), (300, 7), (1200, 0o11), (1800, 0o12), (9600, 0o15), (38_400, 0o17)];
+        let fast = [(57_600, 0o10_001), (230_400, 0o10_003), (921_600, 0o10_007), (4_000_000, 0o10_017)];
+        for (speed, number) in slow.into_iter().chain(fast) {
             let (_device, path) = terminal();
             let settings = SerialSettings { speed, stops: 2, ..SerialSettings::default() };
             let mut cable = Cable::new(Port::Serial(path, settings));
@@ -1169,14 +1200,16 @@ mod tests {
     #[test]
     fn a_misspelt_host_is_refused() {
         let is_sound = |name: &str| Port::of(name).is_sound();
-        for name in ["tcp:192.168.1.9", "tcp://printer:9101", "tcp:::1:9100", "tcp:[fe80::1%eth0]:9100"] {
+        for name in ["tcp:192.168.1.9", "tcp://printer:9101", "tcp:[::1]:9100", "tcp:[fe80::1%eth0]:9100"] {
             assert!(is_sound(name), "{name}");
         }
         assert_eq!(Port::of("tcp:[::1]:9101"), Port::Tcp("::1".to_string(), 9101));
         assert_eq!(Port::of("tcp://[::1]"), Port::Tcp("::1".to_string(), 9100));
-        for name in
-            ["tcp:", "tcp:192.168.1.9:91OO", "tcp:192.168.1.9:", "tcp:printer:99999", "tcp:[::1:9100", "tcp:h:0"]
-        {
+        let numbers = ["tcp:192.168.1.9:91OO", "tcp:192.168.1.9:", "tcp:printer:99999", "tcp:h:0", "tcp:h:+9100"];
+        let hosts = ["tcp:", "tcp:[]", "tcp:[::1:9100", "tcp:[::1]9100", "tcp:[h", "tcp:h]", "tcp:[fe80::1%]"];
+        // Nothing says where such an address ends.
+        let bare = ["tcp:::1", "tcp:::1:9100", "tcp:2001:db8::7", "tcp:2001:db8::7:9100", "tcp:::1:abcd"];
+        for name in numbers.iter().chain(&hosts).chain(&bare) {
             assert!(!is_sound(name), "{name}");
         }
     }
@@ -1223,6 +1256,23 @@ mod tests {
         while cable.read(&mut room).is_ok() {}
         // A terminal that hangs up ends, or fails to be read.
         assert!(matches!(cable.fault, Some(5 | EPIPE)), "{:?}", cable.fault);
+    }
+
+    #[test]
+    fn what_the_system_has_taken_is_sent_though_something_is_unread() {
+        let listener = TcpListener::bind("127.0.0.1:0").unwrap();
+        let mut cable = Cable::new(listener.local_addr().unwrap().into());
+        assert!(cable.open(SOON * 20));
+        let (mut device, _) = listener.accept().unwrap();
+        device.write_all(b"Hello").unwrap();
+        assert!(cable.wait(false, SOON * 20).reading);
+        let mut sent = 0;
+        while cable.wait(true, SOON / 5).writing {
+            sent += cable.write(&[b'x'; 16_384]).unwrap();
+        }
+        cable.close();
+        let mut got = Vec::new();
+        assert_eq!((device.read_to_end(&mut got).ok(), got.len()), (Some(sent), sent));
     }
 
     #[test]
