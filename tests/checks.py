@@ -19,9 +19,10 @@ import traceback
 
 from emulator import take_unknown
 
-# How often it is looked whether the machine goes on, how many looks count together, which is half a second, and for how long
-# of that something didn't go on if the machine stood still, in seconds.
-OFTEN, LOOKS, LONG = 0.05, 10, 0.1
+# How often it is looked whether this machine goes on, and how often, in such looks, whether each thread does, which costs
+# more; how many of those count together, which is half a second; and for how long of that something didn't go on if the
+# machine stood still, in seconds.
+OFTEN, RARELY, LOOKS, LONG = 0.05, 3, 5, 0.1
 # How often a test is run at most, and for how long a machine is waited for that is busy, before the second turn, in seconds:
 # before the third twice as long, and so on.
 TURNS, PATIENCE = 5, 15
@@ -29,6 +30,11 @@ TURNS, PATIENCE = 5, 15
 LEFT = 60
 # The file to which a line is written for each time that a test runs again, if a script has named one.
 COUNTED = os.environ.get("KIJOLVAR_RUNS_AGAIN")
+
+
+def read(path):
+    with open(path, "rb", buffering=0) as file:
+        return file.read(65536)
 
 
 def read_waits(top):
@@ -43,12 +49,12 @@ def read_waits(top):
         for thread in threads:
             place = f"/proc/{process}/task/{thread}"
             try:
-                found[place] = int(pathlib.Path(place, "schedstat").read_text().split()[1]) / 1e9
-                processes += pathlib.Path(place, "children").read_text().split()
+                found[place] = int(read(f"{place}/schedstat").split()[1]) / 1e9
+                processes += read(f"{place}/children").decode().split()
             except (OSError, IndexError):
                 # It has ended meanwhile.
                 continue
-    for line in pathlib.Path("/proc/stat").read_text().splitlines():
+    for line in read("/proc/stat").decode().splitlines():
         name, *times = line.split()
         if name[:3] == "cpu" and name != "cpu" and len(times) > 7:
             found[name] = int(times[7]) / os.sysconf("SC_CLK_TCK")
@@ -58,13 +64,19 @@ def read_waits(top):
 def watch(top):
     """Looks whether the machine goes on for a process. For each line of standard input it prints for how much of half a
     second it stood still, at most, since the last one."""
-    late, longest, looks = 0.0, 0.0, collections.deque(maxlen=LOOKS)
+    late, longest, left, looks = 0.0, 0.0, 0, collections.deque(maxlen=LOOKS)
+    before, worked = time.monotonic(), time.thread_time()
     while True:
-        before = time.monotonic()
         is_asked = bool(select.select([sys.stdin], [], [], OFTEN)[0])
-        late += max(time.monotonic() - before - OFTEN, 0.0)
-        looks.append(read_waits(top) | {"late": late})
-        longest = max(longest, *(waited - looks[0].get(name, 0.0) for name, waited in looks[-1].items()))
+        now, works = time.monotonic(), time.thread_time()
+        # Not only the wait may have been longer: this may have stood still anywhere.
+        late += max(now - before - OFTEN - (works - worked), 0.0)
+        before, worked = now, works
+        left -= 1
+        if left <= 0 or is_asked:
+            left = RARELY
+            looks.append(read_waits(top) | {"late": late})
+            longest = max(longest, *(waited - looks[0].get(name, 0.0) for name, waited in looks[-1].items()))
         if is_asked:
             if not sys.stdin.readline():
                 return
