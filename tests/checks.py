@@ -63,7 +63,7 @@ def read_waits(top):
 
 def watch(top):
     """Looks whether the machine goes on for a process. For each line of standard input it prints for how much of half a
-    second it stood still, at most, since the last one."""
+    second it stood still, at most, since the last one: for its threads together, for a processor, or for this process."""
     late, longest, left, looks = 0.0, 0.0, 0, collections.deque(maxlen=LOOKS)
     before, worked = time.monotonic(), time.thread_time()
     while True:
@@ -76,7 +76,10 @@ def watch(top):
         if left <= 0 or is_asked:
             left = RARELY
             looks.append(read_waits(top) | {"late": late})
-            longest = max(longest, *(waited - looks[0].get(name, 0.0) for name, waited in looks[-1].items()))
+            waits = {name: waited - looks[0].get(name, 0.0) for name, waited in looks[-1].items()}
+            # What goes from one thread to the next waits for each.
+            threads = sum(waits.pop(name) for name in list(waits) if name.startswith("/proc/"))
+            longest = max(longest, threads, *waits.values())
         if is_asked:
             if not sys.stdin.readline():
                 return
@@ -95,8 +98,8 @@ def is_calm():
 class Watch:
     """Looks whether the machine goes on, in a process of its own.
 
-    It stands still for a thread that can run and doesn't: as others have the processors, as the machine that this one runs
-    on has them, or as all stands still.
+    It stands still for threads that can run and don't: as others have the processors, as the machine that this one runs on
+    has them, or as all stands still.
     """
 
     def __init__(self):
