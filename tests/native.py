@@ -2212,7 +2212,10 @@ def try_late_line():
         told("it has no flow control", True, settings[2] & termios.CRTSCTS == 0)
         host.lines("new p LineDisplay", "open p p1", "claim p 0", "set p DeviceEnabled true")
         told("an order of it", "ok", host.line("call p displayTextAt 0 0 546f74616c 0"))
-        told("its text", True, b"Total" in os.read(master, 1000))
+        text = b""
+        while b"Total" not in text and select.select([master], [], [], PATIENCE)[0]:
+            text += os.read(master, 1000)
+        told("its text", True, b"Total" in text)
 
 
 def try_flaky():
@@ -2695,7 +2698,9 @@ def try_refusals():
         told("a port that isn't there", "ok", host.ask(f"printer r1 {port} timeout 100 drawer d1"))
         told("a second driver", "KIJ_DRIVEN", host.ask(f"printer r1 {port}"))
         told("a second driver of the drawer", "KIJ_DRIVEN", host.ask(f"printer r1 {port} drawer d1"))
-        told("a file is no port", "ok", host.ask(f"display p1 {CHECKS.work / 'profile'}"))
+        file = CHECKS.work / "file"
+        file.touch()
+        told("a file is no port", "ok", host.ask(f"display p1 {file}"))
         told("it is off", "offline 0", host.ask("state p1"))
         told("nothing to do", "false", until(lambda: host.ask("run 0") == "false") and host.ask("run 20"))
 
