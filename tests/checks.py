@@ -13,18 +13,28 @@ import shutil
 import subprocess
 import sys
 import tempfile
+import threading
 import time
 import traceback
 
 from emulator import take_unknown
 
-# How often it is looked whether the machine goes on, how many looks count together, which is half a second, and for how long
-# of that something didn't go on if the machine stood still, in seconds.
-OFTEN, LOOKS, LONG = 0.05, 10, 0.1
-# How often a test is run at most, and for how long a machine is waited for that is busy, before each turn, in seconds.
+# How often it is looked whether this machine goes on, and how often, in such looks, whether each thread does, which costs
+# more; how many of those count together, which is half a second; and for how long of that something didn't go on if the
+# machine stood still, in seconds.
+OFTEN, RARELY, LOOKS, LONG = 0.05, 3, 5, 0.1
+# How often a test is run at most, and for how long a machine is waited for that is busy, before the second turn, in seconds:
+# before the third twice as long, and so on.
 TURNS, PATIENCE = 5, 15
+# How long what a test has begun is waited for once it has ended, in seconds.
+LEFT = 60
 # The file to which a line is written for each time that a test runs again, if a script has named one.
 COUNTED = os.environ.get("KIJOLVAR_RUNS_AGAIN")
+
+
+def read(path):
+    with open(path, "rb", buffering=0) as file:
+        return file.read(65536)
 
 
 def read_waits(top):
@@ -39,12 +49,12 @@ def read_waits(top):
         for thread in threads:
             place = f"/proc/{process}/task/{thread}"
             try:
-                found[place] = int(pathlib.Path(place, "schedstat").read_text().split()[1]) / 1e9
-                processes += pathlib.Path(place, "children").read_text().split()
+                found[place] = int(read(f"{place}/schedstat").split()[1]) / 1e9
+                processes += read(f"{place}/children").decode().split()
             except (OSError, IndexError):
                 # It has ended meanwhile.
                 continue
-    for line in pathlib.Path("/proc/stat").read_text().splitlines():
+    for line in read("/proc/stat").decode().splitlines():
         name, *times = line.split()
         if name[:3] == "cpu" and name != "cpu" and len(times) > 7:
             found[name] = int(times[7]) / os.sysconf("SC_CLK_TCK")
@@ -53,14 +63,23 @@ def read_waits(top):
 
 def watch(top):
     """Looks whether the machine goes on for a process. For each line of standard input it prints for how much of half a
-    second it stood still, at most, since the last one."""
-    late, longest, looks = 0.0, 0.0, collections.deque(maxlen=LOOKS)
+    second it stood still, at most, since the last one: for its threads together, for a processor, or for this process."""
+    late, longest, left, looks = 0.0, 0.0, 0, collections.deque(maxlen=LOOKS)
+    before, worked = time.monotonic(), time.thread_time()
     while True:
-        before = time.monotonic()
         is_asked = bool(select.select([sys.stdin], [], [], OFTEN)[0])
-        late += max(time.monotonic() - before - OFTEN, 0.0)
-        looks.append(read_waits(top) | {"late": late})
-        longest = max(longest, *(waited - looks[0].get(name, 0.0) for name, waited in looks[-1].items()))
+        now, works = time.monotonic(), time.thread_time()
+        # Not only the wait may have been longer: this may have stood still anywhere.
+        late += max(now - before - OFTEN - (works - worked), 0.0)
+        before, worked = now, works
+        left -= 1
+        if left <= 0 or is_asked:
+            left = RARELY
+            looks.append(read_waits(top) | {"late": late})
+            waits = {name: waited - looks[0].get(name, 0.0) for name, waited in looks[-1].items()}
+            # What goes from one thread to the next waits for each.
+            threads = sum(waits.pop(name) for name in list(waits) if name.startswith("/proc/"))
+            longest = max(longest, threads, *waits.values())
         if is_asked:
             if not sys.stdin.readline():
                 return
@@ -79,8 +98,8 @@ def is_calm():
 class Watch:
     """Looks whether the machine goes on, in a process of its own.
 
-    It stands still for a thread that can run and doesn't: as others have the processors, as the machine that this one runs
-    on has them, or as all stands still.
+    It stands still for threads that can run and don't: as others have the processors, as the machine that this one runs on
+    has them, or as all stands still.
     """
 
     def __init__(self):
@@ -99,13 +118,13 @@ class Watch:
         self._process.communicate()
 
 
-def tell(name, longest):
-    """Says that a test runs again, and waits a while for a machine that is busy."""
+def tell(name, longest, turn):
+    """Says that a test runs again after this turn, and waits a while for a machine that is busy."""
     print(f"{name}: the machine stood still for {longest:.1f} s, so it runs again", flush=True)
     if COUNTED:
         with open(COUNTED, "a", encoding="utf-8") as file:
             file.write(f"{name}\n")
-    end = time.monotonic() + PATIENCE
+    end = time.monotonic() + PATIENCE * turn
     while not is_calm() and time.monotonic() < end:
         time.sleep(1.0)
 
@@ -115,7 +134,8 @@ class Checks:
 
     An order fails if its printer doesn't answer in time. The emulated one doesn't if the machine stands still, and no
     test can tell that from a fault. So a test that fails is run again if the machine stood still meanwhile. What it found
-    is printed each time, and the last time counts. The line before the last says how often a test ran again.
+    is printed each time, and the last time alone counts, with what its threads and its devices found. The line before the
+    last says how often a test ran again.
 
     Attributes:
         work: A folder for the files of the test that runs.
@@ -140,7 +160,7 @@ class Checks:
         """Runs a test, again if it fails while the machine stands still. Before that `give_time` is called, if it is given."""
         self._has_run = True
         for turn in range(1, TURNS + 1):
-            before = self.passed, self.failed
+            before, others = (self.passed, self.failed), set(threading.enumerate())
             self._watch.longest()
             self.work = pathlib.Path(tempfile.mkdtemp(dir=self._room))
             try:
@@ -148,13 +168,17 @@ class Checks:
             except Exception as fault:
                 traceback.print_exc(file=sys.stdout)
                 self.told(f"{test.__name__} ends well", None, fault)
-            self._unknown += [(test.__name__, *found) for found in take_unknown()]
+            for thread in set(threading.enumerate()) - others:
+                thread.join(LEFT)
+            unknown = [(test.__name__, *found) for found in take_unknown()]
             longest = self._watch.longest()
-            if self.failed == before[1] or longest < LONG or turn == TURNS:
+            is_good = self.failed == before[1] and not unknown
+            if is_good or longest < LONG or turn == TURNS:
+                self._unknown += unknown
                 return
             self.passed, self.failed = before
             self._again += 1
-            tell(test.__name__, longest)
+            tell(test.__name__, longest, turn)
             if give_time is not None:
                 give_time()
 
@@ -181,7 +205,7 @@ def main(words):
             break
         sys.stderr.buffer.write(ended.stdout)
         with contextlib.redirect_stdout(sys.stderr):
-            tell(" ".join(words)[:80], longest)
+            tell(" ".join(words)[:80], longest, turn)
     watching.end()
     sys.stdout.buffer.write(ended.stdout)
     sys.exit(ended.returncode)

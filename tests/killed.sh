@@ -25,9 +25,9 @@ python3 - "$times" "$program" <<'PROGRAM' || status=$?
 import os, random, subprocess, sys, time
 
 times, program = int(sys.argv[1]), sys.argv[2]
-# How long a try for a place goes on at least, in seconds, and how many kills it has at least; and how many transactions a
-# stream has.
-PATIENCE, KILLS, STREAM = 60, 300, 1500
+# How long a try for a place goes on at least, in seconds, and how many kills it has at least: on a busy machine with a quick
+# disk one of hundreds lands. And how many transactions a stream has.
+PATIENCE, KILLS, STREAM = 60, 3000, 1500
 # A transaction writes its number into each of these places of a file of 64 bytes.
 PLACES = [0, 20, 41, 60]
 BEGIN = ["new a HardTotals", "open a t1", "set a DeviceEnabled true", "call a create 41 64 false"]

@@ -129,7 +129,8 @@ exec 3> lines 4< answers
 printf 'new a HardTotals\n' >&3
 read -r -t 300 answer <&4
 told 'flock is refused beside a run' 1 "$(flock -n -x till.disk true; echo $?)"
-told 'a package is refused beside a run' 1 "$(python3 hold.py till.disk < /dev/null > /dev/null 2>&1; echo $?)"
+told 'a package is refused beside a run' BlockingIOError \
+  "$(python3 hold.py till.disk < /dev/null 2>&1 | tail -n 1 | cut -d: -f1)"
 exec 3>&-
 wait "$run"
 exec 4<&-

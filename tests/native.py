@@ -14,6 +14,7 @@ import itertools
 import os
 import pathlib
 import random
+import select
 import shutil
 import signal
 import socket
@@ -65,8 +66,8 @@ lines = 1000
 near = 20
 """
 # How long an order may take where something happens meanwhile, and where nothing does, on a machine that is busy, in
-# milliseconds; and how long is waited for what has to happen, in seconds.
-TIMEOUT, AMPLE, PATIENCE = 800, 10_000, 30
+# milliseconds; how long is waited for what has to happen, and for an answer or the end of a host, in seconds.
+TIMEOUT, AMPLE, PATIENCE, LIMIT = 800, 10_000, 30, 600
 CHECKS = Checks()
 told = CHECKS.told
 made = 0
@@ -114,8 +115,10 @@ class Host:
         """Gives a command, and returns its answer."""
         self.program.stdin.write(command + "\n")
         self.program.stdin.flush()
+        if not select.select([self.program.stdout], [], [], LIMIT)[0]:
+            self.program.kill()
         answer = self.program.stdout.readline()
-        assert answer, f"the host has ended at: {command[:80]}"
+        assert answer, f"the host has ended, or doesn't answer, at: {command[:80]}"
         return answer.rstrip("\n")
 
     def lines(self, *lines):
@@ -128,6 +131,10 @@ class Host:
 
     def close(self):
         self.program.stdin.close()
+        try:
+            self.program.wait(LIMIT)
+        except subprocess.TimeoutExpired:
+            self.program.kill()
         told("the host ends well", 0, self.program.wait())
         self.program.stdout.close()
 
@@ -974,6 +981,14 @@ def is_still(process):
     return pathlib.Path(f"/proc/{process}/stat").read_text().rpartition(")")[2].split()[0] == "T"
 
 
+def is_stopped_by(stops, process):
+    """Whether a process that waits is stopped. One that waits no more isn't, nor is it, or another one, later."""
+    stops.touch()
+    is_stopped = until(lambda: is_still(process))
+    stops.unlink(missing_ok=True)
+    return is_stopped
+
+
 def try_stopped_program():
     """The program is stopped while it waits for a printer, and goes on only after the order's time. The printer has
     acknowledged the order meanwhile, so it is done."""
@@ -988,8 +1003,7 @@ def try_stopped_program():
 
             def stops_it():
                 is_waiting.wait(PATIENCE)
-                stops.touch()
-                told(f"the program is stopped over {kind}", True, until(lambda: is_still(process)))
+                told(f"the program is stopped over {kind}", True, is_stopped_by(stops, process))
                 device.hang(False)
                 told(f"its order is printed over {kind}", True, device.wait(lambda: len(device.receipt()) == 1))
                 time.sleep(2.5)
@@ -1017,8 +1031,7 @@ def try_off_while_stopped():
 
             def stops_it():
                 is_off.wait(PATIENCE)
-                stops.touch()
-                told(f"{name}: it is stopped", True, until(lambda: is_still(process)))
+                told(f"{name}: it is stopped", True, is_stopped_by(stops, process))
                 device.plug_in()
                 told(f"{name}: the printer goes on", True, device.wait(lambda: device.is_idle and not device._sends))
                 time.sleep(2.5)
@@ -1049,8 +1062,7 @@ def try_off_while_suspended():
 
             def suspends():
                 is_waiting.wait(PATIENCE)
-                stops.touch()
-                told(f"{name}: it stands still", True, until(lambda: is_still(process)))
+                told(f"{name}: it stands still", True, is_stopped_by(stops, process))
                 if "holds" in kind:
                     device.pull_plug()
                     device.plug_in()
@@ -2200,7 +2212,10 @@ def try_late_line():
         told("it has no flow control", True, settings[2] & termios.CRTSCTS == 0)
         host.lines("new p LineDisplay", "open p p1", "claim p 0", "set p DeviceEnabled true")
         told("an order of it", "ok", host.line("call p displayTextAt 0 0 546f74616c 0"))
-        told("its text", True, b"Total" in os.read(master, 1000))
+        text = b""
+        while b"Total" not in text and select.select([master], [], [], PATIENCE)[0]:
+            text += os.read(master, 1000)
+        told("its text", True, b"Total" in text)
 
 
 def try_flaky():
@@ -2733,7 +2748,9 @@ def try_refusals():
         told("a port that isn't there", "ok", host.ask(f"printer r1 {port} timeout 100 drawer d1"))
         told("a second driver", "KIJ_DRIVEN", host.ask(f"printer r1 {port}"))
         told("a second driver of the drawer", "KIJ_DRIVEN", host.ask(f"printer r1 {port} drawer d1"))
-        told("a file is no port", "ok", host.ask(f"display p1 {CHECKS.work / 'profile'}"))
+        file = CHECKS.work / "file"
+        file.touch()
+        told("a file is no port", "ok", host.ask(f"display p1 {file}"))
         told("it is off", "offline 0", host.ask("state p1"))
         told("nothing to do", "false", until(lambda: host.ask("run 0") == "false") and host.ask("run 20"))
 

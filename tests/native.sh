@@ -40,9 +40,13 @@ if [ "$failed" -gt 0 ]; then
   exit 1
 fi
 
-# tries NAME HOST WORD ..: begins what tests/native.py does with a host. Most of it is waiting, so several run at a time
+# tries NAME HOST WORD ..: begins what tests/native.py does with a host. Most of it is waiting, so three run at a time for each
+# processor
 names=()
 tries() {
+  while [ "$(jobs -rp | wc -l)" -ge $((3 * $(nproc))) ]; do
+    wait -n
+  done
   names+=("$1")
   python3 -W error -W ignore::ResourceWarning "$top/tests/native.py" "$@" > "$work/tried-${#names[@]}" 2>&1 &
 }
@@ -117,14 +121,15 @@ for host in "$work/old" "$work/other/release/host"; do
     "$("$host" begin "$work/none" 2>&1 | paste -s -d' ') $([ -e "$work/none" ] && echo "a file" || echo "no file")"
 done
 
+# (those that take longest first)
 tries "C" "$work/host" --preloaded "$work/preloaded.so" "$@"
 tries "C with sanitizers" "$work/checked" "$@"
+tries "Rust" "$work/target/release/host" --preloaded "$work/preloaded.so" "$@"
 for word in plain display scanner drawer; do
   tries "C, watched: $word" "$work/watched" --slack 8 "$@" --only "$word"
 done
 tries "C, want of memory" "$work/heap" "$@" --only memory
 tries "C++" "$work/plus" "$@" --only plain
-tries "Rust" "$work/target/release/host" --preloaded "$work/preloaded.so" "$@"
 tries "Rust, want of memory" "$work/heaped/release/host" "$@" --only memory
 collects
 

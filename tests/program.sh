@@ -1,7 +1,7 @@
 #!/usr/bin/env bash
 # Tries the words, the statuses and the messages of the program on real files. Usage: tests/program.sh [PROGRAM]. Without a
-# word it builds the program, and needs rt; with one it takes that one. It needs strace, and setpriv of util-linux if root runs
-# it. Its last line is 'N passed, M failed'; it ends with 0 where none failed.
+# word it builds the program, and needs rt; with one it takes that one. It needs strace, ps, and setpriv of util-linux if root
+# runs it. Its last line is 'N passed, M failed'; it ends with 0 where none failed.
 set -u
 top=$(cd "$(dirname "$0")/.." && pwd)
 program=${1:-$top/crates/pos_console/out/pos_console}
@@ -19,6 +19,7 @@ held=()
 [ "$(id -u)" -ne 0 ] ||
   held=(setpriv --bounding-set=-dac_override,-dac_read_search --inh-caps=-dac_override,-dac_read_search)
 has_to_run 'strace traces nothing' strace strace -o /dev/null true
+has_to_run 'there is no ps' procps ps
 has_to_run "setpriv can't drop root's rights over files" util-linux "${held[@]}" true
 
 # ends NAME STATUS MESSAGE WORD ..: whether the program ends so on the words, over the script in the file `script`;
@@ -493,12 +494,13 @@ overtaken() {
   cp till.disk early.disk
   cp early.disk late.disk
   rm -f kept.disk
-  strace -o trace -e quiet=path-resolution -P early.disk -e trace=openat -e inject=openat:signal=STOP "$program" "$@" \
+  strace -o trace -e quiet=path-resolution -P early.disk -e trace=openat -e inject=openat:signal=STOP:when=1 "$program" "$@" \
     < script > out 2> err &
   local tracer=$! stopped=
   for _ in {1..3000}; do
     stopped=$(ps -o pid=,stat= --ppid "$tracer" | sed -n 's/^ *\([0-9]*\) *[tT].*/\1/p')
     grep -q 'SIGSTOP' trace 2> /dev/null && [ -n "$stopped" ] && break
+    kill -0 "$tracer" 2> /dev/null || break
     sleep 0.1
   done
   ln early.disk kept.disk

@@ -24,6 +24,7 @@ import subprocess
 import sys
 import tempfile
 import threading
+import time
 import warnings
 import weakref
 from unittest import mock
@@ -75,7 +76,7 @@ def late(*_):
 def in_time(call, *words):
     """What a call raises. One that takes too long is interrupted."""
     before = signal.signal(signal.SIGALRM, late)
-    signal.alarm(5)
+    signal.alarm(120)
     try:
         return raised(call, *words)
     finally:
@@ -236,12 +237,13 @@ def try_fork():
                 os._exit(name_of(till.close) is not None)
             finally:
                 os._exit(2)
+        os.close(says)
         why = "a till can be used only in the thread that opened it"
         told("a till in a forked process", repr(("ThreadError", True, why)), os.read(said, 1000).decode())
         drawer.open_drawer()
         told("the till goes on", (True, "BlockingIOError"), (drawer.drawer_opened, name_of(opened, totals=path)))
     told("its lock ends with it", None, raised(lambda: opened(totals=path).close()))
-    for end in (ends, waits, said, says):
+    for end in (ends, waits, said):
         os.close(end)
     told("it is closed there", 0, os.waitpid(child, 0)[1])
     waits, ends = os.pipe()
@@ -1506,16 +1508,17 @@ def try_backups_beside_changes():
         changing.start()
         stack.callback(changing.join)
         stack.callback(ending.set)
-        is_same, is_new = [], []
-        for _ in range(20):
+        is_same, is_new, end = [], [], time.monotonic() + 120
+        # A change may take longer than a copy.
+        while len(is_same) < 20 or len(counts) <= 20 and time.monotonic() < end:
             before = len(counts)
             kijolvar.backup(path, copy_of, LIBRARY)
             first, second = (int.from_bytes(found) for found in kijolvar.files(copy_of, LIBRARY).files.values())
             is_same.append(first == second)
             is_new.append(first >= before)
             copy_of.unlink()
-    told("two files of one transaction", [True] * 20, is_same)
-    told("each change that was done before", [True] * 20, is_new)
+    told("two files of one transaction", {True}, set(is_same))
+    told("each change that was done before", {True}, set(is_new))
     told("the till has gone on", True, len(counts) > 20)
 
 

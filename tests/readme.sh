@@ -13,9 +13,9 @@
 #   csharp   which isn't run.
 # A `python`, `c` or `rust` program also prints what is in the block `text` that follows. One whose first line is a
 # comment with a file's name is put into that file, for the commands that follow it.
-# In an indented block each line is a command. It ends well, and prints nothing or what examples/sale.stdout has, the last
-# one what is in the block `text` that follows. A block with semicolons at the ends of its lines is code in C, which
-# isn't run.
+# In an indented block each line is a command. It ends well, and prints nothing, or what examples/sale.stdout has if it runs
+# a sale over a file *.disk; the last one what is in the block `text` that follows. A block with semicolons at the ends of its
+# lines is code in C, which isn't run.
 # The lists below say which commands it doesn't run, and why; it fails for a command that neither ran nor is on a
 # list, and for an entry that no command fits.
 # Usage: tests/readme.sh [PROGRAM [ARCHIVE]]. Without words it takes what was built in crates/pos_console/out and
@@ -114,9 +114,9 @@ def runs(commands, wanted):
     """None where the commands end well and print what is wanted, else what is wrong."""
     status, printed, errors = ends(["bash", "-c", commands])
     found = printed + errors
-    if status == 0 and found in wanted:
+    if status == 0 and found == wanted:
         return None
-    return f"the commands\n{commands}\nend with {status} and print\n{found}in the place of\n{wanted[-1]}"
+    return f"the commands\n{commands}\nend with {status} and print\n{found}in the place of\n{wanted}"
 
 
 def serves(command):
@@ -221,8 +221,8 @@ def compiles(kind, source, wanted):
         file.write(CARGO)
     with open("example/src/main." + kind.replace("rust", "rs"), "w", encoding="utf-8") as file:
         file.write(source)
-    archive = None if os.path.exists("abi/out/libkijolvar.a") else runs("abi/build.sh", [""])
-    return archive or runs(BUILDS_IT[kind], [""]) or runs("./run", [wanted])
+    archive = None if os.path.exists("abi/out/libkijolvar.a") else runs("abi/build.sh", "")
+    return archive or runs(BUILDS_IT[kind], "") or runs("./run", wanted)
 
 
 SHARES = ("gcc -shared -fPIC -o libkijolvar.so abi/heap.c"
@@ -265,7 +265,7 @@ def checks(document):
             with open(named[1], "w", encoding="utf-8") as file:
                 file.write(text)
         elif kind == "sh":
-            yield runs(text, [wanted])
+            yield runs(text, wanted)
         elif kind == "session":
             yield answers(text, before)
         elif kind == "toml":
@@ -287,7 +287,8 @@ def checks(document):
             commands = [line.strip() for line in text.split("\n") if line.strip()]
             for command in commands:
                 is_told = command is commands[-1] and following is not None and following[1] == "text"
-                yield tries(command, [following[2]] if is_told else ["", SALE])
+                runs_sale = re.search(r"\bsale\b.* \S+\.disk\)?$", command)
+                yield tries(command, following[2] if is_told else SALE if runs_sale else "")
         elif kind not in ("", "text", None):
             yield f"a block `{kind}`: commands stand in a block `sh`, or are indented"
     if parts:

@@ -175,6 +175,8 @@ try_places() {
   local places
   places=$(sed -n '/^## What is in it$/,/^## A till/s/^| \(`[^|]*\) | .*/\1/p' "$tree/README.md" \
     | tr -d '`,' | tr ' ' '\n')
+  # (no place at all would fit each file)
+  places=${places:-none}
   told "each file of the archive is in a place that README lists" "" \
     "$(find "$tree" ! -type d -printf '%P\n' | grep -vE "^($(paste -s -d'|' <<< "$places"))")"
   told "each place that README lists is there" "" \
@@ -365,14 +367,16 @@ try_record() {
 
 # ---- installs
 
-# blocks FILE HEADING KIND: the blocks of a section: `sh` and `text` as they are named, `indented` those that are
+# blocks FILE HEADING KIND: the blocks of a section: `sh` and `text` as they are named, `indented` those that are. Without
+# any it prints what is no command and no text of a block
 blocks() {
   awk -v heading="## $2" -v kind="$3" '
     /^## / { inside = $0 == heading }
     !inside { next }
     /^```/ { open = open == "" ? substr($0, 4) "." : ""; next }
-    open == kind "." { print }
-    open == "" && kind == "indented" && /^    / { print substr($0, 5) }' "$1"
+    open == kind "." { print; count++ }
+    open == "" && kind == "indented" && /^    / { print substr($0, 5); count++ }
+    END { if (!count) print "no_block_" kind }' "$1"
 }
 
 # try_readme: what the archive's README says, command by command
