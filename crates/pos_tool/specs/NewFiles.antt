@@ -46,11 +46,11 @@ EndsUnsalvaged path cause (Err (fault.Unsalvaged at why)) = (at.now ≡ path) ×
 EndsUnsalvaged path cause other = ⊥
 
 -- what becomes of what was salvaged, or of damaged bytes of which nothing can be had
-abbrev pub EndsSalvage : {S F : Type 0} → SystemGhosts S F → FolderGhosts S → FileGhosts F → S → S → List ℕ → List ℕ
-    → Result Salvaged SurveyFault → Output → Output → Result Finding Fault → Type 0
-EndsSalvage system folder below them later from to (Ok made) old new result =
+abbrev pub PutsWhatIsLeft : {S F : Type 0} → SystemGhosts S F → FolderGhosts S → FileGhosts F → S → S → List ℕ
+    → List ℕ → Result Salvaged SurveyFault → Output → Output → Result Finding Fault → Type 0
+PutsWhatIsLeft system folder below them later from to (Ok made) old new result =
     PutsSalvaged system folder below them later to made old new result
-EndsSalvage system folder below them later from to (Err cause) old new result =
+PutsWhatIsLeft system folder below them later from to (Err cause) old new result =
     EndsUnsalvaged from cause result × (new ≡ old) × (later ≡ them)
 
 -- what is made of damaged bytes: a file with the bytes that were salvaged
@@ -58,7 +58,7 @@ abbrev pub SalvagesBytes : {S F : Type 0} → SystemGhosts S F → FolderGhosts 
     → List ℕ → Output → Output → Result Finding Fault → Type 0
 SalvagesBytes system folder below them later from to bytes old new result =
     (made : Result Salvaged SurveyFault) × MakesSalvage bytes made
-    × EndsSalvage system folder below them later from to made old new result
+    × PutsWhatIsLeft system folder below them later from to made old new result
 
 -- what is made of damaged totals that were only read, whose file was closed before; or why they can't be read
 abbrev pub SalvagesOpened : {S F : Type 0} → SystemGhosts S F → FolderGhosts S → FileGhosts F → S → S → List ℕ → List ℕ

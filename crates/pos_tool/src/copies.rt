@@ -3,7 +3,7 @@ ghost use Rattle.std.specs.Prelude.{IfErr, IfOk};
 ghost use Rattle.pos_program.specs.Answers.{bytes_of};
 ghost use Rattle.pos_tool.specs.Copies.{BacksUp, ChecksSound, CopiesTo, EndsCopy, IsUnread, IsUnreadTwice, PutsBack};
 ghost use Rattle.pos_tool.specs.Copies.{ReadsFront, ReadsSteady, ReadsTwice, Restores, TakesSnapshot, lent};
-ghost use Rattle.pos_tool.specs.NewFiles.{EndsSalvage, Loads, LoadsText, MakesLoad, MakesSalvage, PutsSalvaged};
+ghost use Rattle.pos_tool.specs.NewFiles.{Loads, LoadsText, MakesLoad, MakesSalvage, PutsSalvaged, PutsWhatIsLeft};
 ghost use Rattle.pos_tool.specs.NewFiles.{Salvages};
 ghost use Rattle.pos_tool.specs.Surveys.{EndsAtFile};
 ghost use Rattle.pos_program.specs.declared.file_fault.FileFault.TheVariants.{Unreadable};
@@ -220,14 +220,14 @@ fn put_salvaged<'a, S: FileSystem + Folder + AllocGlobal, W: Sink>(
 }
 
 // Makes a file of what was salvaged, if anything could be had of the damaged totals at a path.
-fn end_salvage<'a, S: FileSystem + Folder + AllocGlobal, W: Sink>(
+fn put_what_is_left<'a, S: FileSystem + Folder + AllocGlobal, W: Sink>(
     system: &mut S,
     writer: &mut W,
     from: &'a str,
     made: Result<Salvaged, SurveyFault>,
     to: &'a str,
 ) -> Result<Finding, Fault<'a>>
-    ensures { EndsSalvage S.FileSystem S.Folder ⟦<S::File as BlockFile>⟧ system.old system.new from.entry.now
+    ensures { PutsWhatIsLeft S.FileSystem S.Folder ⟦<S::File as BlockFile>⟧ system.old system.new from.entry.now
         to.entry.now made (output_of W.Sink writer.old) (output_of W.Sink writer.new) result }
 {
     match made {
@@ -256,7 +256,7 @@ pub(crate) fn salvage<'a, S: FileSystem + Folder + AllocGlobal, W: Sink>(
         Ok(totals) => {
             let made = make_salvage(system.alloc(), totals.bytes());
             system.close_before(totals, writer);
-            end_salvage(system, writer, from, made, to)
+            put_what_is_left(system, writer, from, made, to)
         }
         Err(cause) => Err(Fault::File { path: from, cause }),
     }
