@@ -1,11 +1,9 @@
-"""Tries the drivers of the Python package over emulated devices (tests/emulator), or over a printer that is there.
+"""Tries the drivers of the Python package over emulated devices (tests/emulator).
 
 Usage: devices.py LIBRARY [--faults N] [--seed N] [--only WORD]
-       devices.py LIBRARY --port PORT [--columns N]
 
 LIBRARY is libkijolvar.so. N random faults are tried, by default 150, from a seed. --only tries what has the word in its
-name. With --port it prints a page on a real printer at that port and says what has to be on it; PORT is a path or
-tcp:HOST:PORT. The last line is 'N passed, M failed'.
+name. The last line is 'N passed, M failed'.
 """
 import argparse
 import contextlib
@@ -13,6 +11,7 @@ import ctypes
 import errno
 import fcntl
 import gc
+import grp
 import io
 import math
 import os
@@ -36,6 +35,7 @@ TOP = pathlib.Path(__file__).resolve().parent.parent
 sys.path[:0] = [str(TOP / "abi/python"), str(TOP / "tests")]
 
 import kijolvar
+import kijolvar.__main__
 from checks import Checks
 from emulator import (Cut, Display, HearingPrinter, LatePrinter, Line, Printer, PtyCable, Scanner, SilentHost, TcpCable,
                       first_strange)
@@ -2765,6 +2765,71 @@ def try_scanner():
             told("a scanner is back", [(b"7", 0, b"7")], found)
 
 
+def commanded(*words, meanwhile=lambda: None):
+    """What `python3 -m kijolvar` prints, without its times, and its status. Something may be done once it has begun."""
+    started = subprocess.Popen([sys.executable, "-m", "kijolvar", *map(str, words)], stdout=subprocess.PIPE,
+                               stderr=subprocess.STDOUT, text=True, cwd=TOP / "abi/python")
+    meanwhile()
+    said, _ = started.communicate()
+    return re.sub(r"after \d+\.\d\d s", "after a time", said).splitlines(), started.returncode
+
+
+def try_command_with_a_printer():
+    """The command that tries a printer."""
+    with Printer(cable()) as device:
+        said, status = commanded("printer", device.path, "--drawer")
+        told("a printer: each step", (0, [
+            f"port: {device.path} is open", "printer: it answers; its cover is closed, its paper there",
+            "page: done after a time", "cut: done after a time", "drawer: done after a time",
+            "drawer: its sensor says that it is open"]), (status, said[:-1]))
+        told("its page", [b"Kijolvar, at the left", b"in the centre", b"at the right", b"x" * 42,
+                          b"right below the full line"], characters_of(device))
+        told("its cut", True, any(isinstance(item, Cut) for item in device.receipt()))
+        device.cover(True)
+        said, status = commanded("printer", device.path)
+        told("an open cover", (1, True), (status, said[-1].startswith("printer: FAILED:") and "201" in said[-1]))
+    with Printer(cable("asked"), is_simple=True) as device:
+        said, status = commanded("printer", device.path, "--asked", "--columns", 20, "--cutter", "absent")
+        told("a simple printer", (0, "page: done after a time", b"x" * 20),
+             (status, said[-2], characters_of(device)[3]))
+        said, status = commanded("printer", device.path)
+        told("a simple printer that isn't asked", (1, True), (status, said[-1].startswith("what to do:")))
+
+
+def try_command_with_other_devices():
+    """The command that tries a display or a scanner."""
+    for protocol in ("cd5220", "escpos"):
+        with Display(cable(), 2, 20, protocol) as device:
+            said, status = commanded("display", device.path, "--protocol", protocol)
+            told(f"a display with {protocol}", (0, 4), (status, len(said)))
+            told(f"its rows with {protocol}", b"row 1".ljust(20) + b"row 2".ljust(20), device.shows())
+    with Scanner(cable()) as device:
+        said, status = commanded("scanner", device.path, meanwhile=lambda: device.scan(b"4006381333931"))
+        told("a scanner", (0, True), (status, "4006381333931" in said[-1]))
+        said, status = commanded("scanner", device.path, "--seconds", 0.1)
+        told("a scanner without a code", (1, True), (status, said[-1].startswith("scanner: FAILED: no code came")))
+
+
+def try_command_without_a_device():
+    """The command at ports that can't serve: it says why, and what to do."""
+    there = CHECKS.work / "lp0"
+    there.touch()
+    cases = {("printer", "/dev/no/lp0"): "plugged in", ("printer", "tcp:127.0.0.1:9"): "address",
+             ("scanner", "/dev/no/event0"): "plugged in"}
+    for words, wanted in cases.items():
+        said, status = commanded(*words)
+        told(f"{words}: why", (1, True), (status, said[0].startswith("port: FAILED:")))
+        told(f"{words}: what to do", True, said[-1].startswith("what to do: ") and wanted in said[-1])
+    advice = kijolvar.__main__._advice_on_port
+    for number, wanted in ((errno.EACCES, grp.getgrgid(there.stat().st_gid).gr_name), (errno.EBUSY, "fuser")):
+        told(f"what to do at {errno.errorcode[number]}", True,
+             wanted in advice(kijolvar.PortError(number, os.strerror(number)), os.fspath(there)))
+    for words in (["printer", "tcp:127.0.0.1", "--speed", 9600], ["printer", "tcp:a:b"], ["printer"], ["till", "/dev/x"],
+                  ["printer", "/dev/ttyS9", "--speed", 7]):
+        said, status = commanded(*words)
+        told(f"{words}: it is refused", (2, True), (status, "error:" in said[-1]))
+
+
 def try_keyboard_links():
     """A link to a keyboard is one, also if it leads there only later."""
     link, later = CHECKS.work / "scanner", CHECKS.work / "later"
@@ -4176,8 +4241,14 @@ def try_guide():
         printed = said(loop)
         told("the guide's loop delivers a scan", (True, True), ("DataEvent" in printed, "b'123'" in printed))
         told("the guide's own driver", texts[0], said(programs[3]))
+    with Printer(cable(), 42) as printer:
+        command = commands[0].replace("/dev/usb/lp0", printer.path).split()
+        told("the guide's first command", ["python3", "-m", "kijolvar"], command[:3])
+        said, status = commanded(*command[3:])
+        told("the guide's page", (0, True, True), (status, b"in the centre" in characters_of(printer),
+                                                   printer.is_drawer_open))
     path = CHECKS.work / "guide"
-    command = commands[0].replace("/tmp/printer", str(path))
+    command = commands[1].replace("/tmp/printer", str(path))
     told("the guide's port", True, f"--path {path}" in command)
     pipes = {"stdin": subprocess.PIPE, "stdout": subprocess.PIPE, "text": True, "cwd": TOP}
     with subprocess.Popen(command.split(), **pipes) as emulator:
@@ -4193,10 +4264,6 @@ def try_guide():
         emulator.stdin.write("show\n")
         emulator.stdin.close()
         told("the emulator shows its paper", " Bread\n", emulator.stdout.read().replace("Milk\n", ""))
-    with Printer(cable(), 42) as printer:
-        command = commands[1].replace("libkijolvar.so", str(LIBRARY)).replace("/dev/usb/lp0", printer.path)
-        ended = subprocess.run([sys.executable, *command.split()[1:]], cwd=TOP, capture_output=True, text=True)
-        told("the guide's test page", ("5 passed, 0 failed", 0), (ended.stdout.splitlines()[-1], ended.returncode))
 
 
 # ---- costs
@@ -4233,33 +4300,8 @@ def timed(deed):
     return time.perf_counter() - began
 
 
-# ---- hardware
-
-def try_hardware(port, columns):
-    """Prints a page on a real printer."""
-    profile = PROFILE.replace("chars = 42", f"chars = {columns}")
-    with opened(profile) as till:
-        driver = EscPosPrinter(port, drawer="d1")
-        till.drive("r1", driver)
-        told("the printer answers", True, driver.is_online)
-        print("status:", *[f"{name} {sign}" for name, sign in driver.link.signs.items()] or ["none"])
-        with till.printer("r1").in_use() as printer:
-            began = time.monotonic()
-            told("a page", None, raised(printer.print, TEXT + b"\x1b|N" + b"0123456789" * (columns // 10) + b"\n"))
-            print(f"acknowledged after {time.monotonic() - began:.2f} s")
-            told("a full line", None, raised(printer.print, b"x" * columns + b"\nand the next\n"))
-            told("a cut", None, raised(printer.cut_paper, 100))
-            told("the drawer", None, raised(till.drawer("d1").open_drawer))
-            print("on the paper: First line at the left, Second line bold in the centre, Third line at the right,")
-            print("digits, a full line of x and the next one right below it, and a cut. The drawer is open.")
-
-
 def main():
-    tries = [value for name, value in globals().items() if name.startswith("try_") and name != "try_hardware"]
-    if WORDS.port is not None:
-        try_hardware(WORDS.port, WORDS.columns)
-        tries = []
-    for one in tries:
+    for one in [value for name, value in globals().items() if name.startswith("try_")]:
         if WORDS.only in one.__name__:
             began = time.monotonic()
             CHECKS.run(one, give_time)
@@ -4273,8 +4315,6 @@ if __name__ == "__main__":
     reader.add_argument("--faults", type=int, default=150)
     reader.add_argument("--seed", type=int, default=1)
     reader.add_argument("--only", default="")
-    reader.add_argument("--port", default=None)
-    reader.add_argument("--columns", type=int, default=42)
     WORDS = reader.parse_args()
     LIBRARY = pathlib.Path(WORDS.library).resolve()
     os.environ["KIJOLVAR_LIBRARY"] = os.fspath(LIBRARY)

@@ -2,9 +2,8 @@
 # Tries the drivers of the Python package over an emulated printer, drawer, display and scanner (tests/devices.py says
 # what), and the commands of docs/guide/attach-your-printer.md.
 # Usage: tests/devices.sh [--library LIBRARY] [WORD ..]. The words are those of tests/devices.py: --faults N (150 random
-# faults by default), --seed N, --only WORD, or --port PORT for a real printer at a path or at tcp:HOST:PORT. Without
-# LIBRARY it builds one, a shared object whose heap can refuse memory, and needs rt and gcc. Its last line is
-# 'N passed, M failed'.
+# faults by default), --seed N and --only WORD. Without LIBRARY it builds one, a shared object whose heap can refuse
+# memory, and needs rt and gcc. Its last line is 'N passed, M failed'.
 set -u
 top=$(cd "$(dirname "$0")/.." && pwd)
 work=$(mktemp -d)

@@ -11,6 +11,8 @@
 #   generated  docs/proofs/contracts.md, docs/reference/calls.md, the lists of docs/proofs/trust.md and the tables between
 #              marks are what tools/contracts.py, tools/calls.py, tools/trust.py and tools/lists.py write
 #   clauses    a clause that is named beside a function, and a field beside a definition, is there
+#   claims     a definition that a claim of README or of docs/proofs/what-is-proved.md names is one to which the
+#              contract of a function in the same claim leads, in a crate that the claim names
 #   theorems   in docs/proofs/theorems.md, a function is one that its crate's users can call and has the clause, and its contract
 #              leads to the relation; a quoted refusal is in docs/contributing/decisions.md; a part without a function is said to be missing
 #   commits    a commit's id is one of this history
@@ -460,6 +462,37 @@ def reached_by(function):
     return clauses | {name for _, _, name in tree.closure(tree.named_by_contract(function))}
 
 
+@functools.cache
+def definitions_behind(function):
+    """The crates and names of the definitions that the contract of a function leads to."""
+    _, tree = sources_tree()
+    return {(crate, name) for crate, _, name in tree.closure(tree.named_by_contract(function))}
+
+
+# Where the claims on proofs stand, and what a claim begins with.
+CLAIMS = {"README.md": r"^(?=- \*\*)", "docs/proofs/what-is-proved.md": r"^(?=\*\*\d+\. )"}
+
+
+def claims_in(text, begin):
+    """The claims of a document, each up to the next one or to a heading."""
+    return [re.split(r"^#", part, flags=re.M)[0] for part in re.split(begin, text, flags=re.M)[1:]]
+
+
+@rule
+def claims(documents):
+    looked, faults = 0, []
+    for document, begin in CLAIMS.items():
+        for claim in claims_in(documents[document], begin):
+            words = ticked(claim)
+            crates = {word.split("::")[0] for word in words}
+            functions = [function for word in words if "::" in word for function in functions_named(word)]
+            reached = {name for function in functions for crate, name in definitions_behind(function) if crate in crates}
+            names = [word for word in words if re.fullmatch(r"[A-Z]\w+", word) and word in DEFINITIONS]
+            looked += len(names)
+            faults += [f"{document}: no function of its claim leads to {name}" for name in names if name not in reached]
+    return looked, faults
+
+
 def fault_of_row(function, clause, left):
     """What is wrong with a row of docs/proofs/theorems.md."""
     paths = ticked(function)
@@ -765,6 +798,8 @@ PLANTS = [
     ("clauses", behind("README.md", "`pos_counter::Counter::call`, clause `nothing_of_it`.")),
     ("clauses", behind("docs/reference/totals-file.md", "This is `nothing_of_it` of `Images::publish`.")),
     ("clauses", instead("docs/proofs/what-is-proved.md", r"`pos_counter::laws::crash_prefix` \| `after`", "`pos_counter::laws::crash_prefix` | `afterwards`")),
+    ("claims", instead("README.md", r"`pos_console::perform` \(`RunsProgram`\)", "`pos_console::perform` (`Performs`)")),
+    ("claims", instead("docs/proofs/what-is-proved.md", r"\(`Describes`, `Breaks`\)", "(`Describes`, `RunsOverTotals`)")),
     ("theorems", instead(THEOREMS, r"`pos_store::Store::commit` \| `Commits\.crash`",
                          "`pos_store::Store::commits` | `Commits.crash`")),
     ("theorems", instead(THEOREMS, r"`pos_log::Log::append`, `pos_log::Log::open`",
