@@ -38,7 +38,7 @@ import kijolvar
 import kijolvar.__main__
 from checks import Checks
 from emulator import (Cut, Display, HearingPrinter, LatePrinter, Line, Printer, PtyCable, Scanner, SilentHost, TcpCable,
-                      first_strange)
+                      first_strange, take_unknown)
 from emulator.scanner import KEYS
 from kijolvar import (Driver, EscPosDrawer, EscPosPrinter, OutputCompleteEvent, PrintedCut, SerialDisplay, SerialPort,
                       StatusUpdateEvent, WedgeScanner, WireSettings)
@@ -2782,7 +2782,7 @@ def try_command_with_a_printer():
             f"port: {device.path} is open", "printer: it answers; its cover is closed, its paper there",
             "page: done after a time", "cut: done after a time", "drawer: done after a time",
             "drawer: its sensor says that it is open"]), (status, said[:-1]))
-        told("its page", [b"Kijolvar, at the left", b"in the centre", b"at the right", b"x" * 42,
+        told("its page", [b"Kijolvar", b"in the centre", b"at the right", b"x" * 42,
                           b"right below the full line"], characters_of(device))
         told("its cut", True, any(isinstance(item, Cut) for item in device.receipt()))
         device.cover(True)
@@ -2793,7 +2793,9 @@ def try_command_with_a_printer():
         told("a simple printer", (0, "page: done after a time", b"x" * 20),
              (status, said[-2], characters_of(device)[3]))
         said, status = commanded("printer", device.path)
-        told("a simple printer that isn't asked", (1, True), (status, said[-1].startswith("what to do:")))
+        told("a simple printer that isn't asked", (1, True),
+             (status, said[-1].startswith("what to do: ") and "--asked" in said[-1]))
+    told("a simple printer knows other commands", True, take_unknown() != [])
 
 
 def try_command_with_other_devices():

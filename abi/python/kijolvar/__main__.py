@@ -27,7 +27,7 @@ from .till import open as open_till
 
 # How long a device may take to answer at first, in seconds.
 _ANSWERS = 3.0
-_PAGE = ("\x1b|bCKijolvar, at the left\n\x1b|N\x1b|cAin the centre\n\x1b|N\x1b|rAat the right\n\x1b|N{full}\n"
+_PAGE = ("\x1b|bCKijolvar\n\x1b|N\x1b|cAin the centre\n\x1b|N\x1b|rAat the right\n\x1b|N{full}\n"
          "right below the full line\n")
 
 
@@ -88,9 +88,11 @@ def _timed(what: str, call: Callable[[], object]) -> None:
 
 def _advice(fault: Error, given: argparse.Namespace) -> str:
     """What to do if a device fails whose port is open."""
+    may_be_simple = given.device == "printer" and not given.asked
     if isinstance(fault, OfflineError):
-        return "is it on? On a serial line: is --speed right? Try --flow none"
-    if isinstance(fault, FailureError) and given.device == "printer" and not given.asked:
+        simple = " A simple printer says nothing by itself: try --asked." if may_be_simple else ""
+        return f"is it on?{simple} On a serial line: is --speed right? Try --flow none"
+    if isinstance(fault, FailureError) and may_be_simple:
         return "if it printed all the same, it doesn't acknowledge what it prints: try --asked"
     return ""
 
