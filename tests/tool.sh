@@ -61,7 +61,7 @@ hint_path='hint: check the path, who may read and write it, and if its file syst
 hint_rights="hint: run it as the old file's owner, or as root"
 hint_link='hint: if a file is there, give another path; `restore` has --replace; the disk must have hard links'
 hint_create='hint: is it the right file? Restore a copy if it had totals'
-hint_salvage='hint: `kijolvar salvage FILE TO` makes a sound file of what can be had, if an image is left'
+hint_salvage='hint: `kijolvar salvage FILE TO` makes a sound file of what can be had of it'
 no_image='no image is left, so nothing can be salvaged'$'\n''hint: `kijolvar check FILE` says if it was damaged or has no totals; restore a copy, or load a dump'
 hint_stop='hint: a till that runs locks its totals file: stop it first (`fuser -v FILE` lists who has it)'
 none='No such file or directory (os error 2)'
@@ -222,7 +222,8 @@ breaks() {
   told "$name: salvage: status" "$6" $?
   if [ "$6" -eq 0 ]; then
     local lost='this and all later changes are left out'
-    [ "$7" -ne 32768 ] || lost='this image is left out, and the one before it is used'
+    case $7 in 0 | 32768) lost=$left_out ;; esac
+    [ "$7" -ne 0 ] || lost+=$'\n'$put_again
     told "$name: salvage says where" "closed gate $7, broken at $place: $rule; $lost" "$(cat out)"
     told "$name: what was salvaged" "$8" "$("$tool" check new)"
     rm new
@@ -233,9 +234,11 @@ breaks() {
   told "$name: no other file is there" '' "$(ls new* 2> /dev/null)"
 }
 sound='sound: layout 1, sequence 1, records'
+left_out='this image is left out, and the one before it is used, if there is one'
+put_again='put the image of new totals at 0: the file never had another; the changes behind it are kept'
 breaks 'a tie' 32769 'both slots are open with the same sequence' 32768 a50000000000000001 0 32768 "$sound 3, files 2"
-breaks 'a long body' 9 'the length of the current body is above the longest' 9 0000ffff 1
-breaks 'a body with bytes left' 15 'bytes of the current body are left over' 9 00000003 1
+breaks 'a long body' 9 'the length of the current body is above the longest' 9 0000ffff 0 0 "$sound 3, files 2"
+breaks 'a body with bytes left' 15 'bytes of the current body are left over' 9 00000003 0 0 "$sound 3, files 2"
 breaks 'a long record' 16384 "a record doesn't end within the log" 16385 00007fff 0 16384 "$sound 0, files 0"
 breaks 'a record without a group' 16384 'a record is no group of changes' 16391 09 0 16384 "$sound 0, files 0"
 breaks 'a record without changes' 16384 'a record has no changes' 16385 00000002000000 0 16384 "$sound 0, files 0"
@@ -382,9 +385,17 @@ filler() { printf 'call a write 1 0 %s\n' "$(head -c 8192 /dev/zero | tr '\000' 
 { printf 'call a create 41 8192 false\n'; filler 001; filler 002; } | script two.totals
 put two.totals 32777 0000ffff
 ends 'salvage of the image before' 0 '' \
-  'closed gate 32768, broken at 32777: the length of the current body is above the longest; this image is left out, and the one before it is used' \
+  'closed gate 32768, broken at 32777: the length of the current body is above the longest; '"$left_out" \
   salvage two.totals saved3.totals
 told 'salvage of the image before: what is there' 0101 "$("$tool" cat saved3.totals A --hex | head -c 4)"
+put two.totals 9 0000ffff
+ends 'salvage without an image, of totals that had several' 1 "kijolvar: two.totals: $no_image" '' salvage two.totals new
+cp till.totals lost.totals
+put lost.totals 0 "$(head -c 1024 /dev/zero | tr '\000' 0)"
+ends 'salvage of totals whose first sector is lost' 0 '' "$put_again" salvage lost.totals saved4.totals
+same 'salvage of totals whose first sector is lost: all is there' saved4.totals till.totals
+put lost.totals 16384 00
+ends 'salvage without an image and a record' 1 "kijolvar: lost.totals: $no_image" '' salvage lost.totals new
 
 # --- explain
 ends 'explain a number' 0 '' "E_ILLEGAL 106, result code: an argument is out of its range, or the control's state doesn't allow the call
@@ -1053,8 +1064,12 @@ def fault(turn, changes):
         if saved.returncode == 0:
             with open(to, 'rb') as it:
                 made = it.read()
-            changed = [at for at in range(len(made)) if made[at] != bytes_[at]] if made != bytes_ else []
-            if any(made[at] for at in changed) or run('check', to).returncode or len(changed) != saved.stdout.count('\n'):
+            lines = saved.stdout.splitlines()
+            # The bytes of the image of new totals, if it is put again.
+            put = 15 * any(line.startswith('put ') for line in lines)
+            changed = [at for at in range(put, len(made)) if made[at] != bytes_[at]] if made != bytes_ else []
+            closed = [line for line in lines if line.startswith('closed gate ') and int(line.split(',')[0][12:]) >= put]
+            if any(made[at] for at in changed) or run('check', to).returncode or len(changed) != len(closed):
                 return turn, saved, changed
         elif saved.returncode != 1:
             return turn, saved

@@ -1,6 +1,6 @@
 -- The names of the standard's codes, with the numbers that a counter answers and sends (docs/reference/tool.md,
 -- "explain").
-use Rattle.std.specs.Prelude.{◌++◌, ◌∷◌, ℕ, List, [], Option, Some, None, true, false, codes, map}
+use Rattle.std.specs.Prelude.{◌++◌, ◌∷◌, ℕ, List, [], Some, None, true, false, codes, map}
 use Rattle.pos_service.specs.Codes.{eptr_cover_open, eptr_rec_empty, etot_noroom, locus_number_of, number_of}
 use Rattle.pos_service.specs.Controls.{Control, new_control, opened, output_failed, queued, state_of}
 use Rattle.pos_service.specs.Hardware.{signs_in}

@@ -1,16 +1,21 @@
 //! What can be had of damaged totals.
-ghost use Rattle.std.specs.Prelude.{◌≡◌, ◌≤◌, ◌++◌, length, IfErr, IfOk, OnOk};
+ghost use Rattle.std.specs.Prelude.{◌≡◌, ◌≤◌, ◌+◌, ◌++◌, length, IfErr, IfOk, OnOk};
+ghost use Rattle.pos_disk.specs.State.{splice};
 ghost use Rattle.pos_image.specs.Layout.{disk_size};
-ghost use Rattle.pos_report.specs.Salvage.{Finds, IsSalvaged, IsUnsalvaged, Steps, cut_line, gate_of, left_out, lost_line, padded};
+ghost use Rattle.pos_report.specs.Salvage.{Closes, Finds, IsLeft, IsSalvaged, IsUnsalvaged, MakesSound, PutsFirst, Steps};
+ghost use Rattle.pos_report.specs.Salvage.{can_be_put, cut_line, gate_of, has_first_log, is_unused, left_out, lost_line, padded};
 ghost use Rattle.pos_report.specs.Salvage.{slot_start};
 
-use crate::texts::put_all;
+use crate::texts::{are_zero, put_all};
 use itoa::Buffer;
 use pos_survey::{Rule, Survey, SurveyFault, words_of};
 use std::alloc::{AllocError, Global};
 
 // How many bytes totals have.
 const LENGTH: usize = 327_680;
+
+// The image of new totals: an open gate, the sequence 1, and the body of no files, which has two bytes.
+const FIRST_IMAGE: [u8; 15] = [0xa5, 0, 0, 0, 0, 0, 0, 0, 1, 0, 0, 0, 2, 0, 0];
 
 /// Totals that were made of damaged ones: their bytes, and what was lost, as lines of text.
 #[derive(Drop)]
@@ -53,7 +58,7 @@ fn left_out(rule: Rule) -> &'static str
 {
     match rule {
         Rule::SameSequence | Rule::LongBody | Rule::NoFiles(_) => {
-            "; this image is left out, and the one before it is used\n"
+            "; this image is left out, and the one before it is used, if there is one\n"
         }
         _ => "; this and all later changes are left out\n",
     }
@@ -107,6 +112,88 @@ fn step(alloc: Global, copy: &mut Vec<u8>, lost: &mut Vec<u8>) -> Result<bool, S
     Ok(false)
 }
 
+// Closes the gates of what is damaged in totals, one after another, until nothing is, and says so.
+fn close_gates(alloc: Global, copy: &mut Vec<u8>, lost: &mut Vec<u8>) -> Result<(), SurveyFault>
+    requires { disk_size ≤ length copy.old.items }
+    ensures { Closes copy.old.items lost.old.items result copy.new.items lost.new.items }
+{
+    // This ends: each turn leaves fewer open gates.
+    while !step(alloc, copy, lost)? {}
+    Ok(())
+}
+
+// Whether the slot that begins at a place never had an image.
+fn is_unused(bytes: &[u8], at: usize) -> bool
+    requires { at + 9 ≤ length bytes.now }
+    ensures { result ≡ is_unused bytes.now at }
+{
+    are_zero(&bytes[at + 1..at + 9])
+}
+
+// Whether totals never had an image but their first one, and have changes behind that.
+fn has_first_log(bytes: &[u8]) -> bool
+    requires { disk_size ≤ length bytes.now }
+    ensures { result ≡ has_first_log bytes.now }
+{
+    if bytes[16_384] != 0xa5 {
+        return false;
+    }
+    if !is_unused(bytes, 32_768) {
+        return false;
+    }
+    if !is_unused(bytes, 65_536) {
+        return false;
+    }
+    is_unused(bytes, 196_608)
+}
+
+// Whether the image of new totals can be put again: no image is left, and there never was another.
+fn can_be_put(fault: SurveyFault, bytes: &[u8]) -> bool
+    requires { disk_size ≤ length bytes.now }
+    ensures { result ≡ can_be_put fault bytes.now }
+{
+    match fault {
+        SurveyFault::Unformatted => has_first_log(bytes),
+        _ => false,
+    }
+}
+
+// Puts bytes over those from a place on.
+fn overwrite(bytes: &mut Vec<u8>, at: usize, new: &[u8])
+    requires { at + length new.now ≤ length bytes.old.items }
+    ensures { bytes.new.items ≡ splice bytes.old.items at new.now }
+{
+    bytes[at..at + new.len()].copy_from_slice(new);
+}
+
+// Puts the image of new totals into the first slot, and says so.
+fn put_first_image(copy: &mut Vec<u8>, lost: &mut Vec<u8>) -> Result<(), AllocError>
+    requires { disk_size ≤ length copy.old.items }
+    ensures { PutsFirst copy.old.items lost.old.items result copy.new.items lost.new.items }
+{
+    let line =
+        "put the image of new totals at 0: the file never had another; the changes behind it are kept\n";
+    put_all(lost, &[line])?;
+    overwrite(copy, 0, &FIRST_IMAGE);
+    Ok(())
+}
+
+// Makes totals sound, and says what was lost: gates are closed of what is damaged. If no image is left then, and the file
+// never had one but that of new totals, it is put again.
+fn make_sound(alloc: Global, copy: &mut Vec<u8>, lost: &mut Vec<u8>) -> Result<(), SurveyFault>
+    requires { disk_size ≤ length copy.old.items }
+    ensures { MakesSound copy.old.items lost.old.items result copy.new.items lost.new.items }
+{
+    let Err(fault) = close_gates(alloc, copy, lost) else {
+        return Ok(());
+    };
+    if !can_be_put(fault, copy.as_slice()) {
+        return Err(fault);
+    }
+    put_first_image(copy, lost)?;
+    close_gates(alloc, copy, lost)
+}
+
 // Bytes, with zero bytes behind them up to the length of totals.
 fn padded(alloc: Global, bytes: &[u8]) -> Result<Vec<u8>, AllocError>
     ensures { IfOk result (λ copy. copy.items ≡ padded bytes.now) }
@@ -137,12 +224,14 @@ fn cut_line(alloc: Global, bytes: &[u8]) -> Result<Vec<u8>, AllocError>
 }
 
 /// Returns sound totals that are made of these bytes: gates are closed of what is damaged, one after another, until
-/// nothing is. Nothing else is changed, so each file that they hold is of an image and records of these bytes. Missing
-/// bytes at the end count as 0.
+/// nothing is. If no image is left then, and the file never had one but that of new totals, which has no files, it is put
+/// again, so that the changes behind it count. Nothing else is changed, so each file that they hold is of an image and
+/// records of these bytes. Missing bytes at the end count as 0.
 ///
 /// # Errors
 ///
-/// `Unformatted` if no image is left, and `NoMemory`. Never `Damaged`: each damage has an open gate, which is closed.
+/// `Unformatted` if no image is left, nor changes behind the first one, and `NoMemory`. Never `Damaged`: each damage has
+/// an open gate, which is closed.
 pub fn salvage_totals(alloc: Global, bytes: &[u8]) -> Result<Salvaged, SurveyFault>
     ensures ok { IfOk result (λ made. IsSalvaged bytes.now made.bytes.items made.lost.items) }
     ensures refused { IfErr result (IsUnsalvaged bytes.now) }
@@ -153,7 +242,6 @@ pub fn salvage_totals(alloc: Global, bytes: &[u8]) -> Result<Salvaged, SurveyFau
     let Ok(mut lost) = cut_line(alloc, bytes) else {
         return Err(SurveyFault::NoMemory);
     };
-    // This ends: each turn leaves fewer open gates.
-    while !step(alloc, &mut copy, &mut lost)? {}
+    make_sound(alloc, &mut copy, &mut lost)?;
     Ok(Salvaged { bytes: copy, lost })
 }

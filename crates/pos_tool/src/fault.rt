@@ -324,7 +324,7 @@ fn hint_of_totals(cause: &SurveyFault) -> &'static str {
         }
         SurveyFault::Unformatted => "is it the right file? Restore a copy if it had totals",
         SurveyFault::Damaged(_, _) =>
-            "`kijolvar salvage FILE TO` makes a sound file of what can be had, if an image is left",
+            "`kijolvar salvage FILE TO` makes a sound file of what can be had of it",
         SurveyFault::NoMemory => "free memory, and try again",
     }
 }

@@ -3,6 +3,7 @@ use Rattle.std.specs.Prelude.{slice_set}
 use Rattle.pos_image.specs.Layout.{is_open}
 use Rattle.pos_survey.specs.Damages.{Breaks}
 use Rattle.pos_report.specs.Salvage.{Finds}
+use Rattle.pos_report.proofs.GateLemmas.{says_same}
 use Rattle.pos_report.proofs.OpenGateLemmas.{open_within}
 use Rattle.pos_report.proofs.salvage.step.Goals.{In-Ok-Some}
 use Rattle.pos_report.proofs.salvage.step.Goals as goal
@@ -15,7 +16,7 @@ damage c = subst (λ bytes. Finds bytes (Ok (Some c.in-Ok-Some.found))) c.as_sli
 pub returns-in-Err : goal.returns-in-Err
 returns-in-Err c =
     let (breaks, ends) = c.in-Err.ensures in
-    (subst (λ bytes. Breaks bytes c.in-Err.fault) c.as_slice.ensures.value breaks, ends, refl)
+    (subst (λ bytes. Breaks bytes c.in-Err.fault) c.as_slice.ensures.value breaks, ends, refl, says_same c.in-Err.fault _)
 
 pub index_mut-requires : goal.index_mut-requires
 index_mut-requires c =
