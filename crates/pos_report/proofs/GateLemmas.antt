@@ -1,6 +1,6 @@
 -- How gates are closed, one after another.
 use Rattle.std.proofs.Common.{◌≡◌, ◌++◌, ◌∷◌, [], ◌∙◌, ◌<◌, ℕ, List, Result, Ok, Err, false, length, ap, arith, inl, inr}
-use Rattle.std.proofs.Common.{refl, subst, sym}
+use Rattle.std.proofs.Common.{refl, subst}
 use Rattle.std.proofs.lemmas.List.{length-set}
 use Rattle.std.specs.Prelude.{slice_set, true}
 use Rattle.pos_survey.specs.Damages.{Breaks}
@@ -24,15 +24,6 @@ goes_on first before old said new told is (at, broken, breaks, opened, new_is, t
   new_is = new_is ∙ ap (λ bytes. slice_set bytes (gate_of at broken) 0) is.new_is;
   told_is = told_is ∙ ap (λ text. text ++ lost_line at broken) is.told_is;
 }
-
--- nothing is damaged any more
-pub ends : (first before old said new told : List ℕ) → IsClosed first before old said → Steps old said (Ok true) new told
-    → Closes first before (Ok (record {})) new told
-ends first before old said new told is (survey, new_is, told_is) = (
-  subst (λ bytes. IsClosed first before bytes told) (sym new_is)
-      (subst (λ text. IsClosed first before old text) (sym told_is) is),
-  survey,
-)
 
 -- what is said is the same
 pub says_same : (fault : SurveyFault) (said : List ℕ) → Says fault said said

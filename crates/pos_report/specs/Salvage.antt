@@ -95,8 +95,8 @@ Steps old said (Ok false) new told = (at : ℕ) × (broken : Rule) × Breaks old
     × (told ≡ said ++ lost_line at broken)
 Steps old said (Err fault) new told = Breaks old fault × EndsSalvage fault × (new ≡ old) × Says fault said told
 
--- Gates were closed in bytes of what was damaged, and nothing else was changed; and behind what was said before there is
--- a line for each.
+-- Gates were closed in bytes of what was damaged, and nothing else was changed; and behind what was said before there
+-- is a line for each.
 pub record IsClosed (old said new told : List ℕ) : Type 0 where
   pub found : Found
   pub broken : AreBroken found old
@@ -155,8 +155,8 @@ pub record IsRemade (old said new told : List ℕ) : Type 0 where
 abbrev pub IsLeft : List ℕ → List ℕ → List ℕ → List ℕ → Type 0
 IsLeft old said new told = IsClosed old said new told ⊎ IsRemade old said new told
 
--- Why no sound bytes are made: memory ran out, or the gates of all slots of what is left are closed, and the image of new
--- totals can't be put again, or was. Damage is never why: it has an open gate, which is closed next.
+-- Why no sound bytes are made: memory ran out, or the gates of all slots of what is left are closed, and the image of
+-- new totals can't be put again, or was. Damage is never why: it has an open gate, which is closed next.
 pub record EndsAll (old said new : List ℕ) (fault : SurveyFault) : Type 0 where
   pub lines : List ℕ
   pub left : IsLeft old said new lines

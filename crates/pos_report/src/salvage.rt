@@ -178,8 +178,8 @@ fn put_first_image(copy: &mut Vec<u8>, lost: &mut Vec<u8>) -> Result<(), AllocEr
     Ok(())
 }
 
-// Makes totals sound, and says what was lost: gates are closed of what is damaged. If no image is left then, and the file
-// never had one but that of new totals, it is put again.
+// Makes totals sound, and says what was lost: gates are closed of what is damaged. If no image is left then, and the
+// file never had one but that of new totals, it is put again.
 fn make_sound(alloc: Global, copy: &mut Vec<u8>, lost: &mut Vec<u8>) -> Result<(), SurveyFault>
     requires { disk_size ≤ length copy.old.items }
     ensures { MakesSound copy.old.items lost.old.items result copy.new.items lost.new.items }
@@ -224,14 +224,14 @@ fn cut_line(alloc: Global, bytes: &[u8]) -> Result<Vec<u8>, AllocError>
 }
 
 /// Returns sound totals that are made of these bytes: gates are closed of what is damaged, one after another, until
-/// nothing is. If no image is left then, and the file never had one but that of new totals, which has no files, it is put
-/// again, so that the changes behind it count. Nothing else is changed, so each file that they hold is of an image and
-/// records of these bytes. Missing bytes at the end count as 0.
+/// nothing is. If no image is left then, and the file never had one but that of new totals, which has no files, it is
+/// put again, so that the changes behind it count. Nothing else is changed, so each file that they hold is of an image
+/// and records of these bytes. Missing bytes at the end count as 0.
 ///
 /// # Errors
 ///
-/// `Unformatted` if no image is left, nor changes behind the first one, and `NoMemory`. Never `Damaged`: each damage has
-/// an open gate, which is closed.
+/// `Unformatted` if no image is left, nor changes behind the first one, and `NoMemory`. Never `Damaged`: each damage
+/// has an open gate, which is closed.
 pub fn salvage_totals(alloc: Global, bytes: &[u8]) -> Result<Salvaged, SurveyFault>
     ensures ok { IfOk result (λ made. IsSalvaged bytes.now made.bytes.items made.lost.items) }
     ensures refused { IfErr result (IsUnsalvaged bytes.now) }

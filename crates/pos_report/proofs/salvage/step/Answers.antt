@@ -16,7 +16,8 @@ damage c = subst (λ bytes. Finds bytes (Ok (Some c.in-Ok-Some.found))) c.as_sli
 pub returns-in-Err : goal.returns-in-Err
 returns-in-Err c =
     let (breaks, ends) = c.in-Err.ensures in
-    (subst (λ bytes. Breaks bytes c.in-Err.fault) c.as_slice.ensures.value breaks, ends, refl, says_same c.in-Err.fault _)
+    let here = subst (λ bytes. Breaks bytes c.in-Err.fault) c.as_slice.ensures.value breaks in
+    (here, ends, refl, says_same c.in-Err.fault _)
 
 pub index_mut-requires : goal.index_mut-requires
 index_mut-requires c =
