@@ -27,8 +27,9 @@ numbered next (file ∷ files) = called (new_tag next) file ∷ numbered (next +
 abbrev pub AreLeft : ℕ → ℕ → Type 0
 AreLeft next count = next + count ≤ last_number
 
--- The layout is the one that was found, and the place after the records is some number: a law of the counter says which
--- over an honest disk. The files that were found have the handles from the next one on, and the next one is after them.
+-- The layout is the one that was found, and the place after the records is some number: over an honest disk
+-- `ends_behind_their_records` says which. The files that were found have the handles from the next one on, and the next
+-- one is after them.
 pub record HasFound (P : Standing → Type 0) (old new : Totals) : Type 0 where
   pub layout : Layout
   pub files : List PlainFile
