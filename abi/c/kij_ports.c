@@ -192,6 +192,8 @@ static int prepare(kij_port *port, int file) {
     /* fstat would need glibc 2.33. */
     struct statx found;
     if (statx(file, "", AT_EMPTY_PATH, STATX_TYPE, &found) != 0) return errno;
+    /* A file, a folder or a disk is no port. */
+    if (!S_ISCHR(found.stx_mode) && !S_ISFIFO(found.stx_mode)) return ENODEV;
     if (port->kind == KIJ_PORT_KEYS) {
         /* A pipe or a terminal has no keys to keep from other programs. */
         if (S_ISCHR(found.stx_mode) && ioctl(file, EVIOCGRAB, 1) != 0 && errno != ENOTTY && errno != EINVAL)
@@ -200,7 +202,6 @@ static int prepare(kij_port *port, int file) {
         port->ends_empty = true;
         return isatty(file) ? set_up_own(file, port) : 0;
     }
-    if (S_ISREG(found.stx_mode)) return ENODEV;
     /* A printer on USB may send packets with nothing in them. */
     port->ends_empty = isatty(file) != 0;
     return port->ends_empty ? set_up_own(file, port) : 0;
@@ -209,7 +210,7 @@ static int prepare(kij_port *port, int file) {
 /* Opens a device file: 0 or errno. */
 static int open_file(kij_port *port, int *file) {
     int way = port->kind == KIJ_PORT_KEYS ? O_RDONLY : O_RDWR;
-    *file = open(port->name, way | O_NONBLOCK | O_NOCTTY | O_CLOEXEC);
+    *file = kij_internal_off_streams(open(port->name, way | O_NONBLOCK | O_NOCTTY | O_CLOEXEC));
     if (*file < 0) return errno;
     int why = prepare(port, *file);
     if (why != 0) close(*file);
@@ -306,7 +307,8 @@ static int begin_joining(kij_port *port) {
     int64_t least = port->joins_time * left / (int64_t)port->address_count;
     if (port->joins_end_at - now < least) port->joins_end_at = now + least;
     port->join_ends_at = now + (port->joins_end_at - now) / left;
-    port->joining = socket(address->place.ss_family, SOCK_STREAM | SOCK_NONBLOCK | SOCK_CLOEXEC, 0);
+    int file = socket(address->place.ss_family, SOCK_STREAM | SOCK_NONBLOCK | SOCK_CLOEXEC, 0);
+    port->joining = kij_internal_off_streams(file);
     if (port->joining < 0) return errno;
     port->is_joining = true;
     port->process = getpid();

@@ -16,6 +16,15 @@
 /* How often a file is opened in whose place a program puts another one before it is locked. */
 enum { MOST_TURNS = 10 };
 
+int kij_internal_off_streams(int file) {
+    if (file < 0 || file > STDERR_FILENO) return file;
+    int moved = fcntl(file, F_DUPFD_CLOEXEC, STDERR_FILENO + 1);
+    int why = errno;
+    close(file);
+    errno = why;
+    return moved;
+}
+
 /* Whether all of the bytes are written to a place of a file; else errno says why. */
 static bool is_written(int file, const uint8_t *bytes, size_t size, uint64_t at) {
     size_t done = 0;
@@ -156,7 +165,7 @@ static int check_name(int file, const char *path) {
 static int open_locked(const char *path, int *file) {
     int why = 0;
     for (int turn = 0; turn < MOST_TURNS; turn++) {
-        *file = open(path, O_RDWR | O_CLOEXEC);
+        *file = kij_internal_off_streams(open(path, O_RDWR | O_CLOEXEC));
         if (*file < 0) return errno;
         if (flock(*file, LOCK_EX | LOCK_NB) != 0) return dropped(*file, errno);
         why = check_name(*file, path);
@@ -218,7 +227,7 @@ static int create_new(const char *path, const char *profile, int *file) {
     int folder;
     int why = open_folder(path, &name, &folder);
     if (why != 0) return why;
-    *file = openat(folder, ".", O_RDWR | O_TMPFILE | O_CLOEXEC, 0600);
+    *file = kij_internal_off_streams(openat(folder, ".", O_RDWR | O_TMPFILE | O_CLOEXEC, 0600));
     if (*file < 0) return dropped(folder, errno);
     if (flock(*file, LOCK_EX | LOCK_NB) != 0) why = errno;
     if (why == 0) why = format(*file, profile);
@@ -240,8 +249,9 @@ int kij_internal_open_file(const char *path, int flags, const char *profile, int
 static int write_part(int folder, const char *part, const uint8_t *bytes, size_t size) {
     int file = openat(folder, part, O_WRONLY | O_CREAT | O_EXCL | O_CLOEXEC, 0600);
     if (file < 0) return errno;
-    int why = is_written(file, bytes, size, 0) && kij_internal_is_synced(file) ? 0 : errno;
-    close(file);
+    file = kij_internal_off_streams(file);
+    int why = file >= 0 && is_written(file, bytes, size, 0) && kij_internal_is_synced(file) ? 0 : errno;
+    if (file >= 0) close(file);
     if (why != 0) (void)unlinkat(folder, part, 0);
     return why;
 }

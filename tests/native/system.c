@@ -1,7 +1,7 @@
 /* Tries the layer of C where the system does something that no emulated device can bring about: a serial line that is
    pulled out before its bytes are out, processes that are forked, names that are looked up, signals, and files that are
    read and written in parts.
-   What is linked with it has -Wl,--wrap=getaddrinfo,--wrap=fsync,--wrap=pread,--wrap=pwrite,--wrap=ioctl,--wrap=tcflush.
+   What is linked with it has -Wl,--wrap=.. for getaddrinfo, fsync, pread, pwrite, ioctl, tcflush and statx.
 
    Usage: system FOLDER. It makes files in the folder, and prints what fails. Its status is 0 if nothing does. */
 #define _GNU_SOURCE
@@ -32,6 +32,10 @@ static bool is_partial;
 /* How often a file is read from its beginning with another byte each time; always if it is less than 0. */
 static int changes;
 static char looked_up[100];
+/* What is written to the standard stream of errors behind each part of a file, or null. */
+static const char *said_meanwhile;
+/* Whether each file that is opened is a disk. */
+static bool is_disk;
 /* Whether keys are kept from other programs, or -1, and which type of their events is left out. */
 static int is_grabbed = -1, left_out = -1;
 /* How many bytes each line holds back. */
@@ -43,12 +47,14 @@ ssize_t __real_pread(int file, void *bytes, size_t size, off_t at);
 ssize_t __real_pwrite(int file, const void *bytes, size_t size, off_t at);
 int __real_ioctl(int file, unsigned long request, ...);
 int __real_tcflush(int file, int queue);
+int __real_statx(int folder, const char *path, int flags, unsigned mask, struct statx *found);
 int __wrap_getaddrinfo(const char *host, const char *service, const struct addrinfo *wanted, struct addrinfo **found);
 int __wrap_ioctl(int file, unsigned long request, ...);
 int __wrap_tcflush(int file, int queue);
 int __wrap_fsync(int file);
 ssize_t __wrap_pread(int file, void *bytes, size_t size, off_t at);
 ssize_t __wrap_pwrite(int file, const void *bytes, size_t size, off_t at);
+int __wrap_statx(int folder, const char *path, int flags, unsigned mask, struct statx *found);
 
 int __wrap_getaddrinfo(const char *host, const char *service, const struct addrinfo *wanted, struct addrinfo **found) {
     lookups++;
@@ -102,7 +108,15 @@ ssize_t __wrap_pread(int file, void *bytes, size_t size, off_t at) {
 
 ssize_t __wrap_pwrite(int file, const void *bytes, size_t size, off_t at) {
     size = part(size, write_fault);
-    return size == 0 ? -1 : __real_pwrite(file, bytes, size, at);
+    ssize_t count = size == 0 ? -1 : __real_pwrite(file, bytes, size, at);
+    if (said_meanwhile != NULL) (void)!write(STDERR_FILENO, said_meanwhile, strlen(said_meanwhile));
+    return count;
+}
+
+int __wrap_statx(int folder, const char *path, int flags, unsigned mask, struct statx *found) {
+    int result = __real_statx(folder, path, flags, mask, found);
+    if (is_disk) found->stx_mode = (uint16_t)((found->stx_mode & ~S_IFMT) | S_IFBLK);
+    return result;
 }
 
 /* Whether two numbers are the same. */
@@ -425,6 +439,79 @@ static void make_tcp(kij_port *port, char *name, size_t room, int number) {
     static const kij_serial_settings serial = KIJ_SERIAL_SETTINGS;
     snprintf(name, room, "tcp:localhost:%d", number);
     kij_internal_port(port, name, &serial, false);
+}
+
+/* A file, a folder or a disk is no port, for keys neither. */
+static void try_no_devices(const char *folder) {
+    static const kij_serial_settings serial = KIJ_SERIAL_SETTINGS;
+    char path[4096], name[64];
+    int other = posix_openpt(O_RDWR | O_NOCTTY);
+    snprintf(path, sizeof path, "%s/no-device", folder);
+    int file = open(path, O_RDWR | O_CREAT | O_CLOEXEC, 0600);
+    if (file < 0 || close(file) != 0 || other < 0 || grantpt(other) != 0 || unlockpt(other) != 0 ||
+        ptsname_r(other, name, sizeof name) != 0)
+        abort();
+    const struct {
+        const char *what, *path;
+        bool has_keys, is_disk;
+        int why;
+    } ports[] = {
+        {"a file", path, false, false, ENODEV}, {"a file with keys", path, true, false, ENODEV},
+        {"a folder", folder, false, false, EISDIR}, {"a folder with keys", folder, true, false, ENODEV},
+        {"a disk", name, false, true, ENODEV}, {"a disk with keys", name, true, true, ENODEV},
+        {"a line", name, false, false, 0}, {"a line with keys", name, true, false, 0},
+    };
+    for (size_t place = 0; place < sizeof ports / sizeof ports[0]; place++) {
+        kij_port port;
+        kij_internal_port(&port, ports[place].path, &serial, ports[place].has_keys);
+        is_disk = ports[place].is_disk;
+        told(ports[place].what, ports[place].why == 0, kij_internal_port_open(&port, 100));
+        is_disk = false;
+        told("why it isn't opened", ports[place].why, port.error);
+        kij_internal_port_close(&port);
+    }
+    close(other);
+}
+
+/* A program may have closed its standard streams. What it writes to one all the same gets into no file and no port. */
+static void try_closed_streams(const char *path) {
+    static const char said[] = "what a program says";
+    char name[64], copy[4200];
+    kij_port line, connection;
+    kij_till *till = NULL;
+    size_t needed = 0;
+    uint64_t place = 0;
+    int number = 0, status = 0, other = make_line(&line), listener = listen_here(8, &number);
+    make_tcp(&connection, name, sizeof name, number);
+    snprintf(copy, sizeof copy, "%s.copy", path);
+    fflush(stdout);
+    for (int flags = KIJ_CREATE_NEW; flags >= KIJ_EXISTING; flags -= KIJ_CREATE_NEW) {
+        pid_t child = fork();
+        if (child == 0) {
+            close(STDERR_FILENO);
+            kij_result result = kij_open(NULL, path, flags, &till);
+            ssize_t size = write(STDERR_FILENO, said, sizeof said);
+            kij_close(till);
+            _exit(result.code != KIJ_OK ? result.code : size >= 0);
+        }
+        told("a till of a program without a stream", child, waitpid(child, &status, 0));
+        told("it has a file, and nothing is written to the stream", 0, status);
+        told("the file is sound", KIJ_OK, kij_files(path, NULL, 0, &needed, &place).code);
+    }
+    said_meanwhile = said;
+    pid_t child = fork();
+    if (child == 0) {
+        close(STDERR_FILENO);
+        if (kij_backup(path, copy).code != KIJ_OK) _exit(1);
+        bool is_open = kij_internal_port_open(&line, 100) && kij_internal_port_open(&connection, 1000);
+        _exit(!is_open || line.file <= STDERR_FILENO || connection.file <= STDERR_FILENO);
+    }
+    said_meanwhile = NULL;
+    told("such a program copies, and opens ports", child, waitpid(child, &status, 0));
+    told("nothing that it says gets there", 0, status);
+    told("the copy is sound", KIJ_OK, kij_files(copy, NULL, 0, &needed, &place).code);
+    close(listener);
+    close(other);
 }
 
 /* The keys of a scanner are other programs' again once the process that opened it closes it, though a process that was
@@ -1129,6 +1216,9 @@ int main(int count, char **words) {
     snprintf(forked, sizeof forked, "%s/totals-of-two", words[1]);
     try_forked_totals(forked);
     try_forked_connection();
+    try_no_devices(words[1]);
+    snprintf(other, sizeof other, "%s/totals-without-streams", words[1]);
+    try_closed_streams(other);
     try_forked_keys();
     try_read_ahead();
     try_hosts();
