@@ -6,6 +6,7 @@
 #include "kij_internal.h"
 #include <errno.h>
 #include <fcntl.h>
+#include <limits.h>
 #include <stdio.h>
 #include <stdlib.h>
 #include <string.h>
@@ -176,14 +177,16 @@ static int open_locked(const char *path, int *file) {
 }
 
 /* Opens a file that is there, locks it, and syncs it. Its folder is synced too, since a creation that was killed may
-   have named the file and not synced its name. */
+   have named the file and not synced its name. The file of a link may be in another folder than the link. */
 static int open_existing(const char *path, int *file) {
     const char *name;
+    char found[PATH_MAX];
     int folder;
     int why = open_locked(path, file);
     if (why != 0) return why;
     why = kij_internal_sync_first(*file);
-    if (why == 0) why = open_folder(path, &name, &folder);
+    if (why == 0 && realpath(path, found) == NULL) why = errno;
+    if (why == 0) why = open_folder(found, &name, &folder);
     if (why != 0) return dropped(*file, why);
     if (!kij_internal_is_synced(folder)) why = errno;
     close(folder);

@@ -34,6 +34,8 @@ static int changes;
 static char looked_up[100];
 /* What is written to the standard stream of errors behind each part of a file, or null. */
 static const char *said_meanwhile;
+/* The folder that was synced last. */
+static ino_t synced_folder;
 /* Whether each file that is opened is a disk. */
 static bool is_disk;
 /* Whether keys are kept from other programs, or -1, and which type of their events is left out. */
@@ -65,6 +67,8 @@ int __wrap_getaddrinfo(const char *host, const char *service, const struct addri
 
 /* Each file is synced the second time, if there is a signal the first time. */
 int __wrap_fsync(int file) {
+    struct stat found;
+    if (fstat(file, &found) == 0 && S_ISDIR(found.st_mode)) synced_folder = found.st_ino;
     syncs++;
     errno = sync_fault != 0 ? sync_fault : EINTR;
     return sync_fault != 0 || (is_partial && syncs % 2 == 1) ? -1 : __real_fsync(file);
@@ -1110,6 +1114,20 @@ static void try_totals(const char *path) {
     read_fault = 0;
 }
 
+/* A link leads to a file in another folder: that one is synced. */
+static void try_link(const char *folder) {
+    char inner[4096], path[4200], link[4200];
+    struct stat found;
+    snprintf(inner, sizeof inner, "%s/linked", folder);
+    snprintf(path, sizeof path, "%s/totals", inner);
+    snprintf(link, sizeof link, "%s/link", folder);
+    if (mkdir(inner, 0700) != 0 || symlink("linked/totals", link) != 0 || stat(inner, &found) != 0) abort();
+    open_totals("a file that a link leads to", path, KIJ_CREATE_NEW, KIJ_OK, 0);
+    synced_folder = 0;
+    open_totals("its link", link, KIJ_EXISTING, KIJ_OK, 0);
+    told("the folder of the file is synced", true, synced_folder == found.st_ino);
+}
+
 /* Why a file of totals failed stays the same. */
 static void try_disk_error(const char *path, int *fault, int why) {
     kij_till *till = NULL;
@@ -1237,6 +1255,7 @@ int main(int count, char **words) {
     try_texts(words[1]);
     try_reasons();
     try_totals(path);
+    try_link(words[1]);
     snprintf(forked, sizeof forked, "%s/totals-without-room", words[1]);
     try_disk_error(forked, &write_fault, ENOSPC);
     snprintf(forked, sizeof forked, "%s/totals-not-synced", words[1]);
