@@ -162,11 +162,12 @@ static int check_name(int file, const char *path) {
 }
 
 /* Opens a file that is there, and locks it. A program may have put another file in its place before it was locked, as
-   `kijolvar restore --replace` does: then that one is opened. */
+   `kijolvar restore --replace` does: then that one is opened. A path that leads to a serial line isn't waited for, and
+   that isn't this process's terminal from then on. */
 static int open_locked(const char *path, int *file) {
     int why = 0;
     for (int turn = 0; turn < MOST_TURNS; turn++) {
-        *file = kij_internal_off_streams(open(path, O_RDWR | O_CLOEXEC));
+        *file = kij_internal_off_streams(open(path, O_RDWR | O_NONBLOCK | O_NOCTTY | O_CLOEXEC));
         if (*file < 0) return errno;
         if (flock(*file, LOCK_EX | LOCK_NB) != 0) return dropped(*file, errno);
         why = check_name(*file, path);

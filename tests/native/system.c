@@ -423,6 +423,24 @@ static void try_forked(const char *path) {
     close(end);
 }
 
+/* A serial line in place of a file of totals doesn't become the terminal of the process. */
+static void try_line_as_totals(void) {
+    kij_port port;
+    int other = make_line(&port), line = also_open(&port), status = 0;
+    fflush(stdout);
+    pid_t child = fork();
+    if (child == 0) {
+        kij_till *till = NULL;
+        if (setsid() < 0) _exit(100);
+        kij_result result = kij_open(NULL, port.name, KIJ_EXISTING, &till);
+        _exit(open("/dev/tty", O_RDWR | O_NOCTTY | O_CLOEXEC) >= 0 ? 101 : result.extended);
+    }
+    told("a process without a terminal", child, waitpid(child, &status, 0));
+    told("opens a line as totals", ESPIPE, WIFEXITED(status) ? WEXITSTATUS(status) : -1);
+    close(line);
+    close(other);
+}
+
 /* Listens on this machine, where so many and one may wait: the file and the number of the port. */
 static int listen_here(int waiting, int *number) {
     struct sockaddr_in address;
@@ -1233,6 +1251,7 @@ int main(int count, char **words) {
     try_forked(forked);
     snprintf(forked, sizeof forked, "%s/totals-of-two", words[1]);
     try_forked_totals(forked);
+    try_line_as_totals();
     try_forked_connection();
     try_no_devices(words[1]);
     snprintf(other, sizeof other, "%s/totals-without-streams", words[1]);
