@@ -323,6 +323,7 @@ kij_result kij_new(kij_till *till, kij_category category, const char *name, kij_
  * displays and printers have to be claimed. If a step fails, its result is returned, and there is no control. To set
  * PowerNotify before the control is enabled, use kij_new, kij_control_open and kij_set_int.
  *
+ * @param claiming one of enum kij_claiming; it is no timeout: another number is KIJ_BAD_ARGUMENT
  * @return KIJ_E_NOEXIST or KIJ_E_NOSERVICE if there is no such device; KIJ_E_TIMEOUT or KIJ_E_CLAIMED if another
  * control has claimed it; KIJ_E_NOTCLAIMED if it has to be claimed; KIJ_E_NOHARDWARE or KIJ_E_FAILURE of totals; or
  * KIJ_FULL on failure
