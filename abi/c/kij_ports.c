@@ -316,11 +316,22 @@ static int begin_joining(kij_port *port) {
     return is_begun || errno == EINPROGRESS ? 0 : errno;
 }
 
+/* Whether a connection leads to itself. The system may give it the number of the port, if nobody listens there. */
+static bool is_own(int file) {
+    struct sockaddr_storage here, there;
+    socklen_t size = sizeof here, other_size = sizeof there;
+    memset(&here, 0, sizeof here);
+    memset(&there, 0, sizeof there);
+    return getsockname(file, (struct sockaddr *)&here, &size) == 0 &&
+           getpeername(file, (struct sockaddr *)&there, &other_size) == 0 && memcmp(&here, &there, sizeof here) == 0;
+}
+
 /* Connects to the address whose turn it is: 0, errno, or EINPROGRESS if it has time left after the end. */
 static int join(kij_port *port, int64_t end) {
     int why = port->is_joining ? 0 : begin_joining(port);
     if (why == 0) why = finish(port->joining, end < port->join_ends_at ? end : port->join_ends_at);
     if (why == EINPROGRESS && kij_internal_now() < port->join_ends_at) return why;
+    if (why == 0 && is_own(port->joining)) why = ECONNREFUSED;
     if (why == 0) why = set_up_tcp(port->joining, port->is_patient);
     if (why != 0) stop_joining(port);
     return why == EINPROGRESS ? ETIMEDOUT : why;

@@ -1,7 +1,7 @@
 /* Tries the layer of C where the system does something that no emulated device can bring about: a serial line that is
    pulled out before its bytes are out, processes that are forked, names that are looked up, signals, and files that are
    read and written in parts.
-   What is linked with it has -Wl,--wrap=.. for getaddrinfo, fsync, pread, pwrite, ioctl, tcflush and statx.
+   What is linked with it has -Wl,--wrap=.. for getaddrinfo, fsync, pread, pwrite, ioctl, tcflush, statx and socket.
 
    Usage: system FOLDER. It makes files in the folder, and prints what fails. Its status is 0 if nothing does. */
 #define _GNU_SOURCE
@@ -40,6 +40,8 @@ static ino_t synced_folder;
 static bool is_disk;
 /* Whether keys are kept from other programs, or -1, and which type of their events is left out. */
 static int is_grabbed = -1, left_out = -1;
+/* The number of the port that each socket of IPv4 gets on this machine, or 0. */
+static int own_number;
 /* How many bytes each line holds back. */
 static int held;
 
@@ -49,6 +51,7 @@ ssize_t __real_pread(int file, void *bytes, size_t size, off_t at);
 ssize_t __real_pwrite(int file, const void *bytes, size_t size, off_t at);
 int __real_ioctl(int file, unsigned long request, ...);
 int __real_tcflush(int file, int queue);
+int __real_socket(int domain, int type, int protocol);
 int __real_statx(int folder, const char *path, int flags, unsigned mask, struct statx *found);
 int __wrap_getaddrinfo(const char *host, const char *service, const struct addrinfo *wanted, struct addrinfo **found);
 int __wrap_ioctl(int file, unsigned long request, ...);
@@ -56,6 +59,7 @@ int __wrap_tcflush(int file, int queue);
 int __wrap_fsync(int file);
 ssize_t __wrap_pread(int file, void *bytes, size_t size, off_t at);
 ssize_t __wrap_pwrite(int file, const void *bytes, size_t size, off_t at);
+int __wrap_socket(int domain, int type, int protocol);
 int __wrap_statx(int folder, const char *path, int flags, unsigned mask, struct statx *found);
 
 int __wrap_getaddrinfo(const char *host, const char *service, const struct addrinfo *wanted, struct addrinfo **found) {
@@ -115,6 +119,17 @@ ssize_t __wrap_pwrite(int file, const void *bytes, size_t size, off_t at) {
     ssize_t count = size == 0 ? -1 : __real_pwrite(file, bytes, size, at);
     if (said_meanwhile != NULL) (void)!write(STDERR_FILENO, said_meanwhile, strlen(said_meanwhile));
     return count;
+}
+
+int __wrap_socket(int domain, int type, int protocol) {
+    struct sockaddr_in address;
+    int file = __real_socket(domain, type, protocol);
+    memset(&address, 0, sizeof address);
+    address.sin_family = AF_INET;
+    address.sin_addr.s_addr = htonl(INADDR_LOOPBACK);
+    address.sin_port = htons((uint16_t)own_number);
+    if (own_number != 0 && domain == AF_INET && bind(file, (struct sockaddr *)&address, sizeof address) != 0) abort();
+    return file;
 }
 
 int __wrap_statx(int folder, const char *path, int flags, unsigned mask, struct statx *found) {
@@ -534,6 +549,20 @@ static void try_closed_streams(const char *path) {
     told("the copy is sound", KIJ_OK, kij_files(copy, NULL, 0, &needed, &place).code);
     close(listener);
     close(other);
+}
+
+/* A connection to a port at which nobody listens may lead to itself, and keeps that port from others: it is none. */
+static void try_own_number(void) {
+    kij_port port;
+    char name[64];
+    int number = 0, listener = listen_here(8, &number);
+    close(listener);
+    make_tcp(&port, name, sizeof name, number);
+    own_number = number;
+    told("a connection to itself", false, kij_internal_port_open(&port, 1000));
+    own_number = 0;
+    told("nobody listens", ECONNREFUSED, port.error);
+    kij_internal_port_close(&port);
 }
 
 /* The keys of a scanner are other programs' again once the process that opened it closes it, though a process that was
@@ -1252,6 +1281,7 @@ int main(int count, char **words) {
     snprintf(forked, sizeof forked, "%s/totals-of-two", words[1]);
     try_forked_totals(forked);
     try_line_as_totals();
+    try_own_number();
     try_forked_connection();
     try_no_devices(words[1]);
     snprintf(other, sizeof other, "%s/totals-without-streams", words[1]);
