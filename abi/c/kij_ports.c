@@ -192,8 +192,9 @@ static int prepare(kij_port *port, int file) {
     /* fstat would need glibc 2.33. */
     struct statx found;
     if (statx(file, "", AT_EMPTY_PATH, STATX_TYPE, &found) != 0) return errno;
-    /* A file, a folder or a disk is no port. */
-    if (!S_ISCHR(found.stx_mode) && !S_ISFIFO(found.stx_mode)) return ENODEV;
+    /* A file, a folder or a disk is no port. Nor is a pipe, of which this program would read what it writes. */
+    bool may_be_pipe = port->kind == KIJ_PORT_KEYS;
+    if (!S_ISCHR(found.stx_mode) && !(may_be_pipe && S_ISFIFO(found.stx_mode))) return ENODEV;
     if (port->kind == KIJ_PORT_KEYS) {
         /* A pipe or a terminal has no keys to keep from other programs. */
         if (S_ISCHR(found.stx_mode) && ioctl(file, EVIOCGRAB, 1) != 0 && errno != ENOTTY && errno != EINVAL)

@@ -478,15 +478,16 @@ static void make_tcp(kij_port *port, char *name, size_t room, int number) {
     kij_internal_port(port, name, &serial, false);
 }
 
-/* A file, a folder or a disk is no port, for keys neither. */
+/* A file, a folder or a disk is no port, for keys neither. A pipe is one for keys alone. */
 static void try_no_devices(const char *folder) {
     static const kij_serial_settings serial = KIJ_SERIAL_SETTINGS;
-    char path[4096], name[64];
+    char path[4096], fifo[4096], name[64];
     int other = posix_openpt(O_RDWR | O_NOCTTY);
     snprintf(path, sizeof path, "%s/no-device", folder);
+    snprintf(fifo, sizeof fifo, "%s/pipe-of-keys", folder);
     int file = open(path, O_RDWR | O_CREAT | O_CLOEXEC, 0600);
-    if (file < 0 || close(file) != 0 || other < 0 || grantpt(other) != 0 || unlockpt(other) != 0 ||
-        ptsname_r(other, name, sizeof name) != 0)
+    if (file < 0 || close(file) != 0 || mkfifo(fifo, 0600) != 0 || other < 0 || grantpt(other) != 0 ||
+        unlockpt(other) != 0 || ptsname_r(other, name, sizeof name) != 0)
         abort();
     const struct {
         const char *what, *path;
@@ -496,6 +497,7 @@ static void try_no_devices(const char *folder) {
         {"a file", path, false, false, ENODEV}, {"a file with keys", path, true, false, ENODEV},
         {"a folder", folder, false, false, EISDIR}, {"a folder with keys", folder, true, false, ENODEV},
         {"a disk", name, false, true, ENODEV}, {"a disk with keys", name, true, true, ENODEV},
+        {"a pipe", fifo, false, false, ENODEV}, {"a pipe with keys", fifo, true, false, 0},
         {"a line", name, false, false, 0}, {"a line with keys", name, true, false, 0},
     };
     for (size_t place = 0; place < sizeof ports / sizeof ports[0]; place++) {
