@@ -207,7 +207,7 @@ static int format(int file, const char *profile) {
                                          KIJOLVAR_DISK_LENGTH, &till.inner.at);
     int why = code == KIJOLVAR_OK ? 0 : -kij_internal_code_of(code);
     if (code == KIJOLVAR_OK) {
-        /* All of it has its place on the disk from now on. */
+        /* All of it has its place on the disk from now on, but on Btrfs, which puts each change in a new one. */
         if (!is_written(file, till.errand, KIJOLVAR_DISK_LENGTH, 0)) why = errno;
         else if (kij_internal_settle(&till) != KIJOLVAR_OK) why = errno;
         kijolvar_close(till.inner);
