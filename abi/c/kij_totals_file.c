@@ -177,17 +177,22 @@ static int open_locked(const char *path, int *file) {
     return why;
 }
 
-/* Opens a file that is there, locks it, and syncs it. Its folder is synced too, since a creation that was killed may
-   have named the file and not synced its name. The file of a link may be in another folder than the link. */
-static int open_existing(const char *path, int *file) {
-    const char *name;
+/* Opens the folder that a path's file is in: where the path is a link, that of the file to which it leads. */
+static int open_folder_of_file(const char *path, int *folder) {
+    const char *name, *from = path;
     char found[PATH_MAX];
+    if (readlink(path, found, 1) > 0) from = realpath(path, found);
+    return from == NULL ? errno : open_folder(from, &name, folder);
+}
+
+/* Opens a file that is there, locks it, and syncs it. Its folder is synced too, since a creation that was killed may
+   have named the file and not synced its name. */
+static int open_existing(const char *path, int *file) {
     int folder;
     int why = open_locked(path, file);
     if (why != 0) return why;
     why = kij_internal_sync_first(*file);
-    if (why == 0 && realpath(path, found) == NULL) why = errno;
-    if (why == 0) why = open_folder(found, &name, &folder);
+    if (why == 0) why = open_folder_of_file(path, &folder);
     if (why != 0) return dropped(*file, why);
     if (!kij_internal_is_synced(folder)) why = errno;
     close(folder);
