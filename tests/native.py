@@ -2713,22 +2713,6 @@ def try_near():
             told("an order then", "err 114 203", host.line("call r printNormal 2 430a"))
 
 
-def try_near_of_spare():
-    """A spare is near its end at another number of lines than its device."""
-    with contextlib.ExitStack() as stack:
-        device = stack.enter_context(Printer(cable(), lines=100, near=70))
-        host = Host(stack, PROFILE + SPARE.replace("near = 20", "near = 5"))
-        told("a printer whose spare is near its end later", "ok",
-             host.ask(f"printer r1 {device.path} timeout {AMPLE} pause 10 lines 1000"))
-        told("the spare serves it", ["ok"] * 6, host.lines(
-            "detach r1", "attach r1 1", "new r POSPrinter", "open r r1", "claim r 0", "set r DeviceEnabled true"))
-        told("lines up to where the spare is near", "ok", host.line("call r printNormal 2 " + "410a" * 40))
-        told("the spare is near", True,
-             until(lambda: host.ask("run 10") and host.line("get r RecNearEnd") == "ok true"))
-        told("what the till counts with for the spare", "5", host.line("show r1").split()[2])
-        told("as many lines of the spare", "ok", host.line("call r printNormal 2 " + "420a" * 5))
-
-
 def try_refusals():
     """What can't be opened."""
     with contextlib.ExitStack() as stack:

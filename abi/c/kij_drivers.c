@@ -103,34 +103,6 @@ static void settle_drawer(kij_drive *drive, kij_buffer *lines, size_t from) {
     else if (is_closed) lines->size -= size;
 }
 
-/* Whether settings fit the device, which is a printer or a drawer: a code of enum kij_code. */
-static int settings_code(kij_till *till, const kij_drive *drive, const kijolvar_wire_settings *wire) {
-    size_t used = 0, skipped = 0, needed = 0;
-    switch (kijolvar_replies(till->inner, &till->inner.at, (const uint8_t *)drive->name.text + 1, drive->name.size - 1,
-                             wire, 0, NULL, 0, &used, &skipped, NULL, 0, &needed)) {
-    case KIJOLVAR_OK: return KIJ_OK;
-    case KIJOLVAR_NO_MEMORY: return KIJ_NO_MEMORY;
-    case KIJOLVAR_BAD_SETTINGS: return KIJ_BAD_SETTINGS;
-    default: return KIJ_NO_DEVICE;
-    }
-}
-
-/* Finds out at how many lines a printer is near its end, whose settings fit: the library takes no roll that is as short
-   as that. A spare may have another number than its device. A code of enum kij_code. */
-static int find_near(kij_till *till, kij_drive *drive) {
-    kijolvar_wire_settings wire = drive->wire;
-    uint32_t refused = 0, taken = wire.lines;
-    while (taken - refused > 1) {
-        wire.lines = refused + (taken - refused) / 2;
-        int code = settings_code(till, drive, &wire);
-        if (code == KIJ_OK) taken = wire.lines;
-        else if (code == KIJ_BAD_SETTINGS) refused = wire.lines;
-        else return code;
-    }
-    drive->near = refused;
-    return KIJ_OK;
-}
-
 /* Whether so many lines of a long roll are counted down that the next order might end near its end, though the sensors
    may still see enough paper. */
 static bool is_counted_down(const kij_drive *drive) {
@@ -174,9 +146,7 @@ static bool add_told(kij_till *till, kij_drive *drive, kij_buffer *lines) {
             !add_inputs(lines, from, text))
             return false;
     if (drive->category == KIJ_CASH_DRAWER) settle_drawer(drive, lines, from);
-    if (drive->category != KIJ_POS_PRINTER || link->told_count == 0) return true;
-    if (!drive->belief.is_known && find_near(till, drive) == KIJ_NO_MEMORY) return false;
-    return add_paper(drive, lines, from);
+    return drive->category != KIJ_POS_PRINTER || link->told_count == 0 || add_paper(drive, lines, from);
 }
 
 /* Adds what a driver of the caller's says has happened. A text that isn't told yet is first. Whether there is memory.
@@ -1051,6 +1021,34 @@ static int make_drive(kij_till *till, const char *device, kij_category category,
     return KIJ_OK;
 }
 
+/* Whether settings fit the device, which is a printer or a drawer: a code of enum kij_code. */
+static int settings_code(kij_till *till, const kij_drive *drive, const kijolvar_wire_settings *wire) {
+    size_t used = 0, skipped = 0, needed = 0;
+    switch (kijolvar_replies(till->inner, &till->inner.at, (const uint8_t *)drive->name.text + 1, drive->name.size - 1,
+                             wire, 0, NULL, 0, &used, &skipped, NULL, 0, &needed)) {
+    case KIJOLVAR_OK: return KIJ_OK;
+    case KIJOLVAR_NO_MEMORY: return KIJ_NO_MEMORY;
+    case KIJOLVAR_BAD_SETTINGS: return KIJ_BAD_SETTINGS;
+    default: return KIJ_NO_DEVICE;
+    }
+}
+
+/* Finds out at how many lines a printer is near its end, whose settings fit: the library takes no roll that is as short
+   as that. A code of enum kij_code. */
+static int find_near(kij_till *till, kij_drive *drive) {
+    kijolvar_wire_settings wire = drive->wire;
+    uint32_t refused = 0, taken = wire.lines;
+    while (taken - refused > 1) {
+        wire.lines = refused + (taken - refused) / 2;
+        int code = settings_code(till, drive, &wire);
+        if (code == KIJ_OK) taken = wire.lines;
+        else if (code == KIJ_BAD_SETTINGS) refused = wire.lines;
+        else return code;
+    }
+    drive->near = refused;
+    return KIJ_OK;
+}
+
 /* Makes the orders of a device wait from now on: a code of enum kij_code. */
 static int begin_drive(kij_till *till, const kij_drive *drive) {
     switch (kijolvar_drive(till->inner, &till->inner.at, (const uint8_t *)drive->name.text + 1, drive->name.size - 1)) {
@@ -1191,6 +1189,7 @@ static int open_printer(kij_till *till, const char *device, const char *port, co
     if (code != KIJ_OK) return code;
     (*printer)->wire = wire;
     code = settings_code(till, *printer, &wire);
+    if (code == KIJ_OK) code = find_near(till, *printer);
     if (code == KIJ_OK && !make_link(till, *printer, port, settings)) code = KIJ_NO_MEMORY;
     if (code == KIJ_OK && settings->drawer != NULL) {
         code = make_drive(till, settings->drawer, KIJ_CASH_DRAWER, drawer);
