@@ -323,6 +323,7 @@ kij_result kij_new(kij_till *till, kij_category category, const char *name, kij_
  * displays and printers have to be claimed. If a step fails, its result is returned, and there is no control. To set
  * PowerNotify before the control is enabled, use kij_new, kij_control_open and kij_set_int.
  *
+ * @param claiming one of enum kij_claiming; it is no timeout: another number is KIJ_BAD_ARGUMENT
  * @return KIJ_E_NOEXIST or KIJ_E_NOSERVICE if there is no such device; KIJ_E_TIMEOUT or KIJ_E_CLAIMED if another
  * control has claimed it; KIJ_E_NOTCLAIMED if it has to be claimed; KIJ_E_NOHARDWARE or KIJ_E_FAILURE of totals; or
  * KIJ_FULL on failure
@@ -519,7 +520,8 @@ kij_result kij_show_printer(kij_till *till, const char *device, kij_printer_view
 bool kij_next_printed(kij_printer_view *view, kij_printed *printed);
 
 /** A spare of the profile, by its number from 1 on, serves the device from now on. If the device has a driver, that
- * carries out the spare's orders. KIJ_BAD_SPARE, KIJ_UNKNOWN, KIJ_IN_USE or KIJ_KIND_DIFFERS on failure. */
+ * carries out the spare's orders, but for one with `flaky`. KIJ_BAD_SPARE, KIJ_UNKNOWN, KIJ_IN_USE or KIJ_KIND_DIFFERS
+ * on failure. */
 kij_result kij_attach(kij_till *till, const char *device, int64_t spare);
 
 /** The device has no peripheral from now on. KIJ_UNKNOWN, KIJ_VACANT or KIJ_IN_USE on failure. */
@@ -557,8 +559,8 @@ typedef struct kij_order {
     int percentage;
 } kij_order;
 
-/** Says that you have this device as hardware: its orders come by kij_next_order from now on (abi/README.md).
- * KIJ_NO_DEVICE if the profile has no such device, or it is the totals. */
+/** Says that you have this device as hardware: its orders come by kij_next_order from now on (abi/README.md), unless it
+ * has a driver. KIJ_NO_DEVICE if the profile has no such device, or it is the totals. */
 kij_result kij_host(kij_till *till, const char *device);
 
 /** Takes out the oldest order of the devices that you have, or writes KIJ_NO_ORDER. Take them out after each call. */
@@ -827,7 +829,8 @@ typedef struct kij_driver_view {
     /** Whether its port is open, and a printer answers. */
     bool is_online;
     /** Why the port couldn't be opened or was lost the last time (errno); 0 if neither ever happened. EBUSY is a serial
-     * line that another till or program has open. EHOSTUNREACH may be a host whose name isn't found. */
+     * line that another till or program has open. EHOSTUNREACH may be a host whose name isn't found, and ENODEV a path
+     * that leads to a file and to no device. */
     int port_error;
     /** How many orders a printer has printed after they had failed, and weren't asked for again: another order came
      * next, or the application gave them up. It had got them before it stopped, and there is no command that takes them

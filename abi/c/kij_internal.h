@@ -310,6 +310,10 @@ int kij_internal_open_till(kij_till *till, const char *profile);
 /* Moves the totals in a file to layout 2: 0, or errno, or a code of enum kij_code with a minus. */
 int kij_internal_move_file(const char *path);
 
+/* Gives an open file a number behind those of the standard streams. A program that has closed one of these, and writes
+   to it all the same, would write into the file. The number, or -1 and errno says why; it may be given -1. */
+int kij_internal_off_streams(int file);
+
 /* Whether a file or a folder is synced, whatever signals come; else errno says why. */
 bool kij_internal_is_synced(int file);
 

@@ -192,6 +192,9 @@ static int prepare(kij_port *port, int file) {
     /* fstat would need glibc 2.33. */
     struct statx found;
     if (statx(file, "", AT_EMPTY_PATH, STATX_TYPE, &found) != 0) return errno;
+    /* A file, a folder or a disk is no port. Nor is a pipe, of which this program would read what it writes. */
+    bool may_be_pipe = port->kind == KIJ_PORT_KEYS;
+    if (!S_ISCHR(found.stx_mode) && !(may_be_pipe && S_ISFIFO(found.stx_mode))) return ENODEV;
     if (port->kind == KIJ_PORT_KEYS) {
         /* A pipe or a terminal has no keys to keep from other programs. */
         if (S_ISCHR(found.stx_mode) && ioctl(file, EVIOCGRAB, 1) != 0 && errno != ENOTTY && errno != EINVAL)
@@ -200,7 +203,6 @@ static int prepare(kij_port *port, int file) {
         port->ends_empty = true;
         return isatty(file) ? set_up_own(file, port) : 0;
     }
-    if (S_ISREG(found.stx_mode)) return ENODEV;
     /* A printer on USB may send packets with nothing in them. */
     port->ends_empty = isatty(file) != 0;
     return port->ends_empty ? set_up_own(file, port) : 0;
@@ -209,7 +211,7 @@ static int prepare(kij_port *port, int file) {
 /* Opens a device file: 0 or errno. */
 static int open_file(kij_port *port, int *file) {
     int way = port->kind == KIJ_PORT_KEYS ? O_RDONLY : O_RDWR;
-    *file = open(port->name, way | O_NONBLOCK | O_NOCTTY | O_CLOEXEC);
+    *file = kij_internal_off_streams(open(port->name, way | O_NONBLOCK | O_NOCTTY | O_CLOEXEC));
     if (*file < 0) return errno;
     int why = prepare(port, *file);
     if (why != 0) close(*file);
@@ -306,7 +308,8 @@ static int begin_joining(kij_port *port) {
     int64_t least = port->joins_time * left / (int64_t)port->address_count;
     if (port->joins_end_at - now < least) port->joins_end_at = now + least;
     port->join_ends_at = now + (port->joins_end_at - now) / left;
-    port->joining = socket(address->place.ss_family, SOCK_STREAM | SOCK_NONBLOCK | SOCK_CLOEXEC, 0);
+    int file = socket(address->place.ss_family, SOCK_STREAM | SOCK_NONBLOCK | SOCK_CLOEXEC, 0);
+    port->joining = kij_internal_off_streams(file);
     if (port->joining < 0) return errno;
     port->is_joining = true;
     port->process = getpid();
@@ -314,11 +317,22 @@ static int begin_joining(kij_port *port) {
     return is_begun || errno == EINPROGRESS ? 0 : errno;
 }
 
+/* Whether a connection leads to itself. The system may give it the number of the port, if nobody listens there. */
+static bool is_own(int file) {
+    struct sockaddr_storage here, there;
+    socklen_t size = sizeof here, other_size = sizeof there;
+    memset(&here, 0, sizeof here);
+    memset(&there, 0, sizeof there);
+    return getsockname(file, (struct sockaddr *)&here, &size) == 0 &&
+           getpeername(file, (struct sockaddr *)&there, &other_size) == 0 && memcmp(&here, &there, sizeof here) == 0;
+}
+
 /* Connects to the address whose turn it is: 0, errno, or EINPROGRESS if it has time left after the end. */
 static int join(kij_port *port, int64_t end) {
     int why = port->is_joining ? 0 : begin_joining(port);
     if (why == 0) why = finish(port->joining, end < port->join_ends_at ? end : port->join_ends_at);
     if (why == EINPROGRESS && kij_internal_now() < port->join_ends_at) return why;
+    if (why == 0 && is_own(port->joining)) why = ECONNREFUSED;
     if (why == 0) why = set_up_tcp(port->joining, port->is_patient);
     if (why != 0) stop_joining(port);
     return why == EINPROGRESS ? ETIMEDOUT : why;

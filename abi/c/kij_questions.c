@@ -36,15 +36,17 @@ kij_result kij_profile_mistake(const char *profile, kij_mistake *mistake) {
     /* No place: the library writes one where the text stops being TOML. */
     uint64_t at = UINT64_MAX;
     size_t needed = 0;
+    kij_mistake found;
     if (mistake == NULL) return plain(KIJ_BAD_ARGUMENT);
     if (!is_of_version()) return plain(KIJ_WRONG_VERSION);
     profile = kij_internal_profile(profile);
-    memset(mistake, 0, sizeof *mistake);
-    uint32_t code = kijolvar_profile_mistake((const uint8_t *)profile, size_of(profile), &at,
-                                             (uint8_t *)mistake->reason, sizeof mistake->reason - 1, &needed);
-    if (code == KIJOLVAR_OK || code == KIJOLVAR_NO_MEMORY) return plain((int)code);
-    if (at != UINT64_MAX) place_in(profile, (size_t)at, mistake);
-    return plain(KIJ_BAD_PROFILE);
+    memset(&found, 0, sizeof found);
+    uint32_t code = kijolvar_profile_mistake((const uint8_t *)profile, size_of(profile), &at, (uint8_t *)found.reason,
+                                             sizeof found.reason - 1, &needed);
+    if (code == KIJOLVAR_NO_MEMORY) return plain(KIJ_NO_MEMORY);
+    if (at != UINT64_MAX) place_in(profile, (size_t)at, &found);
+    *mistake = found;
+    return plain(code == KIJOLVAR_OK ? KIJ_OK : KIJ_BAD_PROFILE);
 }
 
 /* The category of a word. */
@@ -119,9 +121,11 @@ static int read_file(int file, uint8_t **bytes, size_t *size) {
 /* What the library says of the bytes of a file. */
 static kij_result survey(const uint8_t *bytes, size_t size, char *text, size_t room, size_t *needed, uint64_t *place) {
     uint64_t at = UINT64_MAX;
-    *needed = 0;
-    uint32_t code = kijolvar_survey(bytes, size, &at, (uint8_t *)text, room > 0 ? room - 1 : 0, needed);
-    if (room > 0) text[*needed < room ? *needed : room - 1] = 0;
+    size_t count = 0;
+    uint32_t code = kijolvar_survey(bytes, size, &at, (uint8_t *)text, room > 0 ? room - 1 : 0, &count);
+    if (code == KIJOLVAR_NO_MEMORY) return plain(KIJ_NO_MEMORY);
+    *needed = count;
+    if (room > 0) text[count < room ? count : room - 1] = 0;
     if (at == UINT64_MAX) return plain(code == KIJOLVAR_SHORT ? KIJ_OK : kij_internal_code_of(code));
     *place = at;
     return plain(KIJ_DAMAGED);

@@ -288,7 +288,8 @@ kij_result kij_new(kij_till *till, kij_category category, const char *name, kij_
 
 kij_result kij_start(kij_till *till, kij_category category, const char *device, int claiming, kij_control **control) {
     kij_control *made;
-    if (control == NULL) return kij_internal_result(KIJ_BAD_ARGUMENT, 0, category);
+    if (control == NULL || (claiming != KIJ_UNCLAIMED && claiming != KIJ_CLAIMED))
+        return kij_internal_result(KIJ_BAD_ARGUMENT, 0, category);
     kij_result result = kij_new(till, category, NULL, &made);
     if (result.code != KIJ_OK) return result;
     result = kij_control_open(made, device);

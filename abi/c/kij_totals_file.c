@@ -6,6 +6,7 @@
 #include "kij_internal.h"
 #include <errno.h>
 #include <fcntl.h>
+#include <limits.h>
 #include <stdio.h>
 #include <stdlib.h>
 #include <string.h>
@@ -15,6 +16,15 @@
 
 /* How often a file is opened in whose place a program puts another one before it is locked. */
 enum { MOST_TURNS = 10 };
+
+int kij_internal_off_streams(int file) {
+    if (file < 0 || file > STDERR_FILENO) return file;
+    int moved = fcntl(file, F_DUPFD_CLOEXEC, STDERR_FILENO + 1);
+    int why = errno;
+    close(file);
+    errno = why;
+    return moved;
+}
 
 /* Whether all of the bytes are written to a place of a file; else errno says why. */
 static bool is_written(int file, const uint8_t *bytes, size_t size, uint64_t at) {
@@ -152,11 +162,12 @@ static int check_name(int file, const char *path) {
 }
 
 /* Opens a file that is there, and locks it. A program may have put another file in its place before it was locked, as
-   `kijolvar restore --replace` does: then that one is opened. */
+   `kijolvar restore --replace` does: then that one is opened. A path that leads to a serial line isn't waited for, and
+   that isn't this process's terminal from then on. */
 static int open_locked(const char *path, int *file) {
     int why = 0;
     for (int turn = 0; turn < MOST_TURNS; turn++) {
-        *file = open(path, O_RDWR | O_CLOEXEC);
+        *file = kij_internal_off_streams(open(path, O_RDWR | O_NONBLOCK | O_NOCTTY | O_CLOEXEC));
         if (*file < 0) return errno;
         if (flock(*file, LOCK_EX | LOCK_NB) != 0) return dropped(*file, errno);
         why = check_name(*file, path);
@@ -166,15 +177,22 @@ static int open_locked(const char *path, int *file) {
     return why;
 }
 
+/* Opens the folder that a path's file is in: where the path is a link, that of the file to which it leads. */
+static int open_folder_of_file(const char *path, int *folder) {
+    const char *name, *from = path;
+    char found[PATH_MAX];
+    if (readlink(path, found, 1) > 0) from = realpath(path, found);
+    return from == NULL ? errno : open_folder(from, &name, folder);
+}
+
 /* Opens a file that is there, locks it, and syncs it. Its folder is synced too, since a creation that was killed may
    have named the file and not synced its name. */
 static int open_existing(const char *path, int *file) {
-    const char *name;
     int folder;
     int why = open_locked(path, file);
     if (why != 0) return why;
     why = kij_internal_sync_first(*file);
-    if (why == 0) why = open_folder(path, &name, &folder);
+    if (why == 0) why = open_folder_of_file(path, &folder);
     if (why != 0) return dropped(*file, why);
     if (!kij_internal_is_synced(folder)) why = errno;
     close(folder);
@@ -194,7 +212,7 @@ static int format(int file, const char *profile) {
                                          KIJOLVAR_DISK_LENGTH, &till.inner.at);
     int why = code == KIJOLVAR_OK ? 0 : -kij_internal_code_of(code);
     if (code == KIJOLVAR_OK) {
-        /* All of it has its place on the disk from now on. */
+        /* All of it has its place on the disk from now on, but on Btrfs, which puts each change in a new one. */
         if (!is_written(file, till.errand, KIJOLVAR_DISK_LENGTH, 0)) why = errno;
         else if (kij_internal_settle(&till) != KIJOLVAR_OK) why = errno;
         kijolvar_close(till.inner);
@@ -218,7 +236,7 @@ static int create_new(const char *path, const char *profile, int *file) {
     int folder;
     int why = open_folder(path, &name, &folder);
     if (why != 0) return why;
-    *file = openat(folder, ".", O_RDWR | O_TMPFILE | O_CLOEXEC, 0600);
+    *file = kij_internal_off_streams(openat(folder, ".", O_RDWR | O_TMPFILE | O_CLOEXEC, 0600));
     if (*file < 0) return dropped(folder, errno);
     if (flock(*file, LOCK_EX | LOCK_NB) != 0) why = errno;
     if (why == 0) why = format(*file, profile);
@@ -240,8 +258,9 @@ int kij_internal_open_file(const char *path, int flags, const char *profile, int
 static int write_part(int folder, const char *part, const uint8_t *bytes, size_t size) {
     int file = openat(folder, part, O_WRONLY | O_CREAT | O_EXCL | O_CLOEXEC, 0600);
     if (file < 0) return errno;
-    int why = is_written(file, bytes, size, 0) && kij_internal_is_synced(file) ? 0 : errno;
-    close(file);
+    file = kij_internal_off_streams(file);
+    int why = file >= 0 && is_written(file, bytes, size, 0) && kij_internal_is_synced(file) ? 0 : errno;
+    if (file >= 0) close(file);
     if (why != 0) (void)unlinkat(folder, part, 0);
     return why;
 }

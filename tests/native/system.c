@@ -1,7 +1,7 @@
 /* Tries the layer of C where the system does something that no emulated device can bring about: a serial line that is
    pulled out before its bytes are out, processes that are forked, names that are looked up, signals, and files that are
    read and written in parts.
-   What is linked with it has -Wl,--wrap=getaddrinfo,--wrap=fsync,--wrap=pread,--wrap=pwrite,--wrap=ioctl,--wrap=tcflush.
+   What is linked with it has -Wl,--wrap=.. for getaddrinfo, fsync, pread, pwrite, ioctl, tcflush, statx and socket.
 
    Usage: system FOLDER. It makes files in the folder, and prints what fails. Its status is 0 if nothing does. */
 #define _GNU_SOURCE
@@ -32,8 +32,16 @@ static bool is_partial;
 /* How often a file is read from its beginning with another byte each time; always if it is less than 0. */
 static int changes;
 static char looked_up[100];
+/* What is written to the standard stream of errors behind each part of a file, or null. */
+static const char *said_meanwhile;
+/* The folder that was synced last. */
+static ino_t synced_folder;
+/* Whether each file that is opened is a disk. */
+static bool is_disk;
 /* Whether keys are kept from other programs, or -1, and which type of their events is left out. */
 static int is_grabbed = -1, left_out = -1;
+/* The number of the port that each socket of IPv4 gets on this machine, or 0. */
+static int own_number;
 /* How many bytes each line holds back. */
 static int held;
 
@@ -43,12 +51,16 @@ ssize_t __real_pread(int file, void *bytes, size_t size, off_t at);
 ssize_t __real_pwrite(int file, const void *bytes, size_t size, off_t at);
 int __real_ioctl(int file, unsigned long request, ...);
 int __real_tcflush(int file, int queue);
+int __real_socket(int domain, int type, int protocol);
+int __real_statx(int folder, const char *path, int flags, unsigned mask, struct statx *found);
 int __wrap_getaddrinfo(const char *host, const char *service, const struct addrinfo *wanted, struct addrinfo **found);
 int __wrap_ioctl(int file, unsigned long request, ...);
 int __wrap_tcflush(int file, int queue);
 int __wrap_fsync(int file);
 ssize_t __wrap_pread(int file, void *bytes, size_t size, off_t at);
 ssize_t __wrap_pwrite(int file, const void *bytes, size_t size, off_t at);
+int __wrap_socket(int domain, int type, int protocol);
+int __wrap_statx(int folder, const char *path, int flags, unsigned mask, struct statx *found);
 
 int __wrap_getaddrinfo(const char *host, const char *service, const struct addrinfo *wanted, struct addrinfo **found) {
     lookups++;
@@ -59,6 +71,8 @@ int __wrap_getaddrinfo(const char *host, const char *service, const struct addri
 
 /* Each file is synced the second time, if there is a signal the first time. */
 int __wrap_fsync(int file) {
+    struct stat found;
+    if (fstat(file, &found) == 0 && S_ISDIR(found.st_mode)) synced_folder = found.st_ino;
     syncs++;
     errno = sync_fault != 0 ? sync_fault : EINTR;
     return sync_fault != 0 || (is_partial && syncs % 2 == 1) ? -1 : __real_fsync(file);
@@ -102,7 +116,26 @@ ssize_t __wrap_pread(int file, void *bytes, size_t size, off_t at) {
 
 ssize_t __wrap_pwrite(int file, const void *bytes, size_t size, off_t at) {
     size = part(size, write_fault);
-    return size == 0 ? -1 : __real_pwrite(file, bytes, size, at);
+    ssize_t count = size == 0 ? -1 : __real_pwrite(file, bytes, size, at);
+    if (said_meanwhile != NULL) (void)!write(STDERR_FILENO, said_meanwhile, strlen(said_meanwhile));
+    return count;
+}
+
+int __wrap_socket(int domain, int type, int protocol) {
+    struct sockaddr_in address;
+    int file = __real_socket(domain, type, protocol);
+    memset(&address, 0, sizeof address);
+    address.sin_family = AF_INET;
+    address.sin_addr.s_addr = htonl(INADDR_LOOPBACK);
+    address.sin_port = htons((uint16_t)own_number);
+    if (own_number != 0 && domain == AF_INET && bind(file, (struct sockaddr *)&address, sizeof address) != 0) abort();
+    return file;
+}
+
+int __wrap_statx(int folder, const char *path, int flags, unsigned mask, struct statx *found) {
+    int result = __real_statx(folder, path, flags, mask, found);
+    if (is_disk) found->stx_mode = (uint16_t)((found->stx_mode & ~S_IFMT) | S_IFBLK);
+    return result;
 }
 
 /* Whether two numbers are the same. */
@@ -405,6 +438,24 @@ static void try_forked(const char *path) {
     close(end);
 }
 
+/* A serial line in place of a file of totals doesn't become the terminal of the process. */
+static void try_line_as_totals(void) {
+    kij_port port;
+    int other = make_line(&port), line = also_open(&port), status = 0;
+    fflush(stdout);
+    pid_t child = fork();
+    if (child == 0) {
+        kij_till *till = NULL;
+        if (setsid() < 0) _exit(100);
+        kij_result result = kij_open(NULL, port.name, KIJ_EXISTING, &till);
+        _exit(open("/dev/tty", O_RDWR | O_NOCTTY | O_CLOEXEC) >= 0 ? 101 : result.extended);
+    }
+    told("a process without a terminal", child, waitpid(child, &status, 0));
+    told("opens a line as totals", ESPIPE, WIFEXITED(status) ? WEXITSTATUS(status) : -1);
+    close(line);
+    close(other);
+}
+
 /* Listens on this machine, where so many and one may wait: the file and the number of the port. */
 static int listen_here(int waiting, int *number) {
     struct sockaddr_in address;
@@ -425,6 +476,95 @@ static void make_tcp(kij_port *port, char *name, size_t room, int number) {
     static const kij_serial_settings serial = KIJ_SERIAL_SETTINGS;
     snprintf(name, room, "tcp:localhost:%d", number);
     kij_internal_port(port, name, &serial, false);
+}
+
+/* A file, a folder or a disk is no port, for keys neither. A pipe is one for keys alone. */
+static void try_no_devices(const char *folder) {
+    static const kij_serial_settings serial = KIJ_SERIAL_SETTINGS;
+    char path[4096], fifo[4096], name[64];
+    int other = posix_openpt(O_RDWR | O_NOCTTY);
+    snprintf(path, sizeof path, "%s/no-device", folder);
+    snprintf(fifo, sizeof fifo, "%s/pipe-of-keys", folder);
+    int file = open(path, O_RDWR | O_CREAT | O_CLOEXEC, 0600);
+    if (file < 0 || close(file) != 0 || mkfifo(fifo, 0600) != 0 || other < 0 || grantpt(other) != 0 ||
+        unlockpt(other) != 0 || ptsname_r(other, name, sizeof name) != 0)
+        abort();
+    const struct {
+        const char *what, *path;
+        bool has_keys, is_disk;
+        int why;
+    } ports[] = {
+        {"a file", path, false, false, ENODEV}, {"a file with keys", path, true, false, ENODEV},
+        {"a folder", folder, false, false, EISDIR}, {"a folder with keys", folder, true, false, ENODEV},
+        {"a disk", name, false, true, ENODEV}, {"a disk with keys", name, true, true, ENODEV},
+        {"a pipe", fifo, false, false, ENODEV}, {"a pipe with keys", fifo, true, false, 0},
+        {"a line", name, false, false, 0}, {"a line with keys", name, true, false, 0},
+    };
+    for (size_t place = 0; place < sizeof ports / sizeof ports[0]; place++) {
+        kij_port port;
+        kij_internal_port(&port, ports[place].path, &serial, ports[place].has_keys);
+        is_disk = ports[place].is_disk;
+        told(ports[place].what, ports[place].why == 0, kij_internal_port_open(&port, 100));
+        is_disk = false;
+        told("why it isn't opened", ports[place].why, port.error);
+        kij_internal_port_close(&port);
+    }
+    close(other);
+}
+
+/* A program may have closed its standard streams. What it writes to one all the same gets into no file and no port. */
+static void try_closed_streams(const char *path) {
+    static const char said[] = "what a program says";
+    char name[64], copy[4200];
+    kij_port line, connection;
+    kij_till *till = NULL;
+    size_t needed = 0;
+    uint64_t place = 0;
+    int number = 0, status = 0, other = make_line(&line), listener = listen_here(8, &number);
+    make_tcp(&connection, name, sizeof name, number);
+    snprintf(copy, sizeof copy, "%s.copy", path);
+    fflush(stdout);
+    for (int flags = KIJ_CREATE_NEW; flags >= KIJ_EXISTING; flags -= KIJ_CREATE_NEW) {
+        pid_t child = fork();
+        if (child == 0) {
+            close(STDERR_FILENO);
+            kij_result result = kij_open(NULL, path, flags, &till);
+            ssize_t size = write(STDERR_FILENO, said, sizeof said);
+            kij_close(till);
+            _exit(result.code != KIJ_OK ? result.code : size >= 0);
+        }
+        told("a till of a program without a stream", child, waitpid(child, &status, 0));
+        told("it has a file, and nothing is written to the stream", 0, status);
+        told("the file is sound", KIJ_OK, kij_files(path, NULL, 0, &needed, &place).code);
+    }
+    said_meanwhile = said;
+    pid_t child = fork();
+    if (child == 0) {
+        close(STDERR_FILENO);
+        if (kij_backup(path, copy).code != KIJ_OK) _exit(1);
+        bool is_open = kij_internal_port_open(&line, 100) && kij_internal_port_open(&connection, 1000);
+        _exit(!is_open || line.file <= STDERR_FILENO || connection.file <= STDERR_FILENO);
+    }
+    said_meanwhile = NULL;
+    told("such a program copies, and opens ports", child, waitpid(child, &status, 0));
+    told("nothing that it says gets there", 0, status);
+    told("the copy is sound", KIJ_OK, kij_files(copy, NULL, 0, &needed, &place).code);
+    close(listener);
+    close(other);
+}
+
+/* A connection to a port at which nobody listens may lead to itself, and keeps that port from others: it is none. */
+static void try_own_number(void) {
+    kij_port port;
+    char name[64];
+    int number = 0, listener = listen_here(8, &number);
+    close(listener);
+    make_tcp(&port, name, sizeof name, number);
+    own_number = number;
+    told("a connection to itself", false, kij_internal_port_open(&port, 1000));
+    own_number = 0;
+    told("nobody listens", ECONNREFUSED, port.error);
+    kij_internal_port_close(&port);
 }
 
 /* The keys of a scanner are other programs' again once the process that opened it closes it, though a process that was
@@ -1023,6 +1163,20 @@ static void try_totals(const char *path) {
     read_fault = 0;
 }
 
+/* A link leads to a file in another folder: that one is synced. */
+static void try_link(const char *folder) {
+    char inner[4096], path[4200], link[4200];
+    struct stat found;
+    snprintf(inner, sizeof inner, "%s/linked", folder);
+    snprintf(path, sizeof path, "%s/totals", inner);
+    snprintf(link, sizeof link, "%s/link", folder);
+    if (mkdir(inner, 0700) != 0 || symlink("linked/totals", link) != 0 || stat(inner, &found) != 0) abort();
+    open_totals("a file that a link leads to", path, KIJ_CREATE_NEW, KIJ_OK, 0);
+    synced_folder = 0;
+    open_totals("its link", link, KIJ_EXISTING, KIJ_OK, 0);
+    told("the folder of the file is synced", true, synced_folder == found.st_ino);
+}
+
 /* Why a file of totals failed stays the same. */
 static void try_disk_error(const char *path, int *fault, int why) {
     kij_till *till = NULL;
@@ -1128,7 +1282,12 @@ int main(int count, char **words) {
     try_forked(forked);
     snprintf(forked, sizeof forked, "%s/totals-of-two", words[1]);
     try_forked_totals(forked);
+    try_line_as_totals();
+    try_own_number();
     try_forked_connection();
+    try_no_devices(words[1]);
+    snprintf(other, sizeof other, "%s/totals-without-streams", words[1]);
+    try_closed_streams(other);
     try_forked_keys();
     try_read_ahead();
     try_hosts();
@@ -1147,6 +1306,7 @@ int main(int count, char **words) {
     try_texts(words[1]);
     try_reasons();
     try_totals(path);
+    try_link(words[1]);
     snprintf(forked, sizeof forked, "%s/totals-without-room", words[1]);
     try_disk_error(forked, &write_fault, ENOSPC);
     snprintf(forked, sizeof forked, "%s/totals-not-synced", words[1]);

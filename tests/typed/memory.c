@@ -110,6 +110,26 @@ static void store(day *self, kij_till *till) {
     done(self, "text", kij_carry_out(till, "get k1 State\nshow p1", KIJ_ZERO_ENDED, &answer));
 }
 
+/* Questions without a till, and a copy. */
+static void ask(day *self) {
+    kij_mistake mistake;
+    char text[8] = "before", copy[4200];
+    size_t devices = 77, needed = 77;
+    uint64_t place = 77;
+    mistake.line = 77;
+    if (!done(self, "mistake", kij_profile_mistake(NULL, &mistake)) && mistake.line != 77)
+        exit(printf("a mistake was written\n"));
+    if (!done(self, "devices", kij_devices(NULL, NULL, 0, &devices)) && devices != 77)
+        exit(printf("a count of devices was written\n"));
+    if (self->file == NULL) return;
+    if (!done(self, "files", kij_files(self->file, text, sizeof text, &needed, &place)) &&
+        (needed != 77 || strcmp(text, "before") != 0))
+        exit(printf("what a file holds was written\n"));
+    snprintf(copy, sizeof copy, "%s.copy", self->file);
+    bool is_copied = done(self, "backup", kij_backup(self->file, copy));
+    if (is_copied != (unlink(copy) == 0)) exit(printf("a copy is there, or isn't\n"));
+}
+
 static bool is_whole(const char *file, long count) {
     day self = {file, count, true};
     kij_till *till = NULL;
@@ -124,6 +144,7 @@ static bool is_whole(const char *file, long count) {
         store(&self, till);
         done(&self, "order", kij_next_order(till, &order));
         kij_close(till);
+        ask(&self);
     } else {
         if (till != NULL) exit(printf("a till was written\n"));
         if (result.code == KIJ_SYSTEM) self.is_whole = false;

@@ -115,6 +115,10 @@ static void arguments(kij_till *till) {
         gives("a device", KIJ_BAD_ARGUMENT, kij_start(till, KIJ_SCANNER, names[place], KIJ_CLAIMED, &control));
         gives("a device", KIJ_BAD_ARGUMENT, kij_show(till, names[place], &text));
     }
+    static const int claims[] = {KIJ_FOREVER, 2, 1000};
+    for (size_t place = 0; place < sizeof claims / sizeof claims[0]; place++)
+        gives("a timeout as a claim", KIJ_BAD_ARGUMENT,
+              kij_start(till, KIJ_CASH_DRAWER, "d1", claims[place], &control));
     wants("no control is written", control == NULL);
     succeeds("a name", kij_new(till, KIJ_POS_PRINTER, "printer", &printer));
     gives("the name twice", KIJ_NAME_IN_USE, kij_new(till, KIJ_SCANNER, "printer", &control));
