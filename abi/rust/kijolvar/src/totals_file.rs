@@ -4,7 +4,7 @@ use crate::ports::{EINVAL, O_NONBLOCK};
 use crate::raw::{kijolvar_format_file, linkat, AT_FDCWD, AT_SYMLINK_FOLLOW, O_TMPFILE};
 use crate::standard::library::DISK_LENGTH;
 use crate::till::Inner;
-use std::ffi::{c_int, CString};
+use std::ffi::{c_int, CString, OsStr};
 use std::fs::{self, File, OpenOptions};
 use std::io::{self, ErrorKind};
 use std::ops::Deref;
@@ -107,11 +107,13 @@ impl Deref for LockedFile {
     }
 }
 
-/// The folder that a path is in, and the name that the path's file has there.
+/// The folder that a path is in, and the name that the path's file has there: none if a slash is behind it, which names
+/// no file.
 fn folder_of(path: &Path) -> io::Result<(&Path, CString)> {
-    let name = path.file_name().ok_or(ErrorKind::InvalidInput)?;
-    let folder = path.parent().filter(|folder| !folder.as_os_str().is_empty());
-    Ok((folder.unwrap_or(Path::new(".")), CString::new(name.as_bytes())?))
+    let path = path.as_os_str().as_bytes();
+    let (folder, name) = path.split_at(path.iter().rposition(|byte| *byte == b'/').map_or(0, |slash| slash + 1));
+    let folder = if folder.is_empty() { b"." } else { folder };
+    Ok((Path::new(OsStr::from_bytes(folder)), CString::new(name)?))
 }
 
 /// How often a file is opened in whose place a program puts another one before it is locked.
@@ -168,8 +170,8 @@ pub(crate) fn read_file(path: &Path) -> io::Result<Vec<u8>> {
     read_whole(&file)
 }
 
-/// The bytes of an open file, as many as totals have.
-fn read_whole(file: &File) -> io::Result<Vec<u8>> {
+/// The bytes of an open file, as many as totals have. A device doesn't say how long it is.
+pub(crate) fn read_whole(file: &File) -> io::Result<Vec<u8>> {
     let (mut bytes, mut count) = (vec![0; DISK_LENGTH as usize], 0);
     loop {
         match file.read_at(&mut bytes[count..], count as u64) {

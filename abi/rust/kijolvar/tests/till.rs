@@ -162,6 +162,26 @@ fn a_forked_process_writes_nothing() {
 }
 
 #[test]
+fn a_path_with_a_slash_behind_it_names_no_file() {
+    let place = Place::new("slash");
+    for end in ["", "."] {
+        let refused = Till::open(BUILT_PROFILE, Totals::create(place.file().join(end))).unwrap_err();
+        assert_eq!(system_kind(&refused), Some(ErrorKind::NotFound));
+        assert!(!place.file().exists());
+    }
+}
+
+#[test]
+fn totals_may_be_on_a_device() {
+    // It doesn't say how long it is, and its bytes are all 0.
+    let till = Till::open(BUILT_PROFILE, Totals::existing("/dev/zero")).unwrap();
+    let unformatted = till.hard_totals("t1").unwrap().enabled().unwrap_err();
+    assert_eq!(unformatted.code(), Some(ResultCode::NoHardware));
+    drop(till);
+    assert!(matches!(migrate("/dev/zero").unwrap_err().cause(), Cause::Unformatted));
+}
+
+#[test]
 fn a_new_file_has_all_its_room() {
     let place = Place::new("room");
     drop(Till::open(BUILT_PROFILE, Totals::create(place.file())).unwrap());
