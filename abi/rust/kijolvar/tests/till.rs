@@ -618,6 +618,10 @@ fn keys_are_of_one_till() {
     for _ in 0..5000 {
         till.cash_drawer("d1").unwrap().into_key().discard(&till).unwrap();
     }
+    let (key, _claimed) = (till.scanner("s1").unwrap().into_key(), till.scanner("s1").unwrap().enabled().unwrap());
+    let keyed = || Scanner::of(&till, &key).unwrap();
+    assert_eq!(keyed().enabled().unwrap_err().code(), Some(ResultCode::Timeout));
+    assert_eq!(keyed().state().unwrap(), State::Idle);
 }
 
 #[test]
