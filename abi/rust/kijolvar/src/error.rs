@@ -243,19 +243,24 @@ fn said_of_copy(fault: &io::Error) -> Option<&'static str> {
     }
 }
 
+/// What a cause means of one call, if that is something else than of others.
+fn said_of_call(call: &str, cause: &Cause) -> Option<&'static str> {
+    match (call, cause) {
+        ("backup", Cause::System(fault)) => said_of_copy(fault),
+        ("drive", Cause::NoDevice) => Some("the device can't be driven: its entry in the profile has `flaky`"),
+        ("driver_state", Cause::NoDevice) => Some("the device has no driver"),
+        _ => None,
+    }
+}
+
 impl fmt::Display for Error {
     fn fmt(&self, out: &mut fmt::Formatter<'_>) -> fmt::Result {
-        let of_copy = match &self.cause {
-            Cause::System(fault) if self.call == "backup" => said_of_copy(fault),
-            _ => None,
-        };
-        match (&self.cause, self.reason.or(of_copy)) {
-            (Cause::Code(code), Some(reason)) => write!(out, "{}: {}: {reason}", self.call, code.name()),
-            (Cause::Extended(code), Some(reason)) => {
-                write!(out, "{}: E_EXTENDED, {}: {reason}", self.call, code.name())
-            }
-            (Cause::System(_), Some(reason)) => write!(out, "{}: {reason}", self.call),
-            (cause, _) => write!(out, "{}: {cause}", self.call),
+        let call = self.call;
+        match (&self.cause, self.reason.or_else(|| said_of_call(call, &self.cause))) {
+            (Cause::Code(code), Some(reason)) => write!(out, "{call}: {}: {reason}", code.name()),
+            (Cause::Extended(code), Some(reason)) => write!(out, "{call}: E_EXTENDED, {}: {reason}", code.name()),
+            (_, Some(reason)) => write!(out, "{call}: {reason}"),
+            (cause, None) => write!(out, "{call}: {cause}"),
         }
     }
 }

@@ -527,7 +527,7 @@ impl Till {
     }
 
     /// Carries out lines of the text interface (docs/reference/console.md) one after the other, and returns their
-    /// answers, a line each.
+    /// answers, a line each. An empty line and a comment (`#`) have none.
     ///
     /// # Errors
     ///

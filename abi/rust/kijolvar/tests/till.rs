@@ -174,10 +174,7 @@ fn a_path_with_a_slash_behind_it_names_no_file() {
 #[test]
 fn totals_may_be_on_a_device() {
     // It doesn't say how long it is, and its bytes are all 0.
-    let till = Till::open(BUILT_PROFILE, Totals::existing("/dev/zero")).unwrap();
-    let unformatted = till.hard_totals("t1").unwrap().enabled().unwrap_err();
-    assert_eq!(unformatted.code(), Some(ResultCode::NoHardware));
-    drop(till);
+    drop(Till::open(BUILT_PROFILE, Totals::existing("/dev/zero")).unwrap());
     assert!(matches!(migrate("/dev/zero").unwrap_err().cause(), Cause::Unformatted));
 }
 
@@ -1064,9 +1061,14 @@ fn what_no_device_can_have_is_refused() {
         refused(till.drive("p1", SerialDisplay::open("/dev/none", settings)));
         refused(till.drive("s1", WedgeScanner::open("/dev/input/none").with_pause(pause)));
     }
+    let undriven = till.driver_state("s1").unwrap_err();
+    assert_eq!(undriven.to_string(), "driver_state: the device has no driver");
     till.drive("s1", WedgeScanner::open("/dev/input/none").with_kind(999)).unwrap();
     let state = till.driver_state("s1").unwrap();
     assert_eq!((state.is_online, state.port_error), (false, Some(2)));
+    let profile = "[[device]]\nname = \"d1\"\ncategory = \"CashDrawer\"\nflaky = [1, 1]\n";
+    let flaky = Till::open(profile, Totals::Memory).unwrap().drive("d1", Wrong).unwrap_err();
+    assert!(matches!(flaky.cause(), Cause::NoDevice) && flaky.to_string().ends_with(" has `flaky`"), "{flaky}");
 }
 
 #[test]
