@@ -155,11 +155,11 @@ fn sync_first(file: &File) -> io::Result<()> {
 }
 
 /// Opens a file that is there, locks it, and syncs it. Its folder is synced too, since a creation that was killed may
-/// have named the file and not synced its name.
+/// have named the file and not synced its name. If the path is a link's, that is where the link leads.
 pub(crate) fn open_existing(path: &Path) -> io::Result<LockedFile> {
     let file = open_locked(path)?;
     sync_first(&file)?;
-    File::open(folder_of(path)?.0)?.sync_all()?;
+    File::open(folder_of(&fs::canonicalize(path)?)?.0)?.sync_all()?;
     Ok(file)
 }
 

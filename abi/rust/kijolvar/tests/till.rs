@@ -287,11 +287,17 @@ fn what_is_told_is_synced() {
     const EINVAL: i32 = 22;
     const EROFS: i32 = 30;
     for fault in [0, EINVAL, EROFS] {
-        let (found, syncs) = system::with_sync_fault(fault, || check(place.file()));
-        assert_eq!((found.is_ok(), syncs), (true, 1));
+        let (found, synced) = system::with_sync_fault(fault, || check(place.file()));
+        assert_eq!((found.is_ok(), synced.len()), (true, 1));
     }
     let (failed, _) = system::with_sync_fault(5, || check(place.file()).unwrap_err());
     assert!(matches!(failed.cause(), Cause::System(fault) if fault.raw_os_error() == Some(5)));
+    // The name that a killed creation may have left without a sync is where a link leads.
+    let (link, folder) = (Place::new("link"), std::fs::canonicalize(&place.0).unwrap());
+    std::os::unix::fs::symlink(place.file(), link.file()).unwrap();
+    let (till, synced) = system::with_sync_fault(0, || Till::open(BUILT_PROFILE, Totals::existing(link.file())));
+    assert!(till.is_ok());
+    assert_eq!(synced, [folder.join("totals"), folder]);
 }
 
 fn a_pipe_is_not_waited_for() {
@@ -1745,7 +1751,7 @@ mod system {
         static LINGERING: RefCell<Vec<c_int>> = const { RefCell::new(Vec::new()) };
         static GRABS: RefCell<Vec<usize>> = const { RefCell::new(Vec::new()) };
         static HELD: Cell<c_int> = const { Cell::new(0) };
-        static SYNCS: Cell<u32> = const { Cell::new(0) };
+        static SYNCED: RefCell<Vec<PathBuf>> = const { RefCell::new(Vec::new()) };
         static SYNC_FAULT: Cell<c_int> = const { Cell::new(0) };
         static LIMIT: Cell<(usize, u32)> = const { Cell::new((0, 0)) };
         static HAS_THREADS: Cell<bool> = const { Cell::new(true) };
@@ -1882,14 +1888,15 @@ mod system {
         does()
     }
 
-    /// Syncs a file, and counts that.
+    /// Syncs a file, and notes its path.
     ///
     /// # Safety
     ///
     /// As the system's.
     #[no_mangle]
     pub unsafe extern "C" fn fsync(file: c_int) -> c_int {
-        SYNCS.set(SYNCS.get() + 1);
+        let path = std::fs::read_link(format!("/proc/self/fd/{file}"));
+        SYNCED.with_borrow_mut(|list| list.extend(path));
         // SAFETY: the file is the caller's, and the number of the fault is this thread's.
         unsafe {
             if SYNC_FAULT.get() == 0 {
@@ -1900,13 +1907,13 @@ mod system {
         }
     }
 
-    /// Does something, and counts the syncs. Each fails with the system's number of a fault, if that isn't 0.
-    pub fn with_sync_fault<R>(fault: c_int, does: impl FnOnce() -> R) -> (R, u32) {
-        SYNCS.set(0);
+    /// Does something, and returns what was synced. Each sync fails with the system's number of a fault, if that isn't 0.
+    pub fn with_sync_fault<R>(fault: c_int, does: impl FnOnce() -> R) -> (R, Vec<PathBuf>) {
+        SYNCED.take();
         SYNC_FAULT.set(fault);
         let found = does();
         SYNC_FAULT.set(0);
-        (found, SYNCS.get())
+        (found, SYNCED.take())
     }
 
     /// Makes a pipe with a name.
