@@ -172,7 +172,7 @@ fn a_path_with_a_slash_behind_it_names_no_file() {
 }
 
 #[test]
-fn totals_may_be_on_a_device() {
+fn a_device_is_as_long_as_it_can_be_read() {
     // It doesn't say how long it is, and its bytes are all 0.
     drop(Till::open(BUILT_PROFILE, Totals::existing("/dev/zero")).unwrap());
     assert!(matches!(migrate("/dev/zero").unwrap_err().cause(), Cause::Unformatted));
