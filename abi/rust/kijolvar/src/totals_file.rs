@@ -154,12 +154,18 @@ fn sync_first(file: &File) -> io::Result<()> {
     }
 }
 
+/// Syncs the folder that a path is in. The file may be writable where its folder can't be read.
+fn sync_folder(path: &Path) -> io::Result<()> {
+    let synced = File::open(folder_of(path)?.0).and_then(|folder| folder.sync_all());
+    synced.map_err(|fault| io::Error::new(fault.kind(), format!("its folder can't be opened and synced: {fault}")))
+}
+
 /// Opens a file that is there, locks it, and syncs it. Its folder is synced too, since a creation that was killed may
 /// have named the file and not synced its name. If the path is a link's, that is where the link leads.
 pub(crate) fn open_existing(path: &Path) -> io::Result<LockedFile> {
     let file = open_locked(path)?;
     sync_first(&file)?;
-    File::open(folder_of(&fs::canonicalize(path)?)?.0)?.sync_all()?;
+    sync_folder(&fs::canonicalize(path)?)?;
     Ok(file)
 }
 
@@ -206,7 +212,6 @@ pub(crate) fn read_steady(path: &Path) -> io::Result<Vec<u8>> {
 /// Makes a file with these bytes, for its owner alone, at a path where nothing is. It appears whole or not at all: it
 /// is written beside that, with .part at its end, and synced before it gets its name.
 pub(crate) fn put_new(path: &Path, bytes: &[u8]) -> io::Result<()> {
-    let folder = folder_of(path)?.0;
     let mut part = path.to_path_buf().into_os_string();
     part.push(".part");
     let file = OpenOptions::new().write(true).create_new(true).mode(0o600).open(&part)?;
@@ -214,7 +219,7 @@ pub(crate) fn put_new(path: &Path, bytes: &[u8]) -> io::Result<()> {
     let named = written.and_then(|()| fs::hard_link(&part, path));
     let removed = fs::remove_file(&part);
     named.and(removed)?;
-    File::open(folder)?.sync_all()
+    sync_folder(path)
 }
 
 /// Creates a file of totals without files, and locks it. It gets its name when it is whole and synced, which never

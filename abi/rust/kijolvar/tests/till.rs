@@ -296,8 +296,11 @@ fn what_is_told_is_synced() {
     let (link, folder) = (Place::new("link"), std::fs::canonicalize(&place.0).unwrap());
     std::os::unix::fs::symlink(place.file(), link.file()).unwrap();
     let (till, synced) = system::with_sync_fault(0, || Till::open(BUILT_PROFILE, Totals::existing(link.file())));
-    assert!(till.is_ok());
+    drop(till.unwrap());
     assert_eq!(synced, [folder.join("totals"), folder]);
+    let (failed, _) = system::with_sync_fault(EINVAL, || Till::open(BUILT_PROFILE, Totals::existing(place.file())));
+    let said = "Till::open: its folder can't be opened and synced: Invalid argument (os error 22)";
+    assert_eq!(failed.unwrap_err().to_string(), said);
 }
 
 fn a_pipe_is_not_waited_for() {
