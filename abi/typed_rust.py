@@ -94,9 +94,9 @@ def arms(pairs):
 
 
 def lowered(text):
-    if text.startswith(NAMES):
-        return text
-    return text[0].lower() + text[1:] if text[1:2].islower() or text[1:2] == " " else text
+    """A text behind a colon. A name with more capitals, such as AsyncMode, stays as it is."""
+    first = text.split(" ")[0]
+    return text if text.startswith(NAMES) or first[1:] != first[1:].lower() else text[0].lower() + text[1:]
 
 
 def range_text(about):
@@ -480,6 +480,8 @@ def control(part):
     enables = "Claims the device and enables the control." if part["exclusive"] else \
         "Enables the control. The device isn't claimed."
     claim = "        self.claim(Some(Duration::ZERO))?;\n" if part["exclusive"] else ""
+    calls = "[`Control::claim`] and [`Control::set_device_enabled`]" if part["exclusive"] else \
+        "[`Control::set_device_enabled`]"
     return f"""{told}pub struct {name}<'till> {{
     control: Control<'till>,
 }}
@@ -522,7 +524,7 @@ impl<'till> {name}<'till> {{
     ///
     /// # Errors
     ///
-    /// As [`Control::claim`] and [`Control::set_device_enabled`]; then the control is closed.
+    /// As {calls}; then the control is closed, unless it has a key.
     pub fn enabled(self) -> Result<{name}<'till>, Error> {{
 {claim}        self.set_device_enabled(true)?;
         Ok(self)

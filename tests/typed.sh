@@ -164,9 +164,10 @@ cat "$work/before"
 grep -a -A 6 "panicked at\|^error" "$work/said"
 told "the crate's tests" "0 failed; 0 failed; 0 failed" \
   "$(grep -o '[0-9]* failed' "$work/said" | paste -s -d';' | sed 's/;/; /g')"
-told "the crate's tests ran" "25 passed 53 passed 23 passed" "$(grep -o '[0-9]* passed' "$work/said" | paste -s -d' ')"
-(cd "$here/rust" && KIJOLVAR_LIB='' cargo build -q --offline > "$work/said" 2>&1)
-told "a crate without the archive says where it looked" 1 "$(grep -c 'make it by abi/build.sh' "$work/said")"
+told "the crate's tests ran" "26 passed 55 passed 23 passed" "$(grep -o '[0-9]* passed' "$work/said" | paste -s -d' ')"
+(cd "$here/rust" && KIJOLVAR_LIB=nowhere cargo build -q --offline > "$work/said" 2>&1)
+told "a crate without the archive says where it looked" 1 \
+  "$(grep -c '/abi/rust/kijolvar/nowhere"\]: make it by abi/build.sh' "$work/said")"
 runs "what runs scripts in Rust" cargo build -q --offline --release --manifest-path "$here/rust/Cargo.toml"
 scripts "Rust" "$work/target/release/run"
 sells "the sale in Rust" "$work/target/release/examples/sale"

@@ -1,4 +1,4 @@
-//! Finds the archive: by the environment variable KIJOLVAR_LIB, in this folder, or where abi/build.sh puts it.
+//! Finds the archive: by the environment variable KIJOLVAR_LIB, or else in this folder, or where abi/build.sh puts it.
 use std::path::{Path, PathBuf};
 use std::process::ExitCode;
 
@@ -6,7 +6,7 @@ fn main() -> ExitCode {
     println!("cargo:rerun-if-env-changed=KIJOLVAR_LIB");
     let here = PathBuf::from(std::env::var_os("CARGO_MANIFEST_DIR").unwrap_or_default());
     let folders = match std::env::var_os("KIJOLVAR_LIB") {
-        Some(folder) => vec![PathBuf::from(folder)],
+        Some(folder) => vec![here.join(folder)],
         None => vec![here.clone(), here.join("../../out")],
     };
     match folders.iter().find(|folder| Path::new(folder).join("libkijolvar.a").exists()) {

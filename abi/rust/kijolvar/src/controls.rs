@@ -302,7 +302,7 @@ impl<'till> CashDrawer<'till> {
     ///
     /// # Errors
     ///
-    /// As [`Control::claim`] and [`Control::set_device_enabled`]; then the control is closed.
+    /// As [`Control::set_device_enabled`]; then the control is closed, unless it has a key.
     pub fn enabled(self) -> Result<CashDrawer<'till>, Error> {
         self.set_device_enabled(true)?;
         Ok(self)
@@ -412,7 +412,7 @@ impl<'till> Scanner<'till> {
     ///
     /// # Errors
     ///
-    /// As [`Control::claim`] and [`Control::set_device_enabled`]; then the control is closed.
+    /// As [`Control::claim`] and [`Control::set_device_enabled`]; then the control is closed, unless it has a key.
     pub fn enabled(self) -> Result<Scanner<'till>, Error> {
         self.claim(Some(Duration::ZERO))?;
         self.set_device_enabled(true)?;
@@ -615,7 +615,7 @@ impl<'till> LineDisplay<'till> {
     ///
     /// # Errors
     ///
-    /// As [`Control::claim`] and [`Control::set_device_enabled`]; then the control is closed.
+    /// As [`Control::claim`] and [`Control::set_device_enabled`]; then the control is closed, unless it has a key.
     pub fn enabled(self) -> Result<LineDisplay<'till>, Error> {
         self.claim(Some(Duration::ZERO))?;
         self.set_device_enabled(true)?;
@@ -855,7 +855,7 @@ impl<'till> PosPrinter<'till> {
     ///
     /// # Errors
     ///
-    /// As [`Control::claim`] and [`Control::set_device_enabled`]; then the control is closed.
+    /// As [`Control::claim`] and [`Control::set_device_enabled`]; then the control is closed, unless it has a key.
     pub fn enabled(self) -> Result<PosPrinter<'till>, Error> {
         self.claim(Some(Duration::ZERO))?;
         self.set_device_enabled(true)?;
@@ -880,7 +880,7 @@ impl<'till> PosPrinter<'till> {
     /// - [`E_DISABLED`](ResultCode::Disabled): the control is disabled.
     /// - [`E_ILLEGAL`](ResultCode::Illegal): the station isn't the receipt; or the data has more than 4,096 bytes, a
     ///   byte that isn't ASCII text, LF, CR or ESC, or a number out of range.
-    /// - [`E_BUSY`](ResultCode::Busy): asyncMode is false, and earlier requests still wait.
+    /// - [`E_BUSY`](ResultCode::Busy): AsyncMode is false, and earlier requests still wait.
     /// - [`E_FAILURE`](ResultCode::Failure): the printer didn't answer, or no OutputID is left.
     /// - [`E_OFFLINE`](ResultCode::Offline): the printer is off.
     /// - E_EXTENDED, [`EPTR_COVER_OPEN`](ExtendedCode::PrinterCoverOpen): the cover is open.
@@ -930,7 +930,7 @@ impl<'till> PosPrinter<'till> {
     /// - [`E_NOTCLAIMED`](ResultCode::NotClaimed): no control has claimed the device.
     /// - [`E_DISABLED`](ResultCode::Disabled): the control is disabled.
     /// - [`E_ILLEGAL`](ResultCode::Illegal): the percentage is out of its range.
-    /// - [`E_BUSY`](ResultCode::Busy): asyncMode is false, and earlier requests still wait.
+    /// - [`E_BUSY`](ResultCode::Busy): AsyncMode is false, and earlier requests still wait.
     /// - [`E_FAILURE`](ResultCode::Failure): the printer didn't answer, or no OutputID is left.
     /// - [`E_OFFLINE`](ResultCode::Offline): the printer is off.
     /// - E_EXTENDED, [`EPTR_COVER_OPEN`](ExtendedCode::PrinterCoverOpen): the cover is open.
@@ -1103,7 +1103,7 @@ impl<'till> HardTotals<'till> {
     ///
     /// # Errors
     ///
-    /// As [`Control::claim`] and [`Control::set_device_enabled`]; then the control is closed.
+    /// As [`Control::set_device_enabled`]; then the control is closed, unless it has a key.
     pub fn enabled(self) -> Result<HardTotals<'till>, Error> {
         self.set_device_enabled(true)?;
         Ok(self)

@@ -42,22 +42,24 @@ impl Work {
     }
 }
 
-/// An order for hardware of your own ([`Till::host`](crate::Till::host)).
+/// An order for hardware of your own ([`Till::host`](crate::Till::host), [`Driver`](crate::Driver)).
 #[derive(Debug, Clone, PartialEq, Eq)]
 #[non_exhaustive]
 #[allow(missing_docs)]
 pub enum Order {
     /// The drawer opens.
     OpenDrawer { device: String },
-    /// The display shows the text from this row and column on, which may be one right of the last.
+    /// The display shows the text from this row and column on, counted from 0; the column may be one right of the last.
+    /// The attribute is the number of a [`DisplayAttribute`](crate::standard::DisplayAttribute).
     DisplayTextAt { device: String, row: u32, column: u32, text: Vec<u8>, attribute: u32 },
     /// The display is blank.
     ClearText { device: String },
-    /// The display moves what it shows by so many rows or columns.
+    /// The display moves what it shows by so many rows or columns. The direction is the number of a
+    /// [`ScrollDirection`](crate::standard::ScrollDirection).
     ScrollText { device: String, direction: u32, units: u32 },
     /// The printer prints the data, with its escape sequences (docs/reference/printer.md).
     Print { device: String, data: Vec<u8> },
-    /// The printer cuts the paper.
+    /// The printer cuts so much of the paper, 0 to 100 percent.
     CutPaper { device: String, percentage: u32 },
 }
 

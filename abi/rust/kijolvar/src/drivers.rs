@@ -818,11 +818,13 @@ impl WedgeScanner {
 
     /// Makes this the type of a code without an identifier, 0 to 999 (`ScanDataType::Ean13.into()`). Otherwise it is 0
     /// ([`ScanDataType::Unknown`]).
+    #[must_use]
     pub fn with_kind(self, kind: u64) -> WedgeScanner {
         WedgeScanner { kind, ..self }
     }
 
     /// Makes this how long to wait before a lost port is tried again, at most 2,147,483 seconds; 1 second otherwise.
+    #[must_use]
     pub fn with_pause(mut self, pause: Duration) -> WedgeScanner {
         self.port.pause = pause;
         self

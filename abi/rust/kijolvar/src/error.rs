@@ -32,7 +32,8 @@ pub enum Cause {
     /// The file isn't formatted: it has no totals.
     Unformatted,
     /// The bytes of the file break a rule of totals (docs/reference/totals-file.md): the place, in bytes from the
-    /// first, and the rule. Only [`files`](crate::files) and [`check`](crate::check) say which.
+    /// first, and the rule. Only [`files`](crate::files), [`check`](crate::check) and [`backup`](crate::backup) say
+    /// which.
     Damaged(Option<(u64, String)>),
     /// The totals in the file have layout 2 already.
     Moved,
@@ -219,21 +220,47 @@ impl fmt::Display for Cause {
     }
 }
 
-/// Why no copy is made where another one is, or what is left of one.
-const COPY_IS_THERE: &str = "backup: the copy is there already, or the file beside it with .part at its end: remove \
-                             that if no other program makes the copy";
+/// The system's number of a fault: it doesn't permit that. A FAT stick answers a hard link so.
+const EPERM: i32 = 1;
+
+/// Why the system refused a copy, if that is another reason than of a till's file.
+fn said_of_copy(fault: &io::Error) -> Option<&'static str> {
+    let has_no_links = fault.kind() == io::ErrorKind::Unsupported || fault.raw_os_error() == Some(EPERM);
+    match fault.kind() {
+        io::ErrorKind::AlreadyExists => Some(
+            "the copy is there already, or the file beside it with .part at its end: remove that if no other program \
+             makes the copy",
+        ),
+        io::ErrorKind::NotFound => Some("the file of the totals isn't there, or the folder of the copy isn't"),
+        io::ErrorKind::WouldBlock => {
+            Some("the file changes each time it is read: try again, or end the program that writes to it")
+        }
+        _ if has_no_links => Some(
+            "the system doesn't permit that: if the file system of the copy has no hard links, such as a FAT stick, \
+             back up elsewhere, and copy the copy there",
+        ),
+        _ => None,
+    }
+}
+
+/// What a cause means of one call, if that is something else than of others.
+fn said_of_call(call: &str, cause: &Cause) -> Option<&'static str> {
+    match (call, cause) {
+        ("backup", Cause::System(fault)) => said_of_copy(fault),
+        ("drive", Cause::NoDevice) => Some("the device can't be driven: its entry in the profile has `flaky`"),
+        ("driver_state", Cause::NoDevice) => Some("the device has no driver"),
+        _ => None,
+    }
+}
 
 impl fmt::Display for Error {
     fn fmt(&self, out: &mut fmt::Formatter<'_>) -> fmt::Result {
-        match (&self.cause, self.reason) {
-            (Cause::Code(code), Some(reason)) => write!(out, "{}: {}: {reason}", self.call, code.name()),
-            (Cause::Extended(code), Some(reason)) => {
-                write!(out, "{}: E_EXTENDED, {}: {reason}", self.call, code.name())
-            }
-            (Cause::System(cause), _) if self.call == "backup" && cause.kind() == io::ErrorKind::AlreadyExists => {
-                out.write_str(COPY_IS_THERE)
-            }
-            (cause, _) => write!(out, "{}: {cause}", self.call),
+        let call = self.call;
+        match (&self.cause, self.reason.or_else(|| said_of_call(call, &self.cause))) {
+            (Cause::Code(code), Some(reason)) => write!(out, "{call}: {}: {reason}", code.name()),
+            (Cause::Extended(code), Some(reason)) => write!(out, "{call}: E_EXTENDED, {}: {reason}", code.name()),
+            (_, Some(reason)) => write!(out, "{call}: {reason}"),
+            (cause, None) => write!(out, "{call}: {cause}"),
         }
     }
 }
@@ -244,5 +271,27 @@ impl std::error::Error for Error {
             Cause::System(cause) | Cause::DiskFailed(Some(cause)) => Some(cause),
             _ => None,
         }
+    }
+}
+
+#[cfg(test)]
+mod tests {
+    use super::*;
+
+    #[test]
+    fn a_copy_is_refused_for_reasons_of_its_own() {
+        let said = |call, number| Error::new(call, Cause::System(io::Error::from_raw_os_error(number))).to_string();
+        let reasons = [
+            (EPERM, "has no hard links"),
+            (2, "the folder of the copy isn't"),
+            (11, "changes each time it is read"),
+            (17, "remove that if no other program"),
+            (95, "has no hard links"),
+        ];
+        for (number, reason) in reasons {
+            assert!(said("backup", number).contains(reason), "{}", said("backup", number));
+            assert!(!said("files", number).contains(reason), "{}", said("files", number));
+        }
+        assert_eq!(said("backup", 28), "backup: No space left on device (os error 28)");
     }
 }

@@ -123,6 +123,7 @@ impl Event {
 type Deliver<'till, T> = Box<dyn FnMut() -> Result<Option<T>, Error> + 'till>;
 
 /// An iterator that delivers events until none is left. It ends after an error.
+#[must_use = "an event is delivered when it is asked for"]
 pub struct Events<'till, T> {
     next: Option<Deliver<'till, T>>,
 }

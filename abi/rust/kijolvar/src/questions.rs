@@ -4,7 +4,7 @@ use crate::raw::{kijolvar_devices, kijolvar_migrate_file, kijolvar_profile_mista
 use crate::stack::with_stack;
 use crate::standard::{library, Category};
 use crate::till::{check_version, library_text, opening_cause, Inner, BUILT_PROFILE};
-use crate::totals_file::{open_existing, put_new, read_file, read_steady};
+use crate::totals_file::{open_existing, put_new, read_file, read_steady, read_whole};
 use std::fmt;
 use std::path::Path;
 
@@ -248,7 +248,7 @@ pub fn migrate(path: impl AsRef<Path>) -> Result<(), Error> {
     let failed = |cause| Error::new("migrate", cause);
     check_version().map_err(failed)?;
     let file = open_existing(path.as_ref()).map_err(|cause| failed(Cause::System(cause)))?;
-    let bytes = Inner::bytes_of(&file).map_err(failed)?;
+    let bytes = read_whole(&file).map_err(|cause| failed(Cause::System(cause)))?;
     let mut till = Inner::over_file(BUILT_PROFILE, file, bytes, kijolvar_migrate_file).map_err(failed)?;
     till.settle().map_err(|cause| failed(cause.of_file()))
 }

@@ -9,13 +9,12 @@ use crate::questions::explain;
 use crate::raw::*;
 use crate::stack::with_stack;
 use crate::standard::{library, Category, ResultCode};
-use crate::totals_file::{LockedFile, Totals};
+use crate::totals_file::{read_whole, LockedFile, Totals};
 use crate::views::{self, DisplayView, PrinterView};
 use crate::wire::{Asked, PrinterReply, WireSettings};
 use std::cell::RefCell;
 use std::ffi::c_void;
 use std::fmt;
-use std::fs::File;
 use std::io;
 use std::os::unix::fs::FileExt;
 use std::sync::atomic::{AtomicU64, Ordering};
@@ -171,14 +170,6 @@ impl Inner {
             library::OK => Ok(Inner::new(at, Some(file), bytes)),
             code => Err(opening_cause(code, profile)),
         }
-    }
-
-    /// The bytes of a file that are a disk, or all of a shorter one.
-    pub(crate) fn bytes_of(file: &File) -> Result<Vec<u8>, Cause> {
-        let length = file.metadata().map_err(Cause::System)?.len().min(library::DISK_LENGTH);
-        let mut bytes = vec![0; length as usize];
-        file.read_exact_at(&mut bytes, 0).map_err(Cause::System)?;
-        Ok(bytes)
     }
 
     /// Ends the till, and returns the file of its totals.
@@ -524,7 +515,7 @@ impl Till {
     fn begin(profile: &str, totals: &Totals) -> Result<Inner, Cause> {
         check_version()?;
         let Some(file) = totals.open(profile)? else { return Inner::in_memory(profile) };
-        let bytes = Inner::bytes_of(&file)?;
+        let bytes = read_whole(&file).map_err(Cause::System)?;
         let mut inner = Inner::over_file(profile, file, bytes, kijolvar_open_file)?;
         inner.settle()?;
         Ok(inner)
@@ -536,7 +527,7 @@ impl Till {
     }
 
     /// Carries out lines of the text interface (docs/reference/console.md) one after the other, and returns their
-    /// answers, a line each.
+    /// answers, a line each. An empty line and a comment (`#`) have none.
     ///
     /// # Errors
     ///

@@ -4,7 +4,7 @@ use crate::ports::{EINVAL, O_NONBLOCK};
 use crate::raw::{kijolvar_format_file, linkat, AT_FDCWD, AT_SYMLINK_FOLLOW, O_TMPFILE};
 use crate::standard::library::DISK_LENGTH;
 use crate::till::Inner;
-use std::ffi::{c_int, CString};
+use std::ffi::{c_int, CString, OsStr};
 use std::fs::{self, File, OpenOptions};
 use std::io::{self, ErrorKind};
 use std::ops::Deref;
@@ -107,11 +107,13 @@ impl Deref for LockedFile {
     }
 }
 
-/// The folder that a path is in, and the name that the path's file has there.
+/// The folder that a path is in, and the name that the path's file has there: none if a slash is behind it, which names
+/// no file.
 fn folder_of(path: &Path) -> io::Result<(&Path, CString)> {
-    let name = path.file_name().ok_or(ErrorKind::InvalidInput)?;
-    let folder = path.parent().filter(|folder| !folder.as_os_str().is_empty());
-    Ok((folder.unwrap_or(Path::new(".")), CString::new(name.as_bytes())?))
+    let path = path.as_os_str().as_bytes();
+    let (folder, name) = path.split_at(path.iter().rposition(|byte| *byte == b'/').map_or(0, |slash| slash + 1));
+    let folder = if folder.is_empty() { b"." } else { folder };
+    Ok((Path::new(OsStr::from_bytes(folder)), CString::new(name)?))
 }
 
 /// How often a file is opened in whose place a program puts another one before it is locked.
@@ -152,12 +154,18 @@ fn sync_first(file: &File) -> io::Result<()> {
     }
 }
 
+/// Syncs the folder that a path is in. The file may be writable where its folder can't be read.
+fn sync_folder(path: &Path) -> io::Result<()> {
+    let synced = File::open(folder_of(path)?.0).and_then(|folder| folder.sync_all());
+    synced.map_err(|fault| io::Error::new(fault.kind(), format!("its folder can't be opened and synced: {fault}")))
+}
+
 /// Opens a file that is there, locks it, and syncs it. Its folder is synced too, since a creation that was killed may
-/// have named the file and not synced its name.
+/// have named the file and not synced its name. If the path is a link's, that is where the link leads.
 pub(crate) fn open_existing(path: &Path) -> io::Result<LockedFile> {
     let file = open_locked(path)?;
     sync_first(&file)?;
-    File::open(folder_of(path)?.0)?.sync_all()?;
+    sync_folder(&fs::canonicalize(path)?)?;
     Ok(file)
 }
 
@@ -168,8 +176,8 @@ pub(crate) fn read_file(path: &Path) -> io::Result<Vec<u8>> {
     read_whole(&file)
 }
 
-/// The bytes of an open file, as many as totals have.
-fn read_whole(file: &File) -> io::Result<Vec<u8>> {
+/// The bytes of an open file, as many as totals have. A device doesn't say how long it is.
+pub(crate) fn read_whole(file: &File) -> io::Result<Vec<u8>> {
     let (mut bytes, mut count) = (vec![0; DISK_LENGTH as usize], 0);
     loop {
         match file.read_at(&mut bytes[count..], count as u64) {
@@ -204,7 +212,6 @@ pub(crate) fn read_steady(path: &Path) -> io::Result<Vec<u8>> {
 /// Makes a file with these bytes, for its owner alone, at a path where nothing is. It appears whole or not at all: it
 /// is written beside that, with .part at its end, and synced before it gets its name.
 pub(crate) fn put_new(path: &Path, bytes: &[u8]) -> io::Result<()> {
-    let folder = folder_of(path)?.0;
     let mut part = path.to_path_buf().into_os_string();
     part.push(".part");
     let file = OpenOptions::new().write(true).create_new(true).mode(0o600).open(&part)?;
@@ -212,7 +219,7 @@ pub(crate) fn put_new(path: &Path, bytes: &[u8]) -> io::Result<()> {
     let named = written.and_then(|()| fs::hard_link(&part, path));
     let removed = fs::remove_file(&part);
     named.and(removed)?;
-    File::open(folder)?.sync_all()
+    sync_folder(path)
 }
 
 /// Creates a file of totals without files, and locks it. It gets its name when it is whole and synced, which never

@@ -162,6 +162,23 @@ fn a_forked_process_writes_nothing() {
 }
 
 #[test]
+fn a_path_with_a_slash_behind_it_names_no_file() {
+    let place = Place::new("slash");
+    for end in ["", "."] {
+        let refused = Till::open(BUILT_PROFILE, Totals::create(place.file().join(end))).unwrap_err();
+        assert_eq!(system_kind(&refused), Some(ErrorKind::NotFound));
+        assert!(!place.file().exists());
+    }
+}
+
+#[test]
+fn a_device_is_as_long_as_it_can_be_read() {
+    // It doesn't say how long it is, and its bytes are all 0.
+    drop(Till::open(BUILT_PROFILE, Totals::existing("/dev/zero")).unwrap());
+    assert!(matches!(migrate("/dev/zero").unwrap_err().cause(), Cause::Unformatted));
+}
+
+#[test]
 fn a_new_file_has_all_its_room() {
     let place = Place::new("room");
     drop(Till::open(BUILT_PROFILE, Totals::create(place.file())).unwrap());
@@ -270,11 +287,20 @@ fn what_is_told_is_synced() {
     const EINVAL: i32 = 22;
     const EROFS: i32 = 30;
     for fault in [0, EINVAL, EROFS] {
-        let (found, syncs) = system::with_sync_fault(fault, || check(place.file()));
-        assert_eq!((found.is_ok(), syncs), (true, 1));
+        let (found, synced) = system::with_sync_fault(fault, || check(place.file()));
+        assert_eq!((found.is_ok(), synced.len()), (true, 1));
     }
     let (failed, _) = system::with_sync_fault(5, || check(place.file()).unwrap_err());
     assert!(matches!(failed.cause(), Cause::System(fault) if fault.raw_os_error() == Some(5)));
+    // The name that a killed creation may have left without a sync is where a link leads.
+    let (link, folder) = (Place::new("link"), std::fs::canonicalize(&place.0).unwrap());
+    std::os::unix::fs::symlink(place.file(), link.file()).unwrap();
+    let (till, synced) = system::with_sync_fault(0, || Till::open(BUILT_PROFILE, Totals::existing(link.file())));
+    drop(till.unwrap());
+    assert_eq!(synced, [folder.join("totals"), folder]);
+    let (failed, _) = system::with_sync_fault(EINVAL, || Till::open(BUILT_PROFILE, Totals::existing(place.file())));
+    let said = "Till::open: its folder can't be opened and synced: Invalid argument (os error 22)";
+    assert_eq!(failed.unwrap_err().to_string(), said);
 }
 
 fn a_pipe_is_not_waited_for() {
@@ -598,6 +624,10 @@ fn keys_are_of_one_till() {
     for _ in 0..5000 {
         till.cash_drawer("d1").unwrap().into_key().discard(&till).unwrap();
     }
+    let (key, _claimed) = (till.scanner("s1").unwrap().into_key(), till.scanner("s1").unwrap().enabled().unwrap());
+    let keyed = || Scanner::of(&till, &key).unwrap();
+    assert_eq!(keyed().enabled().unwrap_err().code(), Some(ResultCode::Timeout));
+    assert_eq!(keyed().state().unwrap(), State::Idle);
 }
 
 #[test]
@@ -1040,9 +1070,14 @@ fn what_no_device_can_have_is_refused() {
         refused(till.drive("p1", SerialDisplay::open("/dev/none", settings)));
         refused(till.drive("s1", WedgeScanner::open("/dev/input/none").with_pause(pause)));
     }
+    let undriven = till.driver_state("s1").unwrap_err();
+    assert_eq!(undriven.to_string(), "driver_state: the device has no driver");
     till.drive("s1", WedgeScanner::open("/dev/input/none").with_kind(999)).unwrap();
     let state = till.driver_state("s1").unwrap();
     assert_eq!((state.is_online, state.port_error), (false, Some(2)));
+    let profile = "[[device]]\nname = \"d1\"\ncategory = \"CashDrawer\"\nflaky = [1, 1]\n";
+    let flaky = Till::open(profile, Totals::Memory).unwrap().drive("d1", Wrong).unwrap_err();
+    assert!(matches!(flaky.cause(), Cause::NoDevice) && flaky.to_string().ends_with(" has `flaky`"), "{flaky}");
 }
 
 #[test]
@@ -1719,7 +1754,7 @@ mod system {
         static LINGERING: RefCell<Vec<c_int>> = const { RefCell::new(Vec::new()) };
         static GRABS: RefCell<Vec<usize>> = const { RefCell::new(Vec::new()) };
         static HELD: Cell<c_int> = const { Cell::new(0) };
-        static SYNCS: Cell<u32> = const { Cell::new(0) };
+        static SYNCED: RefCell<Vec<PathBuf>> = const { RefCell::new(Vec::new()) };
         static SYNC_FAULT: Cell<c_int> = const { Cell::new(0) };
         static LIMIT: Cell<(usize, u32)> = const { Cell::new((0, 0)) };
         static HAS_THREADS: Cell<bool> = const { Cell::new(true) };
@@ -1856,14 +1891,15 @@ mod system {
         does()
     }
 
-    /// Syncs a file, and counts that.
+    /// Syncs a file, and notes its path.
     ///
     /// # Safety
     ///
     /// As the system's.
     #[no_mangle]
     pub unsafe extern "C" fn fsync(file: c_int) -> c_int {
-        SYNCS.set(SYNCS.get() + 1);
+        let path = std::fs::read_link(format!("/proc/self/fd/{file}"));
+        SYNCED.with_borrow_mut(|list| list.extend(path));
         // SAFETY: the file is the caller's, and the number of the fault is this thread's.
         unsafe {
             if SYNC_FAULT.get() == 0 {
@@ -1874,13 +1910,13 @@ mod system {
         }
     }
 
-    /// Does something, and counts the syncs. Each fails with the system's number of a fault, if that isn't 0.
-    pub fn with_sync_fault<R>(fault: c_int, does: impl FnOnce() -> R) -> (R, u32) {
-        SYNCS.set(0);
+    /// Does something, and returns what was synced. Each sync fails with the system's number of a fault, if that isn't 0.
+    pub fn with_sync_fault<R>(fault: c_int, does: impl FnOnce() -> R) -> (R, Vec<PathBuf>) {
+        SYNCED.take();
         SYNC_FAULT.set(fault);
         let found = does();
         SYNC_FAULT.set(0);
-        (found, SYNCS.get())
+        (found, SYNCED.take())
     }
 
     /// Makes a pipe with a name.
