@@ -114,12 +114,6 @@ def port_of(device, kind="usb"):
     return SerialPort(device.path, 115200, flow="none" if kind == "serial" else "rts-cts")
 
 
-def of_system(call):
-    """A function in the place of one of the system: what it raises isn't taken for what a signal's handler raises."""
-    names = {**globals(), "__package__": kijolvar.__package__}
-    return types.FunctionType(call.__code__, names, call.__name__, call.__defaults__, call.__closure__)
-
-
 def signs_of(device):
     """What an emulated printer has to tell of itself, by the words of a status."""
     first, second, third, _ = device.status()
@@ -2649,7 +2643,6 @@ def without_rights(call):
     return found
 
 
-@of_system
 def fails_to_set(*_):
     raise termios.error(errno.EIO, "refused")
 
@@ -3119,7 +3112,6 @@ def try_scan_codes():
     """The scan code of each key is left out of a keyboard's events. One that refuses that opens too."""
     asked, number = [], errno.EINVAL
 
-    @of_system
     def refuses(file, *words):
         asked.append(words)
         raise OSError(number, "refused")
@@ -3412,7 +3404,6 @@ def try_ports_again():
     port._looked_up_at -= 61
     known, took, asked = list(port._addresses), 0.0, []
 
-    @of_system
     def fails(name, *words, **named):
         asked.append(name)
         time.sleep(took)
@@ -3473,7 +3464,6 @@ def rings_once(call):
     """A call of the system before which a signal comes the first time."""
     left = [signal.SIGUSR1]
 
-    @of_system
     def rings(*words, **named):
         if left:
             signal.raise_signal(left.pop())
@@ -3483,7 +3473,7 @@ def rings_once(call):
 
 def try_handlers_at_openings():
     """An error that a signal's handler raises as a port opens, or closes, isn't taken for one of the port."""
-    def blocks(*_):
+    def blocks(_, frame):
         raise BlockingIOError("the handler would wait")
     before = signal.signal(signal.SIGUSR1, blocks)
     with Scanner(cable()) as device, mock.patch("fcntl.flock", rings_once(fcntl.flock)):
@@ -3503,7 +3493,6 @@ def try_handlers_at_openings():
             port.close()
     ioctl, number = fcntl.ioctl, 0
 
-    @of_system
     def rings_then(file, what, *words):
         if what == number:
             signal.raise_signal(signal.SIGUSR1)

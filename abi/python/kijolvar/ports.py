@@ -464,12 +464,14 @@ def rest_beside(seconds: float) -> None:
 
 
 def _is_of_handler(fault: Exception) -> bool:
-    """Whether a signal's handler has raised it, behind the system's call: it is none of the port's. Then one of its
-    calls is neither this package's nor Python's for sockets."""
-    trace = fault.__traceback__
+    """Whether a signal's handler has raised it, behind the system's call: it is none of the port's. A handler is given
+    the frame that it interrupts, which is the one that calls it. What only wraps a call of the system isn't."""
+    # The first frame is that of who asks.
+    trace = fault.__traceback__ and fault.__traceback__.tb_next
     while trace is not None:
-        names = trace.tb_frame.f_globals
-        if names.get("__package__") != __package__ and names.get("__name__") != socket.__name__:
+        caller, given = trace.tb_frame.f_back, list(trace.tb_frame.f_locals.values())
+        given += [word for words in given if type(words) is tuple for word in words]
+        if caller is not None and any(word is caller for word in given):
             return True
         trace = trace.tb_next
     return False
