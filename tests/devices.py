@@ -3687,6 +3687,15 @@ def try_endless_ports():
         till.drive("p1", SerialDisplay(SerialPort("/dev/null")))
         with till.display("p1").in_use() as display:
             told("a file that was taken for a line", None, raised(display.display_text, b"Hi"))
+    port = kijolvar.FilePort("/dev/null")
+    port.open()
+    for seconds in (0.2, 0.0):
+        began = time.monotonic()
+        told("a port that gives nothing is read for as long as was said", (b"", seconds > 0),
+             (port.read(seconds), time.monotonic() - began >= 0.2))
+    with mock.patch.object(port, "read_some", side_effect=[b"", b"", b"7"]):
+        told("until something comes", b"7", port.read(PATIENCE))
+    port.close()
 
 
 def try_refusals():

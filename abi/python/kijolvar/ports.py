@@ -371,7 +371,13 @@ class Port(Unique):
             ValueError: The time is NaN.
             PortError: The port was lost. It is closed then.
         """
-        return self.read_some() if self.ready(False, seconds)[0] else b""
+        end = time.monotonic() + seconds
+        while self.ready(False, end - time.monotonic())[0]:
+            if (data := self.read_some()) or (left := end - time.monotonic()) <= 0:
+                return data
+            # A port may be readable all the time, and give nothing.
+            rest_beside(min(left, 0.001))
+        return b""
 
     def _take_rest(self) -> bytes:
         """Takes what had come when a write found the port lost. Nothing more of it can be read."""
