@@ -4197,6 +4197,23 @@ def try_guide():
         told("the guide's test page", ("5 passed, 0 failed", 0), (ended.stdout.splitlines()[-1], ended.returncode))
 
 
+def try_emulator():
+    """A line that an emulated device doesn't understand once its time has come doesn't end it."""
+    words = [sys.executable, str(TOP / "tests/emulator"), "printer", "--path", str(CHECKS.work / "emulated")]
+    with subprocess.Popen(words, stdin=subprocess.PIPE, stdout=subprocess.PIPE, stderr=subprocess.PIPE,
+                          text=True) as emulator:
+        port = kijolvar.FilePort(emulator.stdout.readline().strip())
+        emulator.stdin.write("after 1 covr open\ncovr closed\n")
+        emulator.stdin.flush()
+        told("a line that it doesn't understand", "not understood: covr closed\n", emulator.stderr.readline())
+        port.open()
+        told("it is sent a line", True, port.write(b"Bread\n", PATIENCE))
+        emulator.stdin.write("wait\nshow\n")
+        emulator.stdin.close()
+        told("and prints it", ("Bread\n", "not understood: covr open\n"), (emulator.stdout.read(), emulator.stderr.read()))
+        port.close()
+
+
 # ---- costs
 
 def try_cost():
