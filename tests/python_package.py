@@ -951,6 +951,11 @@ def try_totals():
          (name_of(opened, create=True), str(raised(opened, create=True))))
     with kijolvar.create_totals(WORK / "whole", LIBRARY) as file:
         told("a new file has room for all of its bytes", True, os.fstat(file.fileno()).st_blocks * 512 >= 327_680)
+        told("and the path as its name", str(WORK / "whole"), file.name)
+        with opened(totals=file) as till:
+            told("as a till over it says", f"<kijolvar.Till: totals in {str(WORK / 'whole')!r}, 0 controls>", repr(till))
+            fault = raised(opened, totals=file)
+            told("and a second one", ("BlockingIOError", str(WORK / "whole")), (type(fault).__name__, fault.filename))
     with opened(totals=path, create=True) as till:
         totals = till.totals("t1")
         told("no files", (0, [], False), (len(totals), list(totals), "SALES" in totals))

@@ -121,7 +121,7 @@ def create_totals(library: ctypes.CDLL, path: Path, profile: bytes = b"") -> Bin
     """
     name = os.fspath(path)
     with contextlib.ExitStack() as undo, _folder(name) as folder, naming(name):
-        totals = undo.enter_context(open(_unnamed(folder), "r+b", buffering=0))
+        totals = undo.enter_context(open(name, "r+b", buffering=0, opener=lambda *_: _unnamed(folder)))
         _lock(totals, name)
         # All of its bytes are written, so that a disk without room for them fails now, and not later.
         write_whole(totals.fileno(), bytes(KIJOLVAR_DISK_LENGTH), 0)
