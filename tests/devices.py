@@ -3188,6 +3188,23 @@ def try_scans_that_wait():
             told(f"{name}: it is told again", True, until(is_told, 2))
 
 
+def try_scanner_of_two_tills():
+    """What a scanner's driver has read for a till that is closed is none of the next one's."""
+    with Scanner(cable()) as device:
+        driver = WedgeScanner(device.path)
+        for number in range(2):
+            with opened() as till:
+                till.drive("s1", driver)
+                told("its port is open", True, driver.port.is_open)
+                scanner = till.scanner("s1")
+                scanner.claim()
+                scanner.device_enabled = True
+                told("no code is there", (False, 0), (till.run_devices(), scanner.data_count))
+                device.garbage(b"123\r45")
+                told("a code and a half are read", True, until(
+                    lambda: driver.poll() or driver._found and driver._reader.has_begun))
+
+
 class Own(Driver):
     """A device that is there, says and reads what the test wants, and does each order."""
 
