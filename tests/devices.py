@@ -67,6 +67,14 @@ category = "Scanner"
 name = "t1"
 category = "HardTotals"
 """
+SECOND_PRINTER = """
+[[device]]
+name = "r2"
+category = "POSPrinter"
+chars = 42
+lines = 1000
+near = 20
+"""
 # How long an order may take here, how much later than its timeout a call may return, how soon a lost port is tried again,
 # and how long something may take that has to happen, in seconds.
 TIMEOUT, SLACK, PAUSE, PATIENCE = 0.4, 0.6, 0.01, 10
@@ -3752,6 +3760,14 @@ def try_refusals():
         told("its drawer opens still", (None, 1), (raised(till.drawer("d1").open_drawer), len(device.pulses)))
         till.close()
         told("nobody has its port", False, driver.link.port.is_open)
+    with contextlib.ExitStack() as stack:
+        till = stack.enter_context(opened(PROFILE + SECOND_PRINTER))
+        device = stack.enter_context(Printer(cable()))
+        till.drive("r1", driver := EscPosPrinter(device.path, timeout=TIMEOUT, pause=PAUSE))
+        told("a driver that has a printer", "DriverError", name_of(till.drive, "r2", driver))
+        control = stack.enter_context(till.printer("r1").in_use())
+        told("prints each of two orders that are the same", ([None] * 2, [b"Tea"] * 2),
+             ([raised(control.print, b"Tea\n") for _ in range(2)], characters_of(device)))
     with opened(PROFILE.replace("near = 20", f"near = {MOST_LINES}")) as till:
         told("near its end for ever", "ValueError", name_of(till.drive, "r1", EscPosPrinter("/dev/null")))
     told("no such cutter", "cutter is 'both', 'full', 'partial' or 'absent': not 'none'",
