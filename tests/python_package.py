@@ -1036,6 +1036,15 @@ def try_totals():
         told("another name", ([b"TOTAL", b"COUNT"], b"TOTAL"), ([file.name for file in totals.files()], sales.name))
         del totals["COUNT"]
         told("deleted", [b"TOTAL"], list(other))
+
+        def deletes(files):
+            for file in files:
+                if file not in (b"TOTAL", sales):
+                    totals.delete(file if isinstance(file, bytes) else file.name)
+        for files in (totals, totals.files()):
+            for name in "ABC":
+                totals.create(name, 1)
+            told("a loop that deletes what it is at", (None, [b"TOTAL"]), (raised(deletes, files), list(totals)))
         fault = raised(opened, totals=path)
         told("another till", ("BlockingIOError", str(path)), (type(fault).__name__, fault.filename))
         told("what it says", "is in use: close the other program, or the other till of this one, that has it open",
