@@ -694,6 +694,12 @@ def try_claims():
         with till.drawer("d1").in_use() as drawer:
             drawer.open_drawer()
         told("a drawer is disabled at the end of its use", (False, False), (drawer.claimed, drawer.device_enabled))
+        with drawer.in_use():
+            drawer.release()
+        told("also one that was released before", (False, False), (drawer.claimed, drawer.device_enabled))
+        with drawer.in_use():
+            drawer.close()
+        told("and one that was closed isn't", None, drawer.device)
         with first:
             pass
         told("a control is closed at the end of its block", (S_CLOSED, None), (first.state, first.device))
