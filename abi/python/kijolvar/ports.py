@@ -344,8 +344,8 @@ class Port(Unique):
             return 0
 
     def write(self, data: bytes, seconds: float) -> bool:
-        """Writes bytes, and returns whether all are out in that time. If not, some of them may be. What comes while
-        there is no room for them is dropped.
+        """Writes bytes, and returns whether all are out in that time. If not, some of them may be; with 0 seconds or
+        less nothing is written. What comes while there is no room for them is dropped.
 
         Raises:
             ValueError: The time is NaN.
