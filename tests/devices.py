@@ -67,6 +67,14 @@ category = "Scanner"
 name = "t1"
 category = "HardTotals"
 """
+SECOND_PRINTER = """
+[[device]]
+name = "r2"
+category = "POSPrinter"
+chars = 42
+lines = 1000
+near = 20
+"""
 # How long an order may take here, how much later than its timeout a call may return, how soon a lost port is tried again,
 # and how long something may take that has to happen, in seconds.
 TIMEOUT, SLACK, PAUSE, PATIENCE = 0.4, 0.6, 0.01, 10
@@ -112,12 +120,6 @@ def port_of(device, kind="usb"):
     if kind != "serial" and "holds" not in kind:
         return device.path
     return SerialPort(device.path, 115200, flow="none" if kind == "serial" else "rts-cts")
-
-
-def of_system(call):
-    """A function in the place of one of the system: what it raises isn't taken for what a signal's handler raises."""
-    names = {**globals(), "__package__": kijolvar.__package__}
-    return types.FunctionType(call.__code__, names, call.__name__, call.__defaults__, call.__closure__)
 
 
 def signs_of(device):
@@ -2649,7 +2651,6 @@ def without_rights(call):
     return found
 
 
-@of_system
 def fails_to_set(*_):
     raise termios.error(errno.EIO, "refused")
 
@@ -3186,7 +3187,6 @@ def try_scan_codes():
     """The scan code of each key is left out of a keyboard's events. One that refuses that opens too."""
     asked, number = [], errno.EINVAL
 
-    @of_system
     def refuses(file, *words):
         asked.append(words)
         raise OSError(number, "refused")
@@ -3261,6 +3261,23 @@ def try_scans_that_wait():
                     found.append(scanner.scan_data)
                 return (found or [scanner.state]) == wanted
             told(f"{name}: it is told again", True, until(is_told, 2))
+
+
+def try_scanner_of_two_tills():
+    """What a scanner's driver has read for a till that is closed is none of the next one's."""
+    with Scanner(cable()) as device:
+        driver = WedgeScanner(device.path)
+        for number in range(2):
+            with opened() as till:
+                till.drive("s1", driver)
+                told("its port is open", True, driver.port.is_open)
+                scanner = till.scanner("s1")
+                scanner.claim()
+                scanner.device_enabled = True
+                told("no code is there", (False, 0), (till.run_devices(), scanner.data_count))
+                device.garbage(b"123\r45")
+                told("a code and a half are read", True, until(
+                    lambda: driver.poll() or driver._found and driver._reader.has_begun))
 
 
 class Own(Driver):
@@ -3479,7 +3496,6 @@ def try_ports_again():
     port._looked_up_at -= 61
     known, took, asked = list(port._addresses), 0.0, []
 
-    @of_system
     def fails(name, *words, **named):
         asked.append(name)
         time.sleep(took)
@@ -3540,7 +3556,6 @@ def rings_once(call):
     """A call of the system before which a signal comes the first time."""
     left = [signal.SIGUSR1]
 
-    @of_system
     def rings(*words, **named):
         if left:
             signal.raise_signal(left.pop())
@@ -3550,7 +3565,7 @@ def rings_once(call):
 
 def try_handlers_at_openings():
     """An error that a signal's handler raises as a port opens, or closes, isn't taken for one of the port."""
-    def blocks(*_):
+    def blocks(_, frame):
         raise BlockingIOError("the handler would wait")
     before = signal.signal(signal.SIGUSR1, blocks)
     with Scanner(cable()) as device, mock.patch("fcntl.flock", rings_once(fcntl.flock)):
@@ -3570,7 +3585,6 @@ def try_handlers_at_openings():
             port.close()
     ioctl, number = fcntl.ioctl, 0
 
-    @of_system
     def rings_then(file, what, *words):
         if what == number:
             signal.raise_signal(signal.SIGUSR1)
@@ -3765,6 +3779,15 @@ def try_endless_ports():
         till.drive("p1", SerialDisplay(SerialPort("/dev/null")))
         with till.display("p1").in_use() as display:
             told("a file that was taken for a line", None, raised(display.display_text, b"Hi"))
+    port = kijolvar.FilePort("/dev/null")
+    port.open()
+    for seconds in (0.2, 0.0):
+        began = time.monotonic()
+        told("a port that gives nothing is read for as long as was said", (b"", seconds > 0),
+             (port.read(seconds), time.monotonic() - began >= 0.2))
+    with mock.patch.object(port, "read_some", side_effect=[b"", b"", b"7"]):
+        told("until something comes", b"7", port.read(PATIENCE))
+    port.close()
 
 
 def try_refusals():
@@ -3804,6 +3827,14 @@ def try_refusals():
         told("its drawer opens still", (None, 1), (raised(till.drawer("d1").open_drawer), len(device.pulses)))
         till.close()
         told("nobody has its port", False, driver.link.port.is_open)
+    with contextlib.ExitStack() as stack:
+        till = stack.enter_context(opened(PROFILE + SECOND_PRINTER))
+        device = stack.enter_context(Printer(cable()))
+        till.drive("r1", driver := EscPosPrinter(device.path, timeout=TIMEOUT, pause=PAUSE))
+        told("a driver that has a printer", "DriverError", name_of(till.drive, "r2", driver))
+        control = stack.enter_context(till.printer("r1").in_use())
+        told("prints each of two orders that are the same", ([None] * 2, [b"Tea"] * 2),
+             ([raised(control.print, b"Tea\n") for _ in range(2)], characters_of(device)))
     with opened(PROFILE.replace("near = 20", f"near = {MOST_LINES}")) as till:
         told("near its end for ever", "ValueError", name_of(till.drive, "r1", EscPosPrinter("/dev/null")))
     told("no such cutter", "cutter is 'both', 'full', 'partial' or 'absent': not 'none'",
@@ -4266,6 +4297,23 @@ def try_guide():
         emulator.stdin.write("show\n")
         emulator.stdin.close()
         told("the emulator shows its paper", " Bread\n", emulator.stdout.read().replace("Milk\n", ""))
+
+
+def try_emulator():
+    """A line that an emulated device doesn't understand once its time has come doesn't end it."""
+    words = [sys.executable, str(TOP / "tests/emulator"), "printer", "--path", str(CHECKS.work / "emulated")]
+    with subprocess.Popen(words, stdin=subprocess.PIPE, stdout=subprocess.PIPE, stderr=subprocess.PIPE,
+                          text=True) as emulator:
+        port = kijolvar.FilePort(emulator.stdout.readline().strip())
+        emulator.stdin.write("after 1 covr open\ncovr closed\n")
+        emulator.stdin.flush()
+        told("a line that it doesn't understand", "not understood: covr closed\n", emulator.stderr.readline())
+        port.open()
+        told("it is sent a line", True, port.write(b"Bread\n", PATIENCE))
+        emulator.stdin.write("wait\nshow\n")
+        emulator.stdin.close()
+        told("and prints it", ("Bread\n", "not understood: covr open\n"), (emulator.stdout.read(), emulator.stderr.read()))
+        port.close()
 
 
 # ---- costs

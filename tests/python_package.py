@@ -694,6 +694,12 @@ def try_claims():
         with till.drawer("d1").in_use() as drawer:
             drawer.open_drawer()
         told("a drawer is disabled at the end of its use", (False, False), (drawer.claimed, drawer.device_enabled))
+        with drawer.in_use():
+            drawer.release()
+        told("also one that was released before", (False, False), (drawer.claimed, drawer.device_enabled))
+        with drawer.in_use():
+            drawer.close()
+        told("and one that was closed isn't", None, drawer.device)
         with first:
             pass
         told("a control is closed at the end of its block", (S_CLOSED, None), (first.state, first.device))
@@ -951,6 +957,11 @@ def try_totals():
          (name_of(opened, create=True), str(raised(opened, create=True))))
     with kijolvar.create_totals(WORK / "whole", LIBRARY) as file:
         told("a new file has room for all of its bytes", True, os.fstat(file.fileno()).st_blocks * 512 >= 327_680)
+        told("and the path as its name", str(WORK / "whole"), file.name)
+        with opened(totals=file) as till:
+            told("as a till over it says", f"<kijolvar.Till: totals in {str(WORK / 'whole')!r}, 0 controls>", repr(till))
+            fault = raised(opened, totals=file)
+            told("and a second one", ("BlockingIOError", str(WORK / "whole")), (type(fault).__name__, fault.filename))
     with opened(totals=path, create=True) as till:
         totals = till.totals("t1")
         told("no files", (0, [], False), (len(totals), list(totals), "SALES" in totals))
@@ -1031,6 +1042,15 @@ def try_totals():
         told("another name", ([b"TOTAL", b"COUNT"], b"TOTAL"), ([file.name for file in totals.files()], sales.name))
         del totals["COUNT"]
         told("deleted", [b"TOTAL"], list(other))
+
+        def deletes(files):
+            for file in files:
+                if file not in (b"TOTAL", sales):
+                    totals.delete(file if isinstance(file, bytes) else file.name)
+        for files in (totals, totals.files()):
+            for name in "ABC":
+                totals.create(name, 1)
+            told("a loop that deletes what it is at", (None, [b"TOTAL"]), (raised(deletes, files), list(totals)))
         fault = raised(opened, totals=path)
         told("another till", ("BlockingIOError", str(path)), (type(fault).__name__, fault.filename))
         told("what it says", "is in use: close the other program, or the other till of this one, that has it open",

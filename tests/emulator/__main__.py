@@ -6,11 +6,12 @@ Usage: python3 tests/emulator printer [--path PATH | --tcp PORT] [--columns N] [
 
 A simple printer has neither automatic status nor acknowledgements of jobs. With --tcp 0 any port is taken.
 
-It prints the port first, and each command that it doesn't know on standard error. Then it takes: `cover open`, `cover closed`, `paper LINES`, `drawer open`, `drawer closed`,
-`jam on`, `jam off`, `plug out`, `plug in`, `hang on`, `hang off`, `mute on`, `mute off` (its answers are lost),
-`slow SECONDS` (for each line), `garbage HEX`, `scan TEXT`, `after BYTES WORDS ..` (the same once so many more bytes are
-worked off), `wait` (until all is worked off), `show`, which prints what is on the paper or the display, and `pulses`,
-which prints the pulses of the drawer's connector: pin, on and off.
+It prints the port first, and each command that it doesn't know on standard error. Then it takes: `cover open`,
+`cover closed`, `paper LINES`, `drawer open`, `drawer closed`, `jam on`, `jam off`, `plug out`, `plug in`, `hang on`,
+`hang off`, `mute on`, `mute off` (its answers are lost), `slow SECONDS` (for each line), `garbage HEX`, `scan TEXT`,
+`after BYTES WORDS ..` (the same once so many more bytes are worked off), `wait` (until all is worked off, or for 5
+seconds), `show`, which prints what is on the paper or the display, and `pulses`, which prints the pulses of the drawer's
+connector: pin, on and off.
 """
 import argparse
 import os
@@ -50,7 +51,7 @@ def happens(device, words):
     """Does what a line says."""
     verb, *rest = words
     if verb == "after":
-        device.after(int(rest[0]), lambda: happens(device, rest[1:]))
+        device.after(int(rest[0]), lambda: takes(device, rest[1:]))
     elif verb == "cover":
         device.cover(rest[0] == "open")
     elif verb == "paper":

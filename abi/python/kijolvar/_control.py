@@ -283,8 +283,9 @@ class Control(Unique):
             self._disable()
 
     def _disable(self) -> None:
-        """Disables the control at the end of its use."""
-        if self._has_claim():
+        """Disables the control at the end of its use. A sharable device that was released stays enabled until then."""
+        is_open = self._device is not None and not self._till.is_closed
+        if is_open and not self.is_exclusive or self._has_claim():
             self._do(self._set + b"DeviceEnabled false", "device_enabled")
 
 

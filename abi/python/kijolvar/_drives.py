@@ -15,7 +15,7 @@ from ._devices import Device, Order, WorkFailed, read_order
 from ._faults import DriverError, InCallError, InputError, LineError, NoDeviceError, NoMemoryError, library_fault
 from ._questions import ProfileDevice
 from ._session import Session, is_called
-from .drivers import Driver, Scan
+from .drivers import Driver, EscPosPrinter, Scan
 from .ports import BESIDE, PortError
 
 if TYPE_CHECKING:
@@ -114,6 +114,9 @@ class Drives:
             raise DriverError(f"{device.name!r} is a {device.category}, and the driver is for a {driver.category}")
         if device.name in self._drives:
             raise DriverError(f"{device.name!r} has a driver already")
+        if isinstance(driver, EscPosPrinter) and any(drive.driver is driver for drive in self._drives.values()):
+            # It would take an order of one for a retry of the other's.
+            raise DriverError(f"the driver for {device.name!r} has another printer: make one for each")
 
     def add(self, device: ProfileDevice, driver: Driver) -> None:
         """Has a driver carry out the orders of a device from now on."""

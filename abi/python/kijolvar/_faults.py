@@ -175,7 +175,8 @@ class ExchangeError(Error):
 
 
 class DriverError(Error):
-    """A device can't have this driver: it is of another category, or has a driver already. Or it is an InOrderError."""
+    """A device can't have this driver: it is of another category, or has a driver already, or the driver has another
+    printer. Or it is an InOrderError."""
 
 
 class InOrderError(DriverError, InCallError):

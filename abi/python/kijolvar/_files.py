@@ -121,7 +121,7 @@ def create_totals(library: ctypes.CDLL, path: Path, profile: bytes = b"") -> Bin
     """
     name = os.fspath(path)
     with contextlib.ExitStack() as undo, _folder(name) as folder, naming(name):
-        totals = undo.enter_context(open(_unnamed(folder), "r+b", buffering=0))
+        totals = undo.enter_context(open(name, "r+b", buffering=0, opener=lambda *_: _unnamed(folder)))
         _lock(totals, name)
         # All of its bytes are written, so that a disk without room for them fails now, and not later.
         write_whole(totals.fileno(), bytes(KIJOLVAR_DISK_LENGTH), 0)
@@ -156,7 +156,7 @@ def read_totals(path: Path) -> bytes:
     Raises:
         FileNotFoundError: The file is missing.
         BlockingIOError: A till or another program has the file open.
-        OSError: It is no regular file, or can't be synced or read.
+        OSError: It can't be synced or read, as a folder or a FIFO.
     """
     name = os.fspath(path)
     with naming(name), _locked(name, "rb", fcntl.LOCK_SH) as totals:
@@ -171,7 +171,7 @@ def read_steady(path: Path) -> bytes:
     Raises:
         FileNotFoundError: The file is missing.
         BlockingIOError: It changes from each reading to the next.
-        OSError: It is no regular file, or can't be read.
+        OSError: It can't be read, as a folder or a FIFO.
     """
     name = os.fspath(path)
     with naming(name), open(name, "rb", buffering=0, opener=_open_at_once) as totals:

@@ -170,7 +170,7 @@ def files(path: Path, library: Path | ctypes.CDLL | None = None) -> TotalsConten
     """What a file of totals holds. It is only read, and first synced, so that what is found stays.
 
     Raises:
-        OSError: It is no regular file, or can't be synced or read.
+        OSError: It can't be synced or read, as a folder or a FIFO.
         FileNotFoundError: The file is missing.
         BlockingIOError: A till or another program has the file open.
         DamagedError: The file breaks a rule; the exception says which, and where.

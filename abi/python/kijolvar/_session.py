@@ -143,7 +143,8 @@ class Session(Unique):
         # Room for the bytes of an order or the lines of a reply, its address, and how many it takes.
         self._order_room: tuple[Any, int, int] = _room_of(_ROOM)
         self._next_order, self._order_done, self._order_bytes, self._replies = (
-            by_addresses(library, f"kijolvar_{name}") for name in ("next_order", "order_done", "order_bytes", "replies"))
+            by_addresses(library, f"kijolvar_{name}")
+            for name in ("next_order", "order_done", "order_bytes", "replies"))
         self._later: deque[Callable[[], Callable[[], None] | None]] = deque()
         self._has_served = False
         # Whether the library holds lines for which memory ran out, and what was printed of them and isn't reported yet.

@@ -833,4 +833,6 @@ class WedgeScanner(Driver):
 
     def close(self) -> None:
         self.port.close()
-        self._typed = [bytearray()]
+        # Another till may have this driver later.
+        self._typed, self._reader, self._has_failed, self._tried_at = [bytearray()], self._new_reader(), False, -1e9
+        self._found.clear()

@@ -344,8 +344,8 @@ class Port(Unique):
             return 0
 
     def write(self, data: bytes, seconds: float) -> bool:
-        """Writes bytes, and returns whether all are out in that time. If not, some of them may be. What comes while
-        there is no room for them is dropped.
+        """Writes bytes, and returns whether all are out in that time. If not, some of them may be; with 0 seconds or
+        less nothing is written. What comes while there is no room for them is dropped.
 
         Raises:
             ValueError: The time is NaN.
@@ -371,7 +371,13 @@ class Port(Unique):
             ValueError: The time is NaN.
             PortError: The port was lost. It is closed then.
         """
-        return self.read_some() if self.ready(False, seconds)[0] else b""
+        end = time.monotonic() + seconds
+        while self.ready(False, end - time.monotonic())[0]:
+            if (data := self.read_some()) or (left := end - time.monotonic()) <= 0:
+                return data
+            # A port may be readable all the time, and give nothing.
+            rest_beside(min(left, 0.001))
+        return b""
 
     def _take_rest(self) -> bytes:
         """Takes what had come when a write found the port lost. Nothing more of it can be read."""
@@ -464,12 +470,14 @@ def rest_beside(seconds: float) -> None:
 
 
 def _is_of_handler(fault: Exception) -> bool:
-    """Whether a signal's handler has raised it, behind the system's call: it is none of the port's. Then one of its
-    calls is neither this package's nor Python's for sockets."""
-    trace = fault.__traceback__
+    """Whether a signal's handler has raised it, behind the system's call: it is none of the port's. A handler is given
+    the frame that it interrupts, which is the one that calls it. What only wraps a call of the system isn't."""
+    # The first frame is that of who asks.
+    trace = fault.__traceback__ and fault.__traceback__.tb_next
     while trace is not None:
-        names = trace.tb_frame.f_globals
-        if names.get("__package__") != __package__ and names.get("__name__") != socket.__name__:
+        caller, given = trace.tb_frame.f_back, list(trace.tb_frame.f_locals.values())
+        given += [word for words in given if type(words) is tuple for word in words]
+        if caller is not None and any(word is caller for word in given):
             return True
         trace = trace.tb_next
     return False

@@ -376,7 +376,8 @@ class Till(Unique):
 
         Raises:
             NoDeviceError: The profile has no device of the name, or it can't be driven, as one with `flaky`.
-            DriverError: The driver is for another category, or the device has one already.
+            DriverError: The driver is for another category, or the device has one already, or an EscPosPrinter is to
+                drive two printers.
 
         If it raises something, the device has no driver, and neither has the drawer that is on a printer.
         """

@@ -79,8 +79,8 @@ class Totals(HardTotals, Mapping[bytes, "TotalsFile"]):
         return True
 
     def __iter__(self) -> Iterator[bytes]:
-        for index in range(self.number_of_files):
-            yield self.find_by_index(index)
+        # All names at once: a loop may delete and rename what it is at.
+        yield from [self.find_by_index(index) for index in range(self.number_of_files)]
 
     def files(self) -> Iterator[TotalsFile]:
         """The files, in the order of creation."""
