@@ -105,6 +105,8 @@ def _advice_on_port(why: PortError, port: str) -> str:
         return f"another program has it: `fuser -v {port}` says which"
     if port.startswith("tcp:"):
         return "is the printer on, and is that its address? Its own test page tells it"
+    if port.startswith("/dev/usb/lp"):
+        return "is the printer plugged in? If it is: `modprobe usblp` as root, and take it out of CUPS"
     return "is the device plugged in? /dev/usb, /dev/serial/by-id and /dev/input/by-id have the ports"
 
 
