@@ -411,11 +411,8 @@ def clauses(documents):
     one = r"`([\w:]+)`"
     for document, text in of_documents(documents):
         text = without_blocks(text)
-        named = re.findall(rf"{one}, clause\s+`(\w+)`", text)
-        for row in re.findall(r"^\|.*\|$", text, re.M):
-            cells = [cell.strip() for cell in row.strip("|").split("|")]
-            if document == "docs/proofs/what-is-proved.md" and len(cells) == 3 and re.fullmatch(r"`[\w:]+`", cells[1]):
-                named += [(cells[1].strip("`"), clause) for clause in re.findall(r"`(\w+)`", cells[2])]
+        named = [(name, clause) for name, listed in re.findall(rf"{one}, clauses?\s+(`\w+`(?:(?:,| and)\s+`\w+`)*)", text)
+                 for clause in re.findall(r"`(\w+)`", listed)]
         parts_of = [(name, part) for part, *names in re.findall(rf"`(\w+)`\s+of\s+{one}(?:\s+and\s+of\s+{one})?", text)
                     for name in names if name and part.islower()]
         looked += len(named) + len(parts_of)
@@ -797,7 +794,7 @@ PLANTS = [
     ("generated", instead("docs/contributing/testing.md", r"^(\| `tests/rules.sh` \|.*) \|$", r"\1 or not |")),
     ("clauses", behind("README.md", "`pos_counter::Counter::call`, clause `nothing_of_it`.")),
     ("clauses", behind("docs/reference/totals-file.md", "This is `nothing_of_it` of `Images::publish`.")),
-    ("clauses", instead("docs/proofs/what-is-proved.md", r"`pos_counter::laws::crash_prefix` \| `after`", "`pos_counter::laws::crash_prefix` | `afterwards`")),
+    ("clauses", instead("docs/proofs/what-is-proved.md", r"`after`, `inside` and `along`", "`after`, `inside` and `among`")),
     ("claims", instead("README.md", r"`pos_console::perform` \(`RunsProgram`\)", "`pos_console::perform` (`Performs`)")),
     ("claims", instead("docs/proofs/what-is-proved.md", r"\(`Describes`, `Breaks`\)", "(`Describes`, `RunsOverTotals`)")),
     ("theorems", instead(THEOREMS, r"`pos_store::Store::commit` \| `Commits\.crash`",
