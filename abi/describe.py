@@ -15,6 +15,7 @@ import tomllib
 import declare
 
 TOP = declare.TOP
+COUNTER = TOP / "crates/pos_counter/specs"
 SERVICE = TOP / "crates/pos_service/specs"
 DISPLAY = TOP / "crates/pos_display/specs"
 PRINTER = TOP / "crates/pos_printer/specs"
@@ -60,10 +61,13 @@ def rows(path, owner):
     return {name: (fields.split(), row) for name, fields, row in re.findall(form, text)}
 
 
-def call_row(row):
-    """What a row of the calls says: the category, the claim, whether the device must be enabled, and memory."""
+def call_row(variant, row):
+    """What a row of the calls says: the category, the claim, whether the device must be enabled, and memory. Whether a
+    call that each category has takes memory says the machine."""
     if row == "common_row":
-        return {"category": None, "claim": "any", "enabled": False, "takes_memory": False}
+        takes = one(rf"takes_memory machine control \(?call\.{variant}(?: \w+)?\)? = (true|false)",
+                    equations(COUNTER / "Steps.antt", "takes_memory"))
+        return {"category": None, "claim": "any", "enabled": False, "takes_memory": BOOLEANS[takes]}
     form = r"^own_row category\.(\w+) claim_need\.(\w+) (true|false) (true|false)$"
     category, claim, enabled, memory = one(form, row)
     return {"category": category, "claim": CLAIMS[claim], "enabled": BOOLEANS[enabled],
@@ -292,7 +296,7 @@ def describe_argument(word, name, kind, entries, range_of):
 
 
 def describe_method(word, line, types, variant, table, documentation, range_of, given, codes):
-    fields, row = table[variant][0], call_row(table[variant][1])
+    fields, row = table[variant][0], call_row(variant, table[variant][1])
     entry = documentation.get("methods", word, summary=str, chapter=str)
     subset(entry, ("summary", "detail", "chapter", "errors", "arguments", "returns"), f"methods.{word}")
     listed = entry.get("arguments", {})

@@ -519,6 +519,7 @@ const char *kij_property_name(kij_property property);
  * @retval KIJ_E_ILLEGAL The control is open already.
  * @retval KIJ_E_NOEXIST No device of the control's category has the name.
  * @retval KIJ_E_NOSERVICE No peripheral is attached to the device.
+ * @retval KIJ_NO_MEMORY There was no memory.
  */
 kij_result kij_control_open(kij_control *control, const char *device);
 

@@ -93,6 +93,7 @@ impl Control<'_> {
     /// - [`E_ILLEGAL`](ResultCode::Illegal): the control is open already.
     /// - [`E_NOEXIST`](ResultCode::NoExist): no device of the control's category has the name.
     /// - [`E_NOSERVICE`](ResultCode::NoService): no peripheral is attached to the device.
+    /// - [`Cause::NoMemory`]: there was no memory.
     pub fn open(&self, device: &str) -> Result<(), Error> {
         let line = self.line("open").name(device);
         self.open_on(device, &line)
