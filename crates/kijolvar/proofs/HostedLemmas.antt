@@ -18,7 +18,7 @@ use Rattle.kijolvar.specs.TillDisks.{AddsIfHosted, DoesIfHosted, FileFollows, Go
 use Rattle.kijolvar.specs.TillDisks.{IsInStep, errands_of, fixed_of, failures_by, failures_of, hosted, hosted_state}
 use Rattle.kijolvar.specs.TillDisks.{listed, loose_number}
 use Rattle.kijolvar.specs.TillDisks.{DoesTold, settlement_by, settlement_with}
-use Rattle.kijolvar.specs.declared.till_disk.Settlement.TheVariants.{Failed, InMemory, Owed, Settled}
+use Rattle.kijolvar.specs.declared.till_disk.Settlement.TheVariants.{Owed, Settled}
 use Rattle.kijolvar.specs.declared.errands.Errand.{Errand}
 use Rattle.kijolvar.specs.declared.errands.Errand.TheVariants.{Sync, Write}
 
@@ -309,24 +309,3 @@ told_in_file told old new failed owed does is at_before at before after needed_b
     let still = still_owed told old new failed owed does in
     all_done new.memory new.work is (told_code (errands_of new.work) at_before at before after needed_before needed now
     tells fine) still.0 still.1
-
--- a host that said that an errand failed has failed, unless there is no file
-pub failed_now : (work : Option HostWork) (failed : Bool) → settlement_with work failed ≢ InMemory
-    → settlement_with work true ≡ Failed
-failed_now None failed hosts = absurd (hosts refl)
-failed_now (Some work) failed hosts = failed_by work.lost work.errands
-  where
-    failed_by : (lost : Bool) (errands : List Errand) → settlement_by (lost || true) errands ≡ Failed
-    failed_by true errands = refl
-    failed_by false errands = refl
-
-pub none_fails : (work : Option HostWork) (failed : Bool) → settlement_with work failed ≡ InMemory
-    → settlement_with work true ≡ InMemory
-none_fails None failed none = refl
-none_fails (Some work) failed none = absurd (has_file work.lost failed work.errands none)
-  where
-    has_file : (lost failed : Bool) (errands : List Errand) → settlement_by (lost || failed) errands ≡ InMemory → ⊥
-    has_file true failed errands is = cc
-    has_file false true errands is = cc
-    has_file false false [] is = cc
-    has_file false false (errand ∷ errands) is = cc

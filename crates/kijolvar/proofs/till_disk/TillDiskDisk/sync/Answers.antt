@@ -1,11 +1,7 @@
 use Rattle.pos_disk.specs.Memory.{synced}
-use Rattle.kijolvar.proofs.HostedLemmas.{in_step_on, stays_on, synced_so, went_on}
+use Rattle.kijolvar.proofs.HostedLemmas.{in_step_on, synced_so, went_on}
 use Rattle.kijolvar.specs.Errands.{IsSync}
 use Rattle.kijolvar.proofs.till_disk.TillDiskDisk.sync.Goals as goal
-
-pub invariant_of-self : goal.invariant_of-self
-invariant_of-self c =
-    stays_on _ _ c.self.inside.memory c.in_err-add_sync.ensures c.self.invariant
 
 pub invariant_of-self-2 : goal.invariant_of-self-2
 invariant_of-self-2 c = in_step_on IsSync synced synced_so _ _ _ c.self.inside.memory c.sync.new.self

@@ -1,5 +1,0 @@
-use Rattle.kijolvar.proofs.Common.{◌∙◌}
-use Rattle.kijolvar.proofs.kijolvar_errand_failed.Goals as goal
-
-pub returns : goal.returns
-returns c = rw c.leave.ensures (rw (c.deref_mut.ensures.value ∙ c.take-session.ensures) at c.fail.ensures)
