@@ -411,7 +411,7 @@ ends 'explain a number with a zero before it' 1 "kijolvar: no code is 0106"$'\n'
 ends 'explain a result code and its extended code' 0 '' "E_EXTENDED 114, result code: the extended code says what is wrong
 to do: what the extended code says
 EPTR_REC_EMPTY 203, extended code: the receipt doesn't have enough paper
-to do: put in a new roll" explain 114 203
+to do: put in a new roll, or print less at once" explain 114 203
 cp out by_number
 ends 'explain them by their names' 0 '' "$(cat by_number)" explain E_EXTENDED EPTR_REC_EMPTY
 "$tool" explain 114 201 > out

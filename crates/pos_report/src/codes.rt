@@ -96,7 +96,7 @@ const CODES: [Code<'static>; 40] = [
         name: "E_OFFLINE",
         kind: RESULT,
         meaning: "the device is off",
-        action: "switch it on",
+        action: "switch it on, and check its cable, its port, and who may use that",
     },
     Code {
         number: 109,
@@ -117,7 +117,7 @@ const CODES: [Code<'static>; 40] = [
         name: "E_FAILURE",
         kind: RESULT,
         meaning: "the device or the disk failed",
-        action: "check the device; for totals, `kijolvar check FILE`",
+        action: "check the device; for totals, `kijolvar check FILE`, but after a failed sync restart the machine first",
     },
     Code {
         number: 112,
@@ -159,7 +159,7 @@ const CODES: [Code<'static>; 40] = [
         name: "EPTR_REC_EMPTY",
         kind: EXTENDED,
         meaning: "the receipt doesn't have enough paper",
-        action: "put in a new roll",
+        action: "put in a new roll, or print less at once",
     },
     Code {
         number: 0,
