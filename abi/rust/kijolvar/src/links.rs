@@ -1,6 +1,7 @@
 //! The line to a receipt printer: what is sent, what has been acknowledged, and what the printer says of itself. The
 //! bytes of orders and the meaning of replies are the library's.
 use crate::drivers::{DriverTill, OrderEnd};
+use crate::error::{Cause, Error};
 use crate::ports::{end_after, uptime, Cable, Lost, Port, ETIMEDOUT, LONGEST_WAIT, MOST_READS, QUICKLY};
 use crate::wire::{Asked, PrinterReply, WireSettings};
 use std::collections::VecDeque;
@@ -598,8 +599,15 @@ impl Link {
     }
 
     /// Reads the first reply in bytes that have come.
-    fn reply(&self, till: &mut DriverTill<'_>, asked: Asked, bytes: &[u8]) -> Option<PrinterReply> {
-        self.devices.iter().find_map(|(device, settings)| till.reply(device, settings, asked, bytes).ok())
+    fn reply(&self, till: &mut DriverTill<'_>, asked: Asked, bytes: &[u8]) -> Result<PrinterReply, Error> {
+        let mut found = Err(Error::new("reply", Cause::NoDevice));
+        for (device, settings) in &self.devices {
+            found = till.reply(device, settings, asked, bytes);
+            if !matches!(&found, Err(error) if matches!(error.cause(), Cause::NoDevice)) {
+                break;
+            }
+        }
+        found
     }
 
     /// A printer that is asked has sent an automatic status, although it was told to send none: it was reset. What is
@@ -635,25 +643,30 @@ impl Link {
     }
 
     /// Reads a byte as one of an automatic status, as the answer to the question that is out, or as an acknowledgement.
-    fn take_byte(&mut self, till: &mut DriverTill<'_>, byte: u8) {
+    /// Returns whether there was memory for that.
+    fn take_byte(&mut self, till: &mut DriverTill<'_>, byte: u8) -> bool {
         if self.is_of_status(byte) {
-            return;
+            return true;
         }
         let question = (self.unanswered > 0).then_some(QUESTIONS[self.question]);
         let due = self.is_first_sent().then_some(Asked::PaperInOrder);
         for asked in [question, due].into_iter().flatten() {
-            let Some(reply) = self.reply(till, asked, &[byte]) else { return };
+            let reply = match self.reply(till, asked, &[byte]) {
+                Ok(reply) => reply,
+                Err(error) => return !matches!(error.cause(), Cause::NoMemory),
+            };
             if let Some(line) = reply.lines.last() {
                 self.take_answer(line, Told { bytes: vec![byte], asked });
-                return;
+                break;
             }
         }
+        true
     }
 
     /// Reads the first reply in what has come, and forgets the bytes that it used. Returns whether any were used.
     fn take_first(&mut self, till: &mut DriverTill<'_>) -> bool {
         let asked = if self.unanswered > 0 { QUESTIONS[self.question] } else { Asked::Nothing };
-        let Some(reply) = self.reply(till, asked, &self.got) else { return false };
+        let Ok(reply) = self.reply(till, asked, &self.got) else { return false };
         if reply.used == 0 || reply.used > self.got.len() {
             return false;
         }
@@ -669,16 +682,16 @@ impl Link {
     fn read_some(&mut self, till: &mut DriverTill<'_>) -> Result<bool, Lost> {
         let mut room = [0; MOST_KEPT];
         let count = self.cable.read(&mut room)?;
+        // Bytes that the library couldn't read for so long are no reply.
+        if self.got.len() >= MOST_KEPT {
+            self.got.clear();
+        }
+        self.got.extend_from_slice(&room[..count]);
         if self.is_asked {
-            for byte in &room[..count] {
-                self.take_byte(till, *byte);
+            while self.got.first().copied().is_some_and(|byte| self.take_byte(till, byte)) {
+                self.got.remove(0);
             }
         } else {
-            // Bytes that the library couldn't read for so long are no reply.
-            if self.got.len() >= MOST_KEPT {
-                self.got.clear();
-            }
-            self.got.extend_from_slice(&room[..count]);
             while !self.got.is_empty() && self.take_first(till) {}
         }
         Ok(count > 0)

@@ -1557,6 +1557,74 @@ fn a_wait_for_devices_may_have_no_end() {
     assert!(till.run_devices(Duration::MAX).unwrap());
 }
 
+/// A scanner at which memory runs out as soon as a printer has got a line.
+struct Starving(Arc<AtomicU32>, Arc<AtomicBool>);
+
+impl Driver for Starving {
+    fn category(&self) -> Category {
+        Category::Scanner
+    }
+
+    fn read_ahead(&mut self) -> Option<RawFd> {
+        if self.0.load(Ordering::Relaxed) == 1 && !self.1.swap(true, Ordering::Relaxed) {
+            system::limit_memory(0, u32::MAX);
+        }
+        None
+    }
+}
+
+/// A printer that is asked. It counts its lines, and acknowledges them once memory is short.
+fn print_asked(listener: TcpListener, lines: Arc<AtomicU32>, is_short: Arc<AtomicBool>) {
+    let (mut stream, _) = listener.accept().unwrap();
+    let (mut got, mut room) = (Vec::new(), [0; 256]);
+    while let Ok(count @ 1..) = stream.read(&mut room) {
+        got.extend_from_slice(&room[..count]);
+        let mut at = 0;
+        while got.len() - at >= 3 || got[at..].ends_with(b"\n") {
+            let answer = match &got[at..] {
+                [b'\n', ..] => {
+                    lines.fetch_add(1, Ordering::Relaxed);
+                    None
+                }
+                [0x10, 0x04, ..] => Some(0x12),
+                [0x1d, b'r', ..] => Some(0),
+                _ => None,
+            };
+            while answer == Some(0) && !is_short.load(Ordering::Relaxed) {
+                std::thread::sleep(Duration::from_millis(1));
+            }
+            at += if answer.is_some() { 3 } else { 1 };
+            if answer.is_some_and(|byte| stream.write_all(&[byte]).is_err()) {
+                return;
+            }
+        }
+        got.drain(..at);
+    }
+}
+
+#[test]
+fn an_answer_without_a_number_outlasts_want_of_memory() {
+    let (till, listener) = (till(), TcpListener::bind("127.0.0.1:0").unwrap());
+    let (lines, is_short) = (Arc::new(AtomicU32::new(0)), Arc::new(AtomicBool::new(false)));
+    let port = format!("tcp:{}", listener.local_addr().unwrap());
+    spawn({
+        let (lines, is_short) = (Arc::clone(&lines), Arc::clone(&is_short));
+        move || print_asked(listener, lines, is_short)
+    });
+    till.drive("s1", Starving(Arc::clone(&lines), is_short)).unwrap();
+    let settings = EscPosSettings { is_asked: true, timeout: Duration::from_secs(1), ..EscPosSettings::default() };
+    till.drive("r1", EscPosPrinter::open(port, settings)).unwrap();
+    let printer = till.pos_printer("r1").unwrap().enabled().unwrap();
+    let print = || printer.print_normal(PrinterStation::Receipt, "Bread\n");
+    assert!(print().is_err());
+    system::give_memory();
+    let end = Instant::now() + Duration::from_secs(20);
+    while print().is_err() && Instant::now() < end {
+        till.run_devices(Duration::ZERO).unwrap();
+    }
+    assert_eq!(lines.load(Ordering::Relaxed), 1);
+}
+
 #[test]
 fn a_claim_may_have_no_end() {
     let till = till();
