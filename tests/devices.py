@@ -1189,6 +1189,22 @@ def try_given_up_by_a_text():
         told("it is printed twice", (7, 1), (len(shop.device.receipt()), shop.driver.late_orders))
 
 
+def try_given_up_by_another_till():
+    """A till that has the driver of one that is closed asks for nothing that this has ordered."""
+    with contextlib.ExitStack() as stack:
+        shop = Shop(stack)
+        shop.begins()
+        shop.device.after(20, lambda: shop.device.cover(True))
+        told("an order that fails", (114, 201), raised(shop.control.print, TEXT))
+        shop.till.close()
+        shop.device.cover(False)
+        till = stack.enter_context(opened())
+        till.drive("r1", shop.driver)
+        told("the next till has the printer", True, until(lambda: till.run_devices(0.01) or shop.driver.is_online))
+        told("the same is a new order", None, raised(stack.enter_context(till.printer("r1").in_use()).print, TEXT))
+        told("all of it is printed", 7, len(shop.device.receipt()))
+
+
 def try_not_given_up():
     """What gives up nothing: other devices' controls, a refused call, and a reply to no ErrorEvent."""
     with contextlib.ExitStack() as stack:

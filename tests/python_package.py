@@ -258,6 +258,15 @@ def try_fork():
     os.waitpid(child, 0)
     told("as long as it has it", None, raised(lambda: opened(totals=path).close()))
     os.close(waits)
+    with contextlib.ExitStack() as stack:
+        tills = [stack.enter_context(opened(totals=WORK / f"forked-{number}", create=True)) for number in range(3)]
+        drawers = [till.drawer("d1") for till in tills]
+        with mock.patch.object(type(tills[0]._session), "_leave", side_effect=OSError("the server is away")), \
+                mock.patch("sys.unraisablehook"):
+            child = os.fork()
+            if child == 0:
+                os._exit([name_of(drawer.open_drawer) for drawer in drawers] != ["ThreadError"] * 3)
+        told("no till is a forked process's though their files can't be closed there", 0, os.waitpid(child, 0)[1])
     try_killed_till(path)
 
 

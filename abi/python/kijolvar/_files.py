@@ -100,10 +100,13 @@ def open_totals(path: Path) -> BinaryIO:
         BlockingIOError: Another till or program has the file open.
     """
     name = os.fspath(path)
-    with contextlib.ExitStack() as undo, _folder(name) as folder, naming(name):
-        totals = undo.enter_context(_locked(name, "r+b", fcntl.LOCK_EX))
-        _sync_first(totals)
-        os.fsync(folder)
+    with contextlib.ExitStack() as undo:
+        with naming(name):
+            totals = undo.enter_context(_locked(name, "r+b", fcntl.LOCK_EX))
+            _sync_first(totals)
+        # Where the path is a link, the name that such a creation gave is that to which it leads.
+        with _folder(os.path.realpath(name)) as folder, naming(name):
+            os.fsync(folder)
         undo.pop_all()
     return totals
 

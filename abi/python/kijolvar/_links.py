@@ -664,7 +664,9 @@ class PrinterLink:
     # The port.
 
     def start(self) -> None:
-        """Opens the port, and waits for the printer's first status as long as for a line."""
+        """Opens the port, and waits for the printer's first status as long as for a line. What an earlier till has
+        ordered isn't asked for any more."""
+        self.give_up()
         self.is_begun = True
         end = self._ends_at = time.monotonic() + self.timeout
         self._connect(self.timeout)

@@ -1,6 +1,7 @@
 """The text layer: a till that is given lines, and gives the text of their answers. It does the errands of the disk."""
 from __future__ import annotations
 
+import contextlib
 import ctypes
 import errno
 import functools
@@ -706,8 +707,10 @@ def _disown() -> None:
     global _entering
     # A thread that isn't here may have it.
     _entering = threading.RLock()
-    for session in _sessions:
-        session.forked()
+    with contextlib.ExitStack() as ends:
+        # Closing a file may fail, as that of a server: the other tills are disowned all the same.
+        for session in _sessions:
+            ends.callback(session.forked)
 
 
 os.register_at_fork(after_in_child=_disown)

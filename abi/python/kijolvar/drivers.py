@@ -154,8 +154,8 @@ class EscPosPrinter(Driver):
     control was released or closed meanwhile. Output that waits (AsyncMode) does so though other orders were printed at
     once meanwhile. It is a new order, of which all is printed, if the application has given up the one that failed:
     with `clear_output`, or with the reply ER_CLEAR to its ErrorEvent. Once a line has opened a control
-    (`Till.carry_out`), each gives up the failed orders of all printers. It is a new one, too, if another order was
-    printed at once meanwhile, but not if that put nothing on the paper.
+    (`Till.carry_out`), each gives up the failed orders of all printers. It is a new one, too, in another till, or if
+    another order was printed at once meanwhile, but not if that put nothing on the paper.
 
     A serial line with flow control keeps what was sent while the printer is off. If the printer says nothing for 2
     seconds, or for the timeout if that is shorter, the order has failed, and what isn't acknowledged of it is printed

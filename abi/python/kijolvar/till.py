@@ -247,6 +247,7 @@ class Till(Unique):
 
         Raises:
             NoExistError: The profile has no cash drawer of the name.
+            NoServiceError: No peripheral is attached to it.
         """
         return self._opened(CashDrawer, device, enable)
 
@@ -255,6 +256,7 @@ class Till(Unique):
 
         Raises:
             NoExistError: The profile has no scanner of the name.
+            NoServiceError: No peripheral is attached to it.
         """
         return self._opened(Scanner, device, False)
 
@@ -263,6 +265,7 @@ class Till(Unique):
 
         Raises:
             NoExistError: The profile has no line display of the name.
+            NoServiceError: No peripheral is attached to it.
         """
         return self._opened(LineDisplay, device, False)
 
@@ -271,6 +274,7 @@ class Till(Unique):
 
         Raises:
             NoExistError: The profile has no receipt printer of the name.
+            NoServiceError: No peripheral is attached to it.
         """
         return self._opened(Printer, device, False)
 
