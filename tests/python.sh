@@ -40,7 +40,7 @@ copies() {
   rm -rf "$work/tree"
   mkdir "$work/tree"
   cp -r "$top/abi" "$work/tree/abi"
-  for crate in kijolvar pos_service pos_display pos_printer pos_script pos_totals pos_profile; do
+  for crate in kijolvar pos_service pos_counter pos_display pos_printer pos_script pos_totals pos_profile; do
     mkdir -p "$work/tree/crates/$crate"
     cp -r "$top/crates/$crate/"{src,specs} "$work/tree/crates/$crate"
   done

@@ -1400,6 +1400,12 @@ def try_files():
             fault = raised(kijolvar.check, path, LIBRARY)
         told(f"it is synced before it is read, with {number}", (1, wanted, wanted and str(path)),
              (syncs.call_count, getattr(fault, "errno", None), getattr(fault, "filename", None)))
+    (WORK / "links").mkdir()
+    (WORK / "links/totals").symlink_to(path)
+    synced = []
+    with mock.patch("kijolvar._files.os.fsync", lambda file: synced.append(os.readlink(f"/proc/self/fd/{int(file)}"))):
+        kijolvar.open_totals(WORK / "links/totals").close()
+    told("a file that is opened by a link is synced, and its folder", [str(path), str(path.parent)], synced)
     os.mkfifo(WORK / "fifo")
     faults = [in_time(call, WORK / "fifo", LIBRARY) for call in (kijolvar.files, kijolvar.check)]
     told("a FIFO isn't waited for", [(errno.ESPIPE, str(WORK / "fifo"))] * 2,
