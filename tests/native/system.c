@@ -397,6 +397,49 @@ static void try_closing(void) {
     close(other);
 }
 
+/* What is written to a line, or to another terminal, is read at its other end though it is closed at once. */
+static void try_closing_at_once(void) {
+    int before = failed;
+    for (int round = 0; round < 100 && failed == before; round++) {
+        kij_port port;
+        char bytes[16];
+        size_t count = 0;
+        int other = make_line(&port), line = also_open(&port);
+        if (round % 2 == 1) port.kind = KIJ_PORT_FILE;
+        told("a line is opened", true, kij_internal_port_open(&port, 100));
+        bool is_written = kij_internal_port_write(&port, "Total", 5, &count);
+        bool is_left = kij_internal_port_is_draining(&port);
+        kij_internal_port_close(&port);
+        told("it gets bytes", true, is_written);
+        told("none is left", false, is_left);
+        struct pollfd coming = {other, POLLIN, 0};
+        bool has_come = poll(&coming, 1, 5000) == 1;
+        told("all of them come", 5, has_come ? (long)read(other, bytes, sizeof bytes) : 0);
+        close(line);
+        close(other);
+    }
+}
+
+/* A terminal that isn't set up as a serial line says what it hasn't sent, too. */
+static void try_draining(void) {
+    static const kij_serial_settings serial = KIJ_SERIAL_SETTINGS;
+    kij_port port, none;
+    int other = make_line(&port);
+    port.kind = KIJ_PORT_FILE;
+    told("a terminal is opened", true, kij_internal_port_open(&port, 100));
+    held = 3;
+    told("it hasn't sent all", true, kij_internal_port_is_draining(&port));
+    held = 0;
+    told("it has", false, kij_internal_port_is_draining(&port));
+    kij_internal_port_close(&port);
+    kij_internal_port(&none, "/dev/null", &serial, false);
+    told("another device is opened", true, kij_internal_port_open(&none, 100));
+    told("it says nothing of that", false, kij_internal_port_is_draining(&none));
+    told("it is open", true, kij_internal_port_is_open(&none));
+    kij_internal_port_close(&none);
+    close(other);
+}
+
 /* A process that was forked leaves the line and the lock as they are, and keeps neither. */
 static void try_forked(const char *path) {
     kij_port port, again;
@@ -1276,6 +1319,8 @@ int main(int count, char **words) {
     try_held_questions();
     try_lost_line();
     try_closing();
+    try_closing_at_once();
+    try_draining();
     try_taken();
     try_set_up_fault();
     snprintf(forked, sizeof forked, "%s/forked-totals", words[1]);
