@@ -520,12 +520,19 @@ bool kij_internal_port_write(kij_port *port, const void *bytes, size_t size, siz
     return false;
 }
 
+/* Whether a device takes more, or is lost. /dev/usb/lp0 takes bytes at once, and more once those have left this
+   machine. If it is closed before that, they are lost. */
+static bool takes_more(const kij_port *port) {
+    struct pollfd found = kij_internal_port_waiting(port, true);
+    return poll(&found, 1, 0) > 0 && (found.revents & (POLLOUT | POLLHUP | POLLERR | POLLNVAL)) != 0;
+}
+
 bool kij_internal_port_is_draining(kij_port *port) {
     int left = 0;
     if (port->kind == KIJ_PORT_TCP) return false;
     if (ioctl(port->file, TIOCOUTQ, &left) == 0) return left > 0;
     /* Another device is no line, also if it was to be set up as one. */
-    if (errno == ENOTTY || errno == EINVAL) return false;
+    if (errno == ENOTTY || errno == EINVAL) return !takes_more(port);
     port->error = errno;
     kij_internal_port_close(port);
     return false;

@@ -1,7 +1,8 @@
 /* Tries the layer of C where the system does something that no emulated device can bring about: a serial line that is
    pulled out before its bytes are out, processes that are forked, names that are looked up, signals, and files that are
    read and written in parts.
-   What is linked with it has -Wl,--wrap=.. for getaddrinfo, fsync, pread, pwrite, ioctl, tcflush, statx and socket.
+   What is linked with it has -Wl,--wrap=.. for getaddrinfo, fsync, pread, pwrite, ioctl, tcflush, statx, socket and
+   poll.
 
    Usage: system FOLDER. It makes files in the folder, and prints what fails. Its status is 0 if nothing does. */
 #define _GNU_SOURCE
@@ -34,6 +35,8 @@ static int changes;
 static char looked_up[100];
 /* What is written to the standard stream of errors behind each part of a file, or null. */
 static const char *said_meanwhile;
+/* Whether no device takes more bytes. */
+static bool is_full;
 /* The folder that was synced last. */
 static ino_t synced_folder;
 /* Whether each file that is opened is a disk. */
@@ -51,6 +54,7 @@ ssize_t __real_pread(int file, void *bytes, size_t size, off_t at);
 ssize_t __real_pwrite(int file, const void *bytes, size_t size, off_t at);
 int __real_ioctl(int file, unsigned long request, ...);
 int __real_tcflush(int file, int queue);
+int __real_poll(struct pollfd *files, nfds_t count, int time);
 int __real_socket(int domain, int type, int protocol);
 int __real_statx(int folder, const char *path, int flags, unsigned mask, struct statx *found);
 int __wrap_getaddrinfo(const char *host, const char *service, const struct addrinfo *wanted, struct addrinfo **found);
@@ -59,6 +63,7 @@ int __wrap_tcflush(int file, int queue);
 int __wrap_fsync(int file);
 ssize_t __wrap_pread(int file, void *bytes, size_t size, off_t at);
 ssize_t __wrap_pwrite(int file, const void *bytes, size_t size, off_t at);
+int __wrap_poll(struct pollfd *files, nfds_t count, int time);
 int __wrap_socket(int domain, int type, int protocol);
 int __wrap_statx(int folder, const char *path, int flags, unsigned mask, struct statx *found);
 
@@ -119,6 +124,15 @@ ssize_t __wrap_pwrite(int file, const void *bytes, size_t size, off_t at) {
     ssize_t count = size == 0 ? -1 : __real_pwrite(file, bytes, size, at);
     if (said_meanwhile != NULL) (void)!write(STDERR_FILENO, said_meanwhile, strlen(said_meanwhile));
     return count;
+}
+
+int __wrap_poll(struct pollfd *files, nfds_t count, int time) {
+    int ready = __real_poll(files, count, time);
+    for (nfds_t place = 0; is_full && place < count; place++) {
+        ready -= files[place].revents == POLLOUT;
+        files[place].revents &= (short)~POLLOUT;
+    }
+    return ready;
 }
 
 int __wrap_socket(int domain, int type, int protocol) {
@@ -420,7 +434,7 @@ static void try_closing_at_once(void) {
     }
 }
 
-/* A terminal that isn't set up as a serial line says what it hasn't sent, too. */
+/* A terminal that isn't set up as a serial line says what it hasn't sent, too. So does a device that is no terminal. */
 static void try_draining(void) {
     static const kij_serial_settings serial = KIJ_SERIAL_SETTINGS;
     kij_port port, none;
@@ -434,7 +448,10 @@ static void try_draining(void) {
     kij_internal_port_close(&port);
     kij_internal_port(&none, "/dev/null", &serial, false);
     told("another device is opened", true, kij_internal_port_open(&none, 100));
-    told("it says nothing of that", false, kij_internal_port_is_draining(&none));
+    told("it takes more, so it has sent all", false, kij_internal_port_is_draining(&none));
+    is_full = true;
+    told("it takes no more, so it hasn't", true, kij_internal_port_is_draining(&none));
+    is_full = false;
     told("it is open", true, kij_internal_port_is_open(&none));
     kij_internal_port_close(&none);
     close(other);
