@@ -725,8 +725,8 @@ kij_result kij_escpos_printer_open(kij_till *till, const char *device, const cha
 
 /**
  * Has a customer display show what the orders of a device from now on say: characters, but neither blinking nor
- * reverse ones. A display answers nothing. Over a serial line an order counts as done once its bytes have left this
- * machine; over TCP and /dev/usb/lp0 once the system has taken them. A display that was lost shows all its rows again
+ * reverse ones. A display answers nothing. Over a serial line and /dev/usb/lp0 an order counts as done once its bytes
+ * have left this machine; over TCP once the system has taken them. A display that was lost shows all its rows again
  * with the next order. So does one after 10 seconds without an order, or by an order that changes no row: it may have
  * been off meanwhile, which nobody can see.
  *

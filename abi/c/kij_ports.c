@@ -419,11 +419,13 @@ bool kij_internal_port_open(kij_port *port, int64_t time) {
 }
 
 /* Drops what a terminal line couldn't send. Closing it would wait for that, by default for 30 seconds. Some drivers
-   can't drop it, so nothing may hold it back any more. */
+   can't drop it, so nothing may hold it back any more. Of a pseudo terminal, which says that all is sent, it would drop
+   what the program at its other end hasn't read yet. */
 static void drop_unsent(int file) {
     struct termios found;
+    int left = 0;
     if (!isatty(file)) return;
-    (void)tcflush(file, TCOFLUSH);
+    if (ioctl(file, TIOCOUTQ, &left) != 0 || left > 0) (void)tcflush(file, TCOFLUSH);
     if (tcgetattr(file, &found) != 0) return;
     found.c_cflag &= ~(tcflag_t)CRTSCTS;
     found.c_iflag &= ~(tcflag_t)IXON;
@@ -518,12 +520,19 @@ bool kij_internal_port_write(kij_port *port, const void *bytes, size_t size, siz
     return false;
 }
 
+/* Whether a device takes more, or is lost. /dev/usb/lp0 takes bytes at once, and more once those have left this
+   machine. If it is closed before that, they are lost. */
+static bool takes_more(const kij_port *port) {
+    struct pollfd found = kij_internal_port_waiting(port, true);
+    return poll(&found, 1, 0) > 0 && (found.revents & (POLLOUT | POLLHUP | POLLERR | POLLNVAL)) != 0;
+}
+
 bool kij_internal_port_is_draining(kij_port *port) {
     int left = 0;
-    if (port->kind != KIJ_PORT_SERIAL) return false;
+    if (port->kind == KIJ_PORT_TCP) return false;
     if (ioctl(port->file, TIOCOUTQ, &left) == 0) return left > 0;
-    /* A file that was set up as a serial line may be none. */
-    if (errno == ENOTTY || errno == EINVAL) return false;
+    /* Another device is no line, also if it was to be set up as one. */
+    if (errno == ENOTTY || errno == EINVAL) return !takes_more(port);
     port->error = errno;
     kij_internal_port_close(port);
     return false;

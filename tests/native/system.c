@@ -1,7 +1,8 @@
 /* Tries the layer of C where the system does something that no emulated device can bring about: a serial line that is
    pulled out before its bytes are out, processes that are forked, names that are looked up, signals, and files that are
    read and written in parts.
-   What is linked with it has -Wl,--wrap=.. for getaddrinfo, fsync, pread, pwrite, ioctl, tcflush, statx and socket.
+   What is linked with it has -Wl,--wrap=.. for getaddrinfo, fsync, pread, pwrite, ioctl, tcflush, statx, socket and
+   poll.
 
    Usage: system FOLDER. It makes files in the folder, and prints what fails. Its status is 0 if nothing does. */
 #define _GNU_SOURCE
@@ -34,6 +35,8 @@ static int changes;
 static char looked_up[100];
 /* What is written to the standard stream of errors behind each part of a file, or null. */
 static const char *said_meanwhile;
+/* Whether no device takes more bytes. */
+static bool is_full;
 /* The folder that was synced last. */
 static ino_t synced_folder;
 /* Whether each file that is opened is a disk. */
@@ -51,6 +54,7 @@ ssize_t __real_pread(int file, void *bytes, size_t size, off_t at);
 ssize_t __real_pwrite(int file, const void *bytes, size_t size, off_t at);
 int __real_ioctl(int file, unsigned long request, ...);
 int __real_tcflush(int file, int queue);
+int __real_poll(struct pollfd *files, nfds_t count, int time);
 int __real_socket(int domain, int type, int protocol);
 int __real_statx(int folder, const char *path, int flags, unsigned mask, struct statx *found);
 int __wrap_getaddrinfo(const char *host, const char *service, const struct addrinfo *wanted, struct addrinfo **found);
@@ -59,6 +63,7 @@ int __wrap_tcflush(int file, int queue);
 int __wrap_fsync(int file);
 ssize_t __wrap_pread(int file, void *bytes, size_t size, off_t at);
 ssize_t __wrap_pwrite(int file, const void *bytes, size_t size, off_t at);
+int __wrap_poll(struct pollfd *files, nfds_t count, int time);
 int __wrap_socket(int domain, int type, int protocol);
 int __wrap_statx(int folder, const char *path, int flags, unsigned mask, struct statx *found);
 
@@ -119,6 +124,15 @@ ssize_t __wrap_pwrite(int file, const void *bytes, size_t size, off_t at) {
     ssize_t count = size == 0 ? -1 : __real_pwrite(file, bytes, size, at);
     if (said_meanwhile != NULL) (void)!write(STDERR_FILENO, said_meanwhile, strlen(said_meanwhile));
     return count;
+}
+
+int __wrap_poll(struct pollfd *files, nfds_t count, int time) {
+    int ready = __real_poll(files, count, time);
+    for (nfds_t place = 0; is_full && place < count; place++) {
+        ready -= files[place].revents == POLLOUT;
+        files[place].revents &= (short)~POLLOUT;
+    }
+    return ready;
 }
 
 int __wrap_socket(int domain, int type, int protocol) {
@@ -394,6 +408,52 @@ static void try_closing(void) {
     kij_internal_port_close(&port);
     told("a closed one has none", true, tcgetattr(line, &found) == 0 && (found.c_cflag & CRTSCTS) == 0);
     close(line);
+    close(other);
+}
+
+/* What is written to a line, or to another terminal, is read at its other end though it is closed at once. */
+static void try_closing_at_once(void) {
+    int before = failed;
+    for (int round = 0; round < 100 && failed == before; round++) {
+        kij_port port;
+        char bytes[16];
+        size_t count = 0;
+        int other = make_line(&port), line = also_open(&port);
+        if (round % 2 == 1) port.kind = KIJ_PORT_FILE;
+        told("a line is opened", true, kij_internal_port_open(&port, 100));
+        bool is_written = kij_internal_port_write(&port, "Total", 5, &count);
+        bool is_left = kij_internal_port_is_draining(&port);
+        kij_internal_port_close(&port);
+        told("it gets bytes", true, is_written);
+        told("none is left", false, is_left);
+        struct pollfd coming = {other, POLLIN, 0};
+        bool has_come = poll(&coming, 1, 5000) == 1;
+        told("all of them come", 5, has_come ? (long)read(other, bytes, sizeof bytes) : 0);
+        close(line);
+        close(other);
+    }
+}
+
+/* A terminal that isn't set up as a serial line says what it hasn't sent, too. So does a device that is no terminal. */
+static void try_draining(void) {
+    static const kij_serial_settings serial = KIJ_SERIAL_SETTINGS;
+    kij_port port, none;
+    int other = make_line(&port);
+    port.kind = KIJ_PORT_FILE;
+    told("a terminal is opened", true, kij_internal_port_open(&port, 100));
+    held = 3;
+    told("it hasn't sent all", true, kij_internal_port_is_draining(&port));
+    held = 0;
+    told("it has", false, kij_internal_port_is_draining(&port));
+    kij_internal_port_close(&port);
+    kij_internal_port(&none, "/dev/null", &serial, false);
+    told("another device is opened", true, kij_internal_port_open(&none, 100));
+    told("it takes more, so it has sent all", false, kij_internal_port_is_draining(&none));
+    is_full = true;
+    told("it takes no more, so it hasn't", true, kij_internal_port_is_draining(&none));
+    is_full = false;
+    told("it is open", true, kij_internal_port_is_open(&none));
+    kij_internal_port_close(&none);
     close(other);
 }
 
@@ -1276,6 +1336,8 @@ int main(int count, char **words) {
     try_held_questions();
     try_lost_line();
     try_closing();
+    try_closing_at_once();
+    try_draining();
     try_taken();
     try_set_up_fault();
     snprintf(forked, sizeof forked, "%s/forked-totals", words[1]);
