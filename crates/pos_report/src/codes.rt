@@ -117,7 +117,7 @@ const CODES: [Code<'static>; 40] = [
         name: "E_FAILURE",
         kind: RESULT,
         meaning: "the device or the disk failed",
-        action: "check the device; for totals, `kijolvar check FILE`, but after a failed sync restart the machine first",
+        action: "check the device; for totals, `kijolvar check FILE`; after a failed sync restart the machine first",
     },
     Code {
         number: 112,
