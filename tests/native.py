@@ -2936,12 +2936,19 @@ def try_errands():
 
 def try_memory():
     """Want of memory at each allocation of an order in turn: what is answered ok is printed, and nothing is twice."""
+    for kind, timeout in (("usb", 100), ("asked", 500)):
+        run_out_of_memory(kind, timeout)
+
+
+def run_out_of_memory(kind, timeout):
+    """The same over a cable, with the milliseconds that a printer has to acknowledge a line."""
+    name = f"want of memory over {kind}"
     with contextlib.ExitStack() as stack:
         host = Host(stack)
         if host.ask("memory 0") != "ok":
             return
-        device = stack.enter_context(Printer(cable(), lines=100_000))
-        host.ask(f"printer r1 {device.path} timeout 100 pause 10")
+        device = stack.enter_context(Printer(cable(kind), lines=100_000, is_simple=kind == "asked"))
+        host.ask(f"printer r1 {device.path} timeout {timeout} pause 10" + " asked" * (kind == "asked"))
         host.lines("new r POSPrinter", "open r r1", "claim r 0", "set r DeviceEnabled true")
         wanted, count, refused = [], 0, 0
         while count - refused < 20 and count < 500:
@@ -2957,11 +2964,11 @@ def try_memory():
                 host.ask("run 0")
                 answer = host.ask(f"lines call r printNormal 2 {line.hex()}0a")
             wanted.append(line)
-        told("want of memory ends", True, 0 < refused < 480)
-        told("want of memory: the paper", wanted, [item.characters for item in device.receipt()])
-        told("want of memory: the till's paper", str(100_000 - len(wanted)), host.line("show r1").split()[2])
-        told("want of memory: nothing is held", "ok", host.line("call r printNormal 2 410a"))
-        print(f"{WORDS.name}: memory was refused at up to {refused} allocations", flush=True)
+        told(f"{name} ends", True, 0 < refused < 480)
+        told(f"{name}: the paper", wanted, [item.characters for item in device.receipt()])
+        told(f"{name}: the till's paper", str(100_000 - len(wanted)), host.line("show r1").split()[2])
+        told(f"{name}: nothing is held", "ok", host.line("call r printNormal 2 410a"))
+        print(f"{WORDS.name}: memory was refused over {kind} at up to {refused} allocations", flush=True)
 
 
 def try_memory_while():

@@ -562,24 +562,35 @@ static bool is_first_sent(const kij_link *link) {
     return first->place + (first->to - first->from) + link->end_size <= sent;
 }
 
-/* Reads a byte as one of an automatic status, as the answer to a question, or as an acknowledgement. */
-static void take_byte(kij_link *link, uint8_t byte) {
+/* Reads a byte as one of an automatic status, as the answer to a question, or as an acknowledgement: whether there was
+   memory for that. */
+static bool take_byte(kij_link *link, uint8_t byte) {
     char text[256];
-    if (is_of_status(link, byte)) return;
+    if (is_of_status(link, byte)) return true;
     for (int round = link->unanswered > 0 ? 0 : 1; round < 2; round++) {
         size_t used = 0, skipped = 0, needed = 0;
         kij_told told;
         memset(&told, 0, sizeof told);
-        if (round == 1 && (link->due_count == 0 || !is_first_sent(link))) return;
+        if (round == 1 && (link->due_count == 0 || !is_first_sent(link))) return true;
         told.bytes[0] = byte;
         told.size = 1;
         told.asked = round == 0 ? link->question : (uint32_t)ASKED_PAPER;
         uint32_t code = read_reply(link, told.asked, &byte, 1, &used, &skipped, text, sizeof text - 1, &needed);
+        if (code == KIJOLVAR_NO_MEMORY) return false;
         if (code != KIJOLVAR_OK || needed == 0) continue;
         text[needed] = 0;
         take_answer(link, text, &told);
-        return;
+        return true;
     }
+    return true;
+}
+
+/* Reads each byte that has come, and forgets it, as long as there is memory. */
+static void take_bytes(kij_link *link) {
+    size_t taken = 0;
+    while (taken < link->got_size && take_byte(link, link->got[taken])) taken++;
+    link->got_size -= taken;
+    memmove(link->got, link->got + taken, link->got_size);
 }
 
 /* Reads the first reply in what has come, and forgets the bytes that it used: whether any were used. */
@@ -610,10 +621,10 @@ static bool read_some(kij_link *link, bool *is_any) {
     if (!kij_internal_port_read(&link->port, link->got + link->got_size, sizeof link->got - link->got_size, &count))
         return false;
     *is_any = count > 0;
+    link->got_size += count;
     if (link->is_asked) {
-        for (size_t place = 0; place < count; place++) take_byte(link, link->got[place]);
+        take_bytes(link);
     } else {
-        link->got_size += count;
         while (link->got_size > 0 && take_first(link)) continue;
     }
     return true;
