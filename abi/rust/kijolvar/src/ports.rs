@@ -809,12 +809,20 @@ fn number_of(fault: &io::Error) -> c_int {
     })
 }
 
+/// Refuses what is no port: a file, a folder or a disk. A pipe is one for keys alone: of another one this program would
+/// read what it writes.
+fn check_device(file: &File, may_be_pipe: bool) -> io::Result<()> {
+    let kind = file.metadata()?.file_type();
+    if kind.is_char_device() || may_be_pipe && kind.is_fifo() {
+        return Ok(());
+    }
+    Err(io::Error::from_raw_os_error(ENODEV))
+}
+
 /// Opens a device file, and says whether reading no bytes means that it is lost.
 fn open_file(path: &Path, settings: Option<&SerialSettings>, keeps_faults: bool) -> io::Result<(Stream, bool)> {
     let file = OpenOptions::new().read(true).write(true).custom_flags(O_NONBLOCK | O_NOCTTY).open(path)?;
-    if file.metadata()?.is_file() {
-        return Err(io::Error::from_raw_os_error(ENODEV));
-    }
+    check_device(&file, false)?;
     // A printer on USB may send packets with nothing in them.
     let ends_empty = is_line(&file);
     if ends_empty {
@@ -826,6 +834,7 @@ fn open_file(path: &Path, settings: Option<&SerialSettings>, keeps_faults: bool)
 /// Opens a keyboard's events, which other programs don't see meanwhile.
 fn open_keys(path: &Path) -> io::Result<File> {
     let file = OpenOptions::new().read(true).custom_flags(O_NONBLOCK | O_NOCTTY).open(path)?;
+    check_device(&file, true)?;
     if is_line(&file) {
         set_up_own(&file, None, false)?;
     }

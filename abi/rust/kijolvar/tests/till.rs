@@ -1488,6 +1488,33 @@ fn a_port_that_is_closed_is_so_in_all_processes() {
     assert_eq!(system::grabs(), [0]);
 }
 
+#[test]
+fn what_is_no_device_is_no_port() {
+    const ENODEV: i32 = 19;
+    const EISDIR: i32 = 21;
+    let place = Place::new("no-port");
+    let (file, pipe) = (place.0.join("file"), place.0.join("pipe"));
+    File::create(&file).unwrap();
+    system::make_pipe(&pipe);
+    // Without it the pipe would be at its end.
+    let _writes = File::options().read(true).write(true).open(&pipe).unwrap();
+    let ports = [
+        (Port::from(&file), Some(ENODEV)),
+        (Port::Keys(file), Some(ENODEV)),
+        (Port::from(&place.0), Some(EISDIR)),
+        (Port::Keys(place.0.clone()), Some(ENODEV)),
+        (Port::from(&pipe), Some(ENODEV)),
+        (Port::Serial(pipe.clone(), SerialSettings::default()), Some(ENODEV)),
+        (Port::Keys(pipe), None),
+    ];
+    for (port, fault) in ports {
+        let (till, name) = (till(), format!("{port:?}"));
+        till.drive("s1", WedgeScanner::open(port)).unwrap();
+        let state = till.driver_state("s1").unwrap();
+        assert_eq!((state.is_online, state.port_error), (fault.is_none(), fault), "{name}");
+    }
+}
+
 /// How often a printer is asked whether it is there, by what has come over its line so far.
 fn questions(device: &mut File) -> usize {
     let (mut room, mut found) = ([0; 4096], Vec::new());
