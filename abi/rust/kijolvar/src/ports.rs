@@ -319,6 +319,7 @@ pub(crate) const EINVAL: c_int = 22;
 const ENOTTY: c_int = 25;
 const EPIPE: c_int = 32;
 pub(crate) const ETIMEDOUT: c_int = 110;
+const ECONNREFUSED: c_int = 111;
 const EHOSTUNREACH: c_int = 113;
 const IGNBRK: u32 = 0o1;
 const IGNPAR: u32 = 0o4;
@@ -913,6 +914,11 @@ impl Addresses {
     }
 }
 
+/// Whether a connection leads to itself. The system may give it the number of the port, if nobody listens there.
+fn is_own(stream: &TcpStream) -> bool {
+    matches!((stream.local_addr(), stream.peer_addr()), (Ok(here), Ok(there)) if here == there)
+}
+
 /// Connects to the first address that answers. Each has its part of the time, so that one that says nothing leaves some
 /// to the others.
 fn connect_to_any(addresses: &[SocketAddr], end: Instant) -> io::Result<TcpStream> {
@@ -920,6 +926,7 @@ fn connect_to_any(addresses: &[SocketAddr], end: Instant) -> io::Result<TcpStrea
     for (place, address) in addresses.iter().enumerate() {
         let left = end.saturating_duration_since(Instant::now()) / (addresses.len() - place) as u32;
         match TcpStream::connect_timeout(address, left.max(Duration::from_millis(1))) {
+            Ok(stream) if is_own(&stream) => fault = io::Error::from_raw_os_error(ECONNREFUSED),
             Ok(stream) => return Ok(stream),
             Err(found) => fault = found,
         }

@@ -1464,6 +1464,15 @@ fn a_port_that_opens_late_is_found() {
 }
 
 #[test]
+fn a_connection_that_leads_to_itself_is_none() {
+    const ECONNREFUSED: i32 = 111;
+    let (till, port) = (till(), Port::from(system::leads_to_itself()));
+    till.drive("p1", SerialDisplay::open(port, DisplaySettings::default())).unwrap();
+    let state = till.driver_state("p1").unwrap();
+    assert_eq!((state.is_online, state.port_error), (false, Some(ECONNREFUSED)));
+}
+
+#[test]
 fn a_port_that_is_closed_is_so_in_all_processes() {
     let listener = TcpListener::bind("127.0.0.1:0").unwrap();
     let till = till();
@@ -1797,11 +1806,12 @@ mod system {
     use std::cell::{Cell, RefCell};
     use std::ffi::{c_char, c_int, c_long, c_uint, c_ulong, c_void, CString};
     use std::fs::{File, OpenOptions};
-    use std::net::{TcpListener, TcpStream};
+    use std::net::{SocketAddr, TcpListener, TcpStream};
     use std::os::fd::AsRawFd;
     use std::os::unix::ffi::OsStrExt;
     use std::os::unix::fs::OpenOptionsExt;
     use std::path::{Path, PathBuf};
+    use std::sync::atomic::{AtomicU16, Ordering};
     use std::time::Duration;
 
     extern "C" {
@@ -1830,6 +1840,9 @@ mod system {
 
     /// Linux's numbers, on x86-64.
     const SYS_IOCTL: c_long = 16;
+    const SYS_CONNECT: c_long = 42;
+    const SYS_BIND: c_long = 49;
+    const AF_INET: u16 = 2;
     const EVIOCGRAB: c_ulong = 0x4004_4590;
     const TIOCOUTQ: c_ulong = 0x5411;
     const TIOCSPTLCK: c_ulong = 0x4004_5431;
@@ -1854,6 +1867,9 @@ mod system {
         static LIMIT: Cell<(usize, u32)> = const { Cell::new((0, 0)) };
         static HAS_THREADS: Cell<bool> = const { Cell::new(true) };
     }
+
+    /// The number of a TCP port that leads to itself.
+    static ITS_OWN: AtomicU16 = AtomicU16::new(0);
 
     /// Whether a process that is forked finds something so. It panics nowhere, since it has this thread alone.
     pub fn is_so_forked(finds: impl FnOnce() -> bool) -> bool {
@@ -1957,6 +1973,36 @@ mod system {
             queue.push(stream);
         }
         (listener, queue)
+    }
+
+    /// The beginning of an address of IPv4, as Linux has it.
+    #[repr(C)]
+    pub struct Address {
+        family: u16,
+        number: [u8; 2],
+    }
+
+    /// Connects to an address. A connection to that of [`leads_to_itself`] is from there.
+    ///
+    /// # Safety
+    ///
+    /// As the system's.
+    #[no_mangle]
+    pub unsafe extern "C" fn connect(file: c_int, address: *const Address, size: c_uint) -> c_int {
+        // SAFETY: the file and the address are the caller's.
+        unsafe {
+            if (*address).family == AF_INET && (*address).number == ITS_OWN.load(Ordering::Relaxed).to_be_bytes() {
+                assert_eq!(syscall(SYS_BIND, file, address, size), 0);
+            }
+            syscall(SYS_CONNECT, file, address, size) as c_int
+        }
+    }
+
+    /// An address at which nobody listens. Who connects to it has a connection that leads to itself.
+    pub fn leads_to_itself() -> SocketAddr {
+        let address = TcpListener::bind("127.0.0.1:0").unwrap().local_addr().unwrap();
+        ITS_OWN.store(address.port(), Ordering::Relaxed);
+        address
     }
 
     /// A pseudo terminal: one end, and the path of the other.
