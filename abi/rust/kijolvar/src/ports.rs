@@ -433,15 +433,28 @@ fn set_up_own(file: &File, settings: Option<&SerialSettings>, keeps_faults: bool
     set_up(file.as_raw_fd(), settings, keeps_faults).inspect_err(|_| give_line_back(file))
 }
 
+/// Returns how many bytes a terminal hasn't sent yet.
+fn unsent_of(file: RawFd) -> io::Result<c_int> {
+    let mut left: c_int = 0;
+    // SAFETY: the file is open, and the number is lent for the call.
+    if unsafe { ioctl(file, TIOCOUTQ, &mut left as *mut c_int) } != 0 {
+        return Err(io::Error::last_os_error());
+    }
+    Ok(left)
+}
+
 /// Drops what a terminal line hasn't sent. Closing the line would wait for it, up to 30 seconds if the device takes
-/// nothing. Drivers of some USB adapters drop nothing, but send it once flow control is off.
+/// nothing. Drivers of some USB adapters drop nothing, but send it once flow control is off. Of a pseudo terminal, which
+/// says that all is sent, it would drop what the program at its other end hasn't read yet.
 fn drop_unsent(file: RawFd) {
     let Ok(mut line) = settings_of(file) else { return };
     line.control &= !CRTSCTS;
     line.input &= !IXON;
     // SAFETY: the file is open, and the line is lent for the call.
     unsafe {
-        ioctl(file, TCFLSH, TCOFLUSH);
+        if !matches!(unsent_of(file), Ok(0)) {
+            ioctl(file, TCFLSH, TCOFLUSH);
+        }
         ioctl(file, TCSETS, &line as *const Line);
     }
 }
@@ -589,9 +602,7 @@ impl Cable {
     /// Whether something is in it that the device doesn't take.
     pub(crate) fn is_holding(&self) -> bool {
         let (true, Some(file)) = (self.holds_back(), self.file()) else { return false };
-        let mut left: c_int = 0;
-        // SAFETY: the file is open, and the number is lent for the call.
-        unsafe { ioctl(file, TIOCOUTQ, &mut left as *mut c_int) == 0 && left > 0 }
+        unsent_of(file).is_ok_and(|left| left > 0)
     }
 
     pub(crate) fn is_open(&self) -> bool {
@@ -1086,7 +1097,7 @@ mod tests {
     }
 
     #[test]
-    fn what_a_line_has_not_sent_is_dropped() {
+    fn what_a_line_has_sent_is_read_though_it_is_closed() {
         for is_closed in [true, false] {
             let (mut device, path) = terminal();
             let other = OpenOptions::new().read(true).custom_flags(O_NOCTTY).open(&path).unwrap();
@@ -1100,14 +1111,15 @@ mod tests {
                 drop(cable);
             }
             assert_eq!(control() & CRTSCTS, 0);
-            std::thread::sleep(Duration::from_millis(20));
-            let (mut room, mut got) = (vec![0; sent], 0);
-            while let Ok(count) = device.read(&mut room) {
-                got += count;
-                std::thread::sleep(Duration::from_millis(5));
+            let (mut room, mut got, end) = (vec![0; sent], 0, end_after(SOON * 20));
+            while got < sent && Instant::now() < end {
+                match device.read(&mut room) {
+                    Ok(count) => got += count,
+                    Err(_) => std::thread::sleep(Duration::from_millis(1)),
+                }
             }
             // The system moves up to 4,096 bytes to the other end at once.
-            assert!(sent > 4096 && got <= 4096, "{got} of {sent}");
+            assert!(sent > 4096 && got == sent, "{got} of {sent}");
         }
     }
 

@@ -1524,6 +1524,19 @@ fn what_is_no_device_is_no_port() {
     }
 }
 
+#[test]
+fn what_a_line_has_not_sent_is_dropped_as_it_is_closed() {
+    for held in [0, 3] {
+        let ((_device, path), till) = (system::terminal(), till());
+        till.drive("p1", SerialDisplay::open(Port::Line(path), DisplaySettings::default())).unwrap();
+        system::hold(held);
+        system::drops();
+        drop(till);
+        system::hold(0);
+        assert_eq!(system::drops(), u32::from(held > 0));
+    }
+}
+
 /// How often a printer is asked whether it is there, by what has come over its line so far.
 fn questions(device: &mut File) -> usize {
     let (mut room, mut found) = ([0; 4096], Vec::new());
@@ -1844,6 +1857,8 @@ mod system {
     const SYS_BIND: c_long = 49;
     const AF_INET: u16 = 2;
     const EVIOCGRAB: c_ulong = 0x4004_4590;
+    const TCFLSH: c_ulong = 0x540b;
+    const TCOFLUSH: usize = 1;
     const TIOCOUTQ: c_ulong = 0x5411;
     const TIOCSPTLCK: c_ulong = 0x4004_5431;
     const TIOCGPTN: c_ulong = 0x8004_5430;
@@ -1862,6 +1877,7 @@ mod system {
         static LINGERING: RefCell<Vec<c_int>> = const { RefCell::new(Vec::new()) };
         static GRABS: RefCell<Vec<usize>> = const { RefCell::new(Vec::new()) };
         static HELD: Cell<c_int> = const { Cell::new(0) };
+        static DROPS: Cell<u32> = const { Cell::new(0) };
         static SYNCED: RefCell<Vec<PathBuf>> = const { RefCell::new(Vec::new()) };
         static SYNC_FAULT: Cell<c_int> = const { Cell::new(0) };
         static LIMIT: Cell<(usize, u32)> = const { Cell::new((0, 0)) };
@@ -1938,8 +1954,8 @@ mod system {
         }
     }
 
-    /// Asks the driver of a file for something, and notes whether a keyboard is grabbed. A pseudo terminal doesn't say
-    /// how much it holds.
+    /// Asks the driver of a file for something, and notes whether a keyboard is grabbed, and what isn't sent is dropped.
+    /// A pseudo terminal doesn't say how much it holds.
     ///
     /// # Safety
     ///
@@ -1948,6 +1964,9 @@ mod system {
     pub unsafe extern "C" fn ioctl(file: c_int, request: c_ulong, argument: *mut c_void) -> c_int {
         if request == EVIOCGRAB {
             GRABS.with_borrow_mut(|list| list.push(argument.addr()));
+        }
+        if request == TCFLSH && argument.addr() == TCOFLUSH {
+            DROPS.set(DROPS.get() + 1);
         }
         if request == TIOCOUTQ && HELD.get() > 0 {
             // SAFETY: the place is the caller's.
@@ -1961,6 +1980,11 @@ mod system {
     /// Makes each line hold so many bytes.
     pub fn hold(count: c_int) {
         HELD.set(count);
+    }
+
+    /// How often what a line hasn't sent was dropped since the last time.
+    pub fn drops() -> u32 {
+        DROPS.take()
     }
 
     /// A TCP port that says nothing to who connects to it, since its queue is full.
