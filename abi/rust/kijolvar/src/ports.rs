@@ -497,6 +497,13 @@ pub(crate) fn wait_for_any(files: &[RawFd], time: Duration) {
     wait(&mut waiting, time);
 }
 
+/// Whether a device takes more, or is lost. /dev/usb/lp0 takes bytes at once, and more once those have left this
+/// machine. If it is closed before that, they are lost.
+fn takes_more(file: RawFd) -> bool {
+    let mut waiting = [Waiting { file, events: POLLOUT, found: 0 }];
+    wait(&mut waiting, Duration::ZERO) && waiting[0].found & (POLLOUT | POLLERR_HUP_NVAL) != 0
+}
+
 /// What a port is while it is open.
 #[derive(Debug)]
 enum Stream {
@@ -777,30 +784,30 @@ impl Cable {
         self.kept(done, false)
     }
 
-    /// Returns whether all that was written has left this machine before a time, if the port is a serial line. Of other
-    /// ports only the system knows that. It rests between two looks.
+    /// Whether something that was written hasn't left this machine. Over TCP only the system knows that.
+    fn is_draining(&mut self) -> Result<bool, Lost> {
+        let Some(Stream::File(file)) = &self.stream else { return Ok(false) };
+        let file = file.as_raw_fd();
+        let fault = match unsent_of(file) {
+            Ok(left) => return Ok(left > 0),
+            Err(fault) => fault,
+        };
+        // Another device is no line, also if it was to be set up as one. A lost line doesn't say it any more.
+        if matches!(fault.raw_os_error(), Some(ENOTTY | EINVAL)) {
+            return Ok(!takes_more(file));
+        }
+        self.fault = Some(number_of(&fault));
+        self.close();
+        Err(Lost)
+    }
+
+    /// Returns whether all that was written has left this machine before a time. It rests between two looks.
     pub(crate) fn is_drained(&mut self, end: Instant, mut rest: impl FnMut()) -> bool {
-        let (Port::Serial(..) | Port::Line(_), Some(file)) = (&self.port, self.file()) else { return true };
         loop {
-            let mut left: c_int = 0;
-            // SAFETY: the file is open, and the number is lent for the call.
-            if unsafe { ioctl(file, TIOCOUTQ, &mut left as *mut c_int) } != 0 {
-                let fault = io::Error::last_os_error();
-                // What is no terminal has no such number, and a lost line has it no more.
-                let is_other = matches!(fault.raw_os_error(), Some(ENOTTY | EINVAL));
-                if !is_other {
-                    self.fault = Some(number_of(&fault));
-                    self.close();
-                }
-                return is_other;
+            match self.is_draining() {
+                Ok(true) if Instant::now() < end => rest(),
+                found => return matches!(found, Ok(false)),
             }
-            if left <= 0 {
-                return true;
-            }
-            if Instant::now() >= end {
-                return false;
-            }
-            rest();
         }
     }
 }

@@ -1093,6 +1093,27 @@ fn a_display_that_takes_too_long_is_lost() {
     assert_eq!((state.is_online, state.port_error), (false, Some(110)));
 }
 
+#[test]
+fn an_order_of_a_display_is_done_once_its_bytes_have_left() {
+    let (_device, path) = system::terminal();
+    // A terminal says what it holds, and another device takes more once it holds nothing.
+    for (path, held, takes) in [(path, 3, u32::MAX), ("/dev/null".into(), 0, 1)] {
+        let (till, timeout) = (till(), Duration::from_millis(200));
+        let settings = DisplaySettings { timeout, ..DisplaySettings::default() };
+        till.drive("p1", SerialDisplay::open(Port::File(path), settings)).unwrap();
+        let display = till.line_display("p1").unwrap().enabled().unwrap();
+        display.display_text("4.50", DisplayAttribute::Normal).unwrap();
+        system::hold(held);
+        system::fill_after(takes);
+        let offline = display.display_text("5.40", DisplayAttribute::Normal).unwrap_err();
+        system::hold(0);
+        system::fill_after(u32::MAX);
+        assert_eq!(offline.code(), Some(ResultCode::Offline));
+        let state = till.driver_state("p1").unwrap();
+        assert_eq!((state.is_online, state.port_error), (false, Some(110)));
+    }
+}
+
 /// A drawer that counts how often it is opened, and whose driver fails the first time.
 struct Counted(Arc<AtomicU32>);
 
@@ -1817,7 +1838,7 @@ fn a_till_without_drivers_waits() {
 /// system's.
 mod system {
     use std::cell::{Cell, RefCell};
-    use std::ffi::{c_char, c_int, c_long, c_uint, c_ulong, c_void, CString};
+    use std::ffi::{c_char, c_int, c_long, c_short, c_uint, c_ulong, c_void, CString};
     use std::fs::{File, OpenOptions};
     use std::net::{SocketAddr, TcpListener, TcpStream};
     use std::os::fd::AsRawFd;
@@ -1852,11 +1873,13 @@ mod system {
     ) -> c_int;
 
     /// Linux's numbers, on x86-64.
+    const SYS_POLL: c_long = 7;
     const SYS_IOCTL: c_long = 16;
     const SYS_CONNECT: c_long = 42;
     const SYS_BIND: c_long = 49;
     const AF_INET: u16 = 2;
     const EVIOCGRAB: c_ulong = 0x4004_4590;
+    const POLLOUT: c_short = 4;
     const TCFLSH: c_ulong = 0x540b;
     const TCOFLUSH: usize = 1;
     const TIOCOUTQ: c_ulong = 0x5411;
@@ -1878,6 +1901,7 @@ mod system {
         static GRABS: RefCell<Vec<usize>> = const { RefCell::new(Vec::new()) };
         static HELD: Cell<c_int> = const { Cell::new(0) };
         static DROPS: Cell<u32> = const { Cell::new(0) };
+        static TAKES: Cell<u32> = const { Cell::new(u32::MAX) };
         static SYNCED: RefCell<Vec<PathBuf>> = const { RefCell::new(Vec::new()) };
         static SYNC_FAULT: Cell<c_int> = const { Cell::new(0) };
         static LIMIT: Cell<(usize, u32)> = const { Cell::new((0, 0)) };
@@ -1980,6 +2004,41 @@ mod system {
     /// Makes each line hold so many bytes.
     pub fn hold(count: c_int) {
         HELD.set(count);
+    }
+
+    /// What is waited for at a file, and what has happened there.
+    #[repr(C)]
+    pub struct Waiting {
+        file: c_int,
+        events: c_short,
+        found: c_short,
+    }
+
+    /// Waits for files. After [`fill_after`] none takes bytes.
+    ///
+    /// # Safety
+    ///
+    /// As the system's.
+    #[no_mangle]
+    pub unsafe extern "C" fn poll(files: *mut Waiting, count: c_ulong, time: c_int) -> c_int {
+        // SAFETY: the files are the caller's.
+        let (mut ready, files) = unsafe {
+            (syscall(SYS_POLL, files, count, time) as c_int, std::slice::from_raw_parts_mut(files, count as usize))
+        };
+        for file in files.iter_mut().filter(|file| file.found & POLLOUT != 0) {
+            if TAKES.get() == 0 {
+                ready -= c_int::from(file.found == POLLOUT);
+                file.found &= !POLLOUT;
+            } else {
+                TAKES.set(TAKES.get() - 1);
+            }
+        }
+        ready
+    }
+
+    /// Makes devices say so often more that they take bytes, and no more from then on.
+    pub fn fill_after(count: u32) {
+        TAKES.set(count);
     }
 
     /// How often what a line hasn't sent was dropped since the last time.
