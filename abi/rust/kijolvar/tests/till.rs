@@ -179,6 +179,20 @@ fn a_device_is_as_long_as_it_can_be_read() {
 }
 
 #[test]
+fn a_line_in_place_of_totals_is_not_waited_for_and_becomes_no_terminal() {
+    let (_device, path) = system::terminal();
+    assert!(system::is_so_forked(|| {
+        system::leave_terminal();
+        let refused = Till::open(BUILT_PROFILE, Totals::existing(&path));
+        refused.is_err_and(|error| system_kind(&error) == Some(ErrorKind::NotSeekable)) && !system::has_terminal()
+    }));
+    let place = Place::new("unwaited");
+    drop(Till::open(BUILT_PROFILE, Totals::create(place.file())).unwrap());
+    let _till = Till::open(BUILT_PROFILE, Totals::existing(place.file())).unwrap();
+    assert_eq!(system::waits_at(&place.file()), Some(false));
+}
+
+#[test]
 fn a_new_file_has_all_its_room() {
     let place = Place::new("room");
     drop(Till::open(BUILT_PROFILE, Totals::create(place.file())).unwrap());
@@ -1854,6 +1868,7 @@ mod system {
         fn waitpid(process: c_int, status: *mut c_int, options: c_int) -> c_int;
         fn kill(process: c_int, signal: c_int) -> c_int;
         fn pause() -> c_int;
+        fn setsid() -> c_int;
         fn mkfifo(path: *const c_char, mode: c_uint) -> c_int;
         fn _exit(status: c_int) -> !;
         fn syscall(number: c_long, ...) -> c_long;
@@ -2100,6 +2115,27 @@ mod system {
         };
         assert_eq!(failed, 0);
         (file, format!("/dev/pts/{number}").into())
+    }
+
+    /// Leaves the terminal of this process, if it has one.
+    pub fn leave_terminal() {
+        // SAFETY: it takes nothing.
+        unsafe { setsid() };
+    }
+
+    /// Whether this process has a terminal.
+    pub fn has_terminal() -> bool {
+        File::open("/dev/tty").is_ok()
+    }
+
+    /// Whether this process waits where it reads a file or writes it, if it has the file open.
+    pub fn waits_at(path: &Path) -> Option<bool> {
+        let path = std::fs::canonicalize(path).unwrap();
+        let mut files = std::fs::read_dir("/proc/self/fd").unwrap().flatten();
+        let file = files.find(|file| std::fs::read_link(file.path()).is_ok_and(|found| found == path))?;
+        let said = std::fs::read_to_string(Path::new("/proc/self/fdinfo").join(file.file_name())).unwrap();
+        let flags = said.lines().find_map(|line| line.strip_prefix("flags:")).unwrap();
+        Some(c_int::from_str_radix(flags.trim(), 8).unwrap() & O_NONBLOCK == 0)
     }
 
     /// What was asked of keyboards since the last time: 1 grabs one, and 0 ends that.
