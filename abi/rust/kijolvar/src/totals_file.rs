@@ -237,8 +237,8 @@ fn create_new(path: &Path, profile: &str) -> Result<LockedFile, Cause> {
     Ok(file)
 }
 
-/// A locked file without a name, of zero bytes, as long as a disk. They are written, so that the file has its room from
-/// now on, however full the file system gets.
+/// A locked file without a name, of zero bytes, as long as a disk. They are written, so that the file has all its room
+/// from now on, but on Btrfs, which puts each change in a new place.
 fn unnamed(folder: &Path) -> io::Result<LockedFile> {
     let file = OpenOptions::new().read(true).write(true).custom_flags(O_TMPFILE).mode(0o600).open(folder)?;
     let file = LockedFile::new(file)?;
