@@ -444,8 +444,8 @@ fn unsent_of(file: RawFd) -> io::Result<c_int> {
 }
 
 /// Drops what a terminal line hasn't sent. Closing the line would wait for it, up to 30 seconds if the device takes
-/// nothing. Drivers of some USB adapters drop nothing, but send it once flow control is off. Of a pseudo terminal, which
-/// says that all is sent, it would drop what the program at its other end hasn't read yet.
+/// nothing. Drivers of some USB adapters drop nothing, but send it once flow control is off. Of a pseudo terminal,
+/// which says that all is sent, it would drop what the program at its other end hasn't read yet.
 fn drop_unsent(file: RawFd) {
     let Ok(mut line) = settings_of(file) else { return };
     line.control &= !CRTSCTS;

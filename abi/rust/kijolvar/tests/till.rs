@@ -1993,8 +1993,8 @@ mod system {
         }
     }
 
-    /// Asks the driver of a file for something, and notes whether a keyboard is grabbed, and what isn't sent is dropped.
-    /// A pseudo terminal doesn't say how much it holds.
+    /// Asks the driver of a file for something, and notes whether a keyboard is grabbed, and how often a line drops
+    /// what it hasn't sent. A pseudo terminal doesn't say how much it holds.
     ///
     /// # Safety
     ///
