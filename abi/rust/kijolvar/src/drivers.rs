@@ -648,9 +648,9 @@ impl Reopened {
 
 /// A customer display with CD5220 or ESC/POS. It shows characters: blinking and reverse ones as normal ones.
 ///
-/// A display answers nothing, so on a serial line an order counts as done once its bytes have left this machine. Over
-/// TCP, and on a device file such as /dev/usb/lp0, it is done once the system has taken them: they may still be lost
-/// with the port. A display that was lost shows all its rows again with the next order.
+/// A display answers nothing. Over a serial line and /dev/usb/lp0 an order counts as done once its bytes have left this
+/// machine. Over TCP it is done once the system has taken them: they may still be lost with the port. A display that
+/// was lost shows all its rows again with the next order.
 ///
 /// Nobody sees that a display with a power supply of its own was off. So it gets all its rows, too, with an order that
 /// changes nothing, and with the first one after 10 seconds without any.

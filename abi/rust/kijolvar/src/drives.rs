@@ -21,7 +21,8 @@ pub struct DriverState {
     pub is_online: bool,
     /// Why the port couldn't be opened or was lost the last time, as the system's number (errno), which
     /// [`std::io::Error::from_raw_os_error`] explains. There is none if neither ever happened. EBUSY (16) is a serial
-    /// line that another till or program has open. EHOSTUNREACH (113) may be a host whose name isn't found.
+    /// line that another till or program has open. EHOSTUNREACH (113) may be a host whose name isn't found, and ENODEV
+    /// (19) a path that leads to a file and to no device.
     pub port_error: Option<i32>,
     /// How many orders a printer has printed after they had failed, and weren't asked for again, or were given up
     /// ([`EscPosPrinter`](crate::EscPosPrinter)). It had got them before it stopped, and there is no command that takes

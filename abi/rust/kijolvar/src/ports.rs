@@ -292,7 +292,7 @@ const POLLIN: c_short = 1;
 const POLLOUT: c_short = 4;
 const POLLERR_HUP_NVAL: c_short = 0x38;
 pub(crate) const O_NONBLOCK: c_int = 0o4000;
-const O_NOCTTY: c_int = 0o400;
+pub(crate) const O_NOCTTY: c_int = 0o400;
 const TCGETS: c_ulong = 0x5401;
 const TCSETS: c_ulong = 0x5402;
 const TCXONC: c_ulong = 0x540a;
@@ -319,6 +319,7 @@ pub(crate) const EINVAL: c_int = 22;
 const ENOTTY: c_int = 25;
 const EPIPE: c_int = 32;
 pub(crate) const ETIMEDOUT: c_int = 110;
+const ECONNREFUSED: c_int = 111;
 const EHOSTUNREACH: c_int = 113;
 const IGNBRK: u32 = 0o1;
 const IGNPAR: u32 = 0o4;
@@ -432,15 +433,28 @@ fn set_up_own(file: &File, settings: Option<&SerialSettings>, keeps_faults: bool
     set_up(file.as_raw_fd(), settings, keeps_faults).inspect_err(|_| give_line_back(file))
 }
 
+/// Returns how many bytes a terminal hasn't sent yet.
+fn unsent_of(file: RawFd) -> io::Result<c_int> {
+    let mut left: c_int = 0;
+    // SAFETY: the file is open, and the number is lent for the call.
+    if unsafe { ioctl(file, TIOCOUTQ, &mut left as *mut c_int) } != 0 {
+        return Err(io::Error::last_os_error());
+    }
+    Ok(left)
+}
+
 /// Drops what a terminal line hasn't sent. Closing the line would wait for it, up to 30 seconds if the device takes
-/// nothing. Drivers of some USB adapters drop nothing, but send it once flow control is off.
+/// nothing. Drivers of some USB adapters drop nothing, but send it once flow control is off. Of a pseudo terminal,
+/// which says that all is sent, it would drop what the program at its other end hasn't read yet.
 fn drop_unsent(file: RawFd) {
     let Ok(mut line) = settings_of(file) else { return };
     line.control &= !CRTSCTS;
     line.input &= !IXON;
     // SAFETY: the file is open, and the line is lent for the call.
     unsafe {
-        ioctl(file, TCFLSH, TCOFLUSH);
+        if !matches!(unsent_of(file), Ok(0)) {
+            ioctl(file, TCFLSH, TCOFLUSH);
+        }
         ioctl(file, TCSETS, &line as *const Line);
     }
 }
@@ -481,6 +495,13 @@ pub(crate) fn wait_for_any(files: &[RawFd], time: Duration) {
     let mut waiting: Vec<Waiting> =
         files.iter().map(|file| Waiting { file: *file, events: POLLIN, found: 0 }).collect();
     wait(&mut waiting, time);
+}
+
+/// Whether a device takes more, or is lost. /dev/usb/lp0 takes bytes at once, and more once those have left this
+/// machine. If it is closed before that, they are lost.
+fn takes_more(file: RawFd) -> bool {
+    let mut waiting = [Waiting { file, events: POLLOUT, found: 0 }];
+    wait(&mut waiting, Duration::ZERO) && waiting[0].found & (POLLOUT | POLLERR_HUP_NVAL) != 0
 }
 
 /// What a port is while it is open.
@@ -588,9 +609,7 @@ impl Cable {
     /// Whether something is in it that the device doesn't take.
     pub(crate) fn is_holding(&self) -> bool {
         let (true, Some(file)) = (self.holds_back(), self.file()) else { return false };
-        let mut left: c_int = 0;
-        // SAFETY: the file is open, and the number is lent for the call.
-        unsafe { ioctl(file, TIOCOUTQ, &mut left as *mut c_int) == 0 && left > 0 }
+        unsent_of(file).is_ok_and(|left| left > 0)
     }
 
     pub(crate) fn is_open(&self) -> bool {
@@ -765,30 +784,30 @@ impl Cable {
         self.kept(done, false)
     }
 
-    /// Returns whether all that was written has left this machine before a time, if the port is a serial line. Of other
-    /// ports only the system knows that. It rests between two looks.
+    /// Whether something that was written hasn't left this machine. Over TCP only the system knows that.
+    fn is_draining(&mut self) -> Result<bool, Lost> {
+        let Some(Stream::File(file)) = &self.stream else { return Ok(false) };
+        let file = file.as_raw_fd();
+        let fault = match unsent_of(file) {
+            Ok(left) => return Ok(left > 0),
+            Err(fault) => fault,
+        };
+        // Another device is no line, also if it was to be set up as one. A lost line doesn't say it any more.
+        if matches!(fault.raw_os_error(), Some(ENOTTY | EINVAL)) {
+            return Ok(!takes_more(file));
+        }
+        self.fault = Some(number_of(&fault));
+        self.close();
+        Err(Lost)
+    }
+
+    /// Returns whether all that was written has left this machine before a time. It rests between two looks.
     pub(crate) fn is_drained(&mut self, end: Instant, mut rest: impl FnMut()) -> bool {
-        let (Port::Serial(..) | Port::Line(_), Some(file)) = (&self.port, self.file()) else { return true };
         loop {
-            let mut left: c_int = 0;
-            // SAFETY: the file is open, and the number is lent for the call.
-            if unsafe { ioctl(file, TIOCOUTQ, &mut left as *mut c_int) } != 0 {
-                let fault = io::Error::last_os_error();
-                // What is no terminal has no such number, and a lost line has it no more.
-                let is_other = matches!(fault.raw_os_error(), Some(ENOTTY | EINVAL));
-                if !is_other {
-                    self.fault = Some(number_of(&fault));
-                    self.close();
-                }
-                return is_other;
+            match self.is_draining() {
+                Ok(true) if Instant::now() < end => rest(),
+                found => return matches!(found, Ok(false)),
             }
-            if left <= 0 {
-                return true;
-            }
-            if Instant::now() >= end {
-                return false;
-            }
-            rest();
         }
     }
 }
@@ -809,12 +828,20 @@ fn number_of(fault: &io::Error) -> c_int {
     })
 }
 
+/// Refuses what is no port: a file, a folder or a disk. A pipe is one for keys alone: of another one this program would
+/// read what it writes.
+fn check_device(file: &File, may_be_pipe: bool) -> io::Result<()> {
+    let kind = file.metadata()?.file_type();
+    if kind.is_char_device() || may_be_pipe && kind.is_fifo() {
+        return Ok(());
+    }
+    Err(io::Error::from_raw_os_error(ENODEV))
+}
+
 /// Opens a device file, and says whether reading no bytes means that it is lost.
 fn open_file(path: &Path, settings: Option<&SerialSettings>, keeps_faults: bool) -> io::Result<(Stream, bool)> {
     let file = OpenOptions::new().read(true).write(true).custom_flags(O_NONBLOCK | O_NOCTTY).open(path)?;
-    if file.metadata()?.is_file() {
-        return Err(io::Error::from_raw_os_error(ENODEV));
-    }
+    check_device(&file, false)?;
     // A printer on USB may send packets with nothing in them.
     let ends_empty = is_line(&file);
     if ends_empty {
@@ -826,6 +853,7 @@ fn open_file(path: &Path, settings: Option<&SerialSettings>, keeps_faults: bool)
 /// Opens a keyboard's events, which other programs don't see meanwhile.
 fn open_keys(path: &Path) -> io::Result<File> {
     let file = OpenOptions::new().read(true).custom_flags(O_NONBLOCK | O_NOCTTY).open(path)?;
+    check_device(&file, true)?;
     if is_line(&file) {
         set_up_own(&file, None, false)?;
     }
@@ -904,6 +932,11 @@ impl Addresses {
     }
 }
 
+/// Whether a connection leads to itself. The system may give it the number of the port, if nobody listens there.
+fn is_own(stream: &TcpStream) -> bool {
+    matches!((stream.local_addr(), stream.peer_addr()), (Ok(here), Ok(there)) if here == there)
+}
+
 /// Connects to the first address that answers. Each has its part of the time, so that one that says nothing leaves some
 /// to the others.
 fn connect_to_any(addresses: &[SocketAddr], end: Instant) -> io::Result<TcpStream> {
@@ -911,6 +944,7 @@ fn connect_to_any(addresses: &[SocketAddr], end: Instant) -> io::Result<TcpStrea
     for (place, address) in addresses.iter().enumerate() {
         let left = end.saturating_duration_since(Instant::now()) / (addresses.len() - place) as u32;
         match TcpStream::connect_timeout(address, left.max(Duration::from_millis(1))) {
+            Ok(stream) if is_own(&stream) => fault = io::Error::from_raw_os_error(ECONNREFUSED),
             Ok(stream) => return Ok(stream),
             Err(found) => fault = found,
         }
@@ -1070,7 +1104,7 @@ mod tests {
     }
 
     #[test]
-    fn what_a_line_has_not_sent_is_dropped() {
+    fn what_a_line_has_sent_is_read_though_it_is_closed() {
         for is_closed in [true, false] {
             let (mut device, path) = terminal();
             let other = OpenOptions::new().read(true).custom_flags(O_NOCTTY).open(&path).unwrap();
@@ -1084,14 +1118,15 @@ mod tests {
                 drop(cable);
             }
             assert_eq!(control() & CRTSCTS, 0);
-            std::thread::sleep(Duration::from_millis(20));
-            let (mut room, mut got) = (vec![0; sent], 0);
-            while let Ok(count) = device.read(&mut room) {
-                got += count;
-                std::thread::sleep(Duration::from_millis(5));
+            let (mut room, mut got, end) = (vec![0; sent], 0, end_after(SOON * 20));
+            while got < sent && Instant::now() < end {
+                match device.read(&mut room) {
+                    Ok(count) => got += count,
+                    Err(_) => std::thread::sleep(Duration::from_millis(1)),
+                }
             }
             // The system moves up to 4,096 bytes to the other end at once.
-            assert!(sent > 4096 && got <= 4096, "{got} of {sent}");
+            assert!(sent > 4096 && got == sent, "{got} of {sent}");
         }
     }
 

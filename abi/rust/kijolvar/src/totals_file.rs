@@ -1,6 +1,6 @@
 //! The file of a till's totals: opened or created, and locked. And copies of such files.
 use crate::error::Cause;
-use crate::ports::{EINVAL, O_NONBLOCK};
+use crate::ports::{EINVAL, O_NOCTTY, O_NONBLOCK};
 use crate::raw::{kijolvar_format_file, linkat, AT_FDCWD, AT_SYMLINK_FOLLOW, O_TMPFILE};
 use crate::standard::library::DISK_LENGTH;
 use crate::till::Inner;
@@ -130,11 +130,14 @@ fn check_name(file: &File, path: &Path) -> io::Result<()> {
 }
 
 /// Opens a file that is there, and locks it. A program may have put another file in its place before it was locked, as
-/// `kijolvar restore --replace` does: then that one is opened.
+/// `kijolvar restore --replace` does: then that one is opened. A path that leads to a serial line isn't waited for, and
+/// that isn't this process's terminal from then on.
 fn open_locked(path: &Path) -> io::Result<LockedFile> {
+    let mut options = OpenOptions::new();
+    options.read(true).write(true).custom_flags(O_NONBLOCK | O_NOCTTY);
     let mut turn = 1;
     loop {
-        let file = LockedFile::new(OpenOptions::new().read(true).write(true).open(path)?)?;
+        let file = LockedFile::new(options.open(path)?)?;
         match check_name(&file, path) {
             Err(_) if turn < MOST_TURNS => turn += 1,
             checked => return checked.map(|()| file),
@@ -234,8 +237,8 @@ fn create_new(path: &Path, profile: &str) -> Result<LockedFile, Cause> {
     Ok(file)
 }
 
-/// A locked file without a name, of zero bytes, as long as a disk. They are written, so that the file has its room from
-/// now on, however full the file system gets.
+/// A locked file without a name, of zero bytes, as long as a disk. They are written, so that the file has all its room
+/// from now on, but on Btrfs, which puts each change in a new place.
 fn unnamed(folder: &Path) -> io::Result<LockedFile> {
     let file = OpenOptions::new().read(true).write(true).custom_flags(O_TMPFILE).mode(0o600).open(folder)?;
     let file = LockedFile::new(file)?;

@@ -179,6 +179,20 @@ fn a_device_is_as_long_as_it_can_be_read() {
 }
 
 #[test]
+fn a_line_in_place_of_totals_is_not_waited_for_and_becomes_no_terminal() {
+    let (_device, path) = system::terminal();
+    assert!(system::is_so_forked(|| {
+        system::leave_terminal();
+        let refused = Till::open(BUILT_PROFILE, Totals::existing(&path));
+        refused.is_err_and(|error| system_kind(&error) == Some(ErrorKind::NotSeekable)) && !system::has_terminal()
+    }));
+    let place = Place::new("unwaited");
+    drop(Till::open(BUILT_PROFILE, Totals::create(place.file())).unwrap());
+    let _till = Till::open(BUILT_PROFILE, Totals::existing(place.file())).unwrap();
+    assert_eq!(system::waits_at(&place.file()), Some(false));
+}
+
+#[test]
 fn a_new_file_has_all_its_room() {
     let place = Place::new("room");
     drop(Till::open(BUILT_PROFILE, Totals::create(place.file())).unwrap());
@@ -1093,6 +1107,27 @@ fn a_display_that_takes_too_long_is_lost() {
     assert_eq!((state.is_online, state.port_error), (false, Some(110)));
 }
 
+#[test]
+fn an_order_of_a_display_is_done_once_its_bytes_have_left() {
+    let (_device, path) = system::terminal();
+    // A terminal says what it holds, and another device takes more once it holds nothing.
+    for (path, held, takes) in [(path, 3, u32::MAX), ("/dev/null".into(), 0, 1)] {
+        let (till, timeout) = (till(), Duration::from_millis(200));
+        let settings = DisplaySettings { timeout, ..DisplaySettings::default() };
+        till.drive("p1", SerialDisplay::open(Port::File(path), settings)).unwrap();
+        let display = till.line_display("p1").unwrap().enabled().unwrap();
+        display.display_text("4.50", DisplayAttribute::Normal).unwrap();
+        system::hold(held);
+        system::fill_after(takes);
+        let offline = display.display_text("5.40", DisplayAttribute::Normal).unwrap_err();
+        system::hold(0);
+        system::fill_after(u32::MAX);
+        assert_eq!(offline.code(), Some(ResultCode::Offline));
+        let state = till.driver_state("p1").unwrap();
+        assert_eq!((state.is_online, state.port_error), (false, Some(110)));
+    }
+}
+
 /// A drawer that counts how often it is opened, and whose driver fails the first time.
 struct Counted(Arc<AtomicU32>);
 
@@ -1464,6 +1499,15 @@ fn a_port_that_opens_late_is_found() {
 }
 
 #[test]
+fn a_connection_that_leads_to_itself_is_none() {
+    const ECONNREFUSED: i32 = 111;
+    let (till, port) = (till(), Port::from(system::leads_to_itself()));
+    till.drive("p1", SerialDisplay::open(port, DisplaySettings::default())).unwrap();
+    let state = till.driver_state("p1").unwrap();
+    assert_eq!((state.is_online, state.port_error), (false, Some(ECONNREFUSED)));
+}
+
+#[test]
 fn a_port_that_is_closed_is_so_in_all_processes() {
     let listener = TcpListener::bind("127.0.0.1:0").unwrap();
     let till = till();
@@ -1486,6 +1530,46 @@ fn a_port_that_is_closed_is_so_in_all_processes() {
     stream.read_to_end(&mut got).expect("the connection ends");
     assert!(got.contains(&b'A'));
     assert_eq!(system::grabs(), [0]);
+}
+
+#[test]
+fn what_is_no_device_is_no_port() {
+    const ENODEV: i32 = 19;
+    const EISDIR: i32 = 21;
+    let place = Place::new("no-port");
+    let (file, pipe) = (place.0.join("file"), place.0.join("pipe"));
+    File::create(&file).unwrap();
+    system::make_pipe(&pipe);
+    // Without it the pipe would be at its end.
+    let _writes = File::options().read(true).write(true).open(&pipe).unwrap();
+    let ports = [
+        (Port::from(&file), Some(ENODEV)),
+        (Port::Keys(file), Some(ENODEV)),
+        (Port::from(&place.0), Some(EISDIR)),
+        (Port::Keys(place.0.clone()), Some(ENODEV)),
+        (Port::from(&pipe), Some(ENODEV)),
+        (Port::Serial(pipe.clone(), SerialSettings::default()), Some(ENODEV)),
+        (Port::Keys(pipe), None),
+    ];
+    for (port, fault) in ports {
+        let (till, name) = (till(), format!("{port:?}"));
+        till.drive("s1", WedgeScanner::open(port)).unwrap();
+        let state = till.driver_state("s1").unwrap();
+        assert_eq!((state.is_online, state.port_error), (fault.is_none(), fault), "{name}");
+    }
+}
+
+#[test]
+fn what_a_line_has_not_sent_is_dropped_as_it_is_closed() {
+    for held in [0, 3] {
+        let ((_device, path), till) = (system::terminal(), till());
+        till.drive("p1", SerialDisplay::open(Port::Line(path), DisplaySettings::default())).unwrap();
+        system::hold(held);
+        system::drops();
+        drop(till);
+        system::hold(0);
+        assert_eq!(system::drops(), u32::from(held > 0));
+    }
 }
 
 /// How often a printer is asked whether it is there, by what has come over its line so far.
@@ -1768,13 +1852,14 @@ fn a_till_without_drivers_waits() {
 /// system's.
 mod system {
     use std::cell::{Cell, RefCell};
-    use std::ffi::{c_char, c_int, c_long, c_uint, c_ulong, c_void, CString};
+    use std::ffi::{c_char, c_int, c_long, c_short, c_uint, c_ulong, c_void, CString};
     use std::fs::{File, OpenOptions};
-    use std::net::{TcpListener, TcpStream};
+    use std::net::{SocketAddr, TcpListener, TcpStream};
     use std::os::fd::AsRawFd;
     use std::os::unix::ffi::OsStrExt;
     use std::os::unix::fs::OpenOptionsExt;
     use std::path::{Path, PathBuf};
+    use std::sync::atomic::{AtomicU16, Ordering};
     use std::time::Duration;
 
     extern "C" {
@@ -1783,6 +1868,7 @@ mod system {
         fn waitpid(process: c_int, status: *mut c_int, options: c_int) -> c_int;
         fn kill(process: c_int, signal: c_int) -> c_int;
         fn pause() -> c_int;
+        fn setsid() -> c_int;
         fn mkfifo(path: *const c_char, mode: c_uint) -> c_int;
         fn _exit(status: c_int) -> !;
         fn syscall(number: c_long, ...) -> c_long;
@@ -1802,8 +1888,15 @@ mod system {
     ) -> c_int;
 
     /// Linux's numbers, on x86-64.
+    const SYS_POLL: c_long = 7;
     const SYS_IOCTL: c_long = 16;
+    const SYS_CONNECT: c_long = 42;
+    const SYS_BIND: c_long = 49;
+    const AF_INET: u16 = 2;
     const EVIOCGRAB: c_ulong = 0x4004_4590;
+    const POLLOUT: c_short = 4;
+    const TCFLSH: c_ulong = 0x540b;
+    const TCOFLUSH: usize = 1;
     const TIOCOUTQ: c_ulong = 0x5411;
     const TIOCSPTLCK: c_ulong = 0x4004_5431;
     const TIOCGPTN: c_ulong = 0x8004_5430;
@@ -1822,11 +1915,16 @@ mod system {
         static LINGERING: RefCell<Vec<c_int>> = const { RefCell::new(Vec::new()) };
         static GRABS: RefCell<Vec<usize>> = const { RefCell::new(Vec::new()) };
         static HELD: Cell<c_int> = const { Cell::new(0) };
+        static DROPS: Cell<u32> = const { Cell::new(0) };
+        static TAKES: Cell<u32> = const { Cell::new(u32::MAX) };
         static SYNCED: RefCell<Vec<PathBuf>> = const { RefCell::new(Vec::new()) };
         static SYNC_FAULT: Cell<c_int> = const { Cell::new(0) };
         static LIMIT: Cell<(usize, u32)> = const { Cell::new((0, 0)) };
         static HAS_THREADS: Cell<bool> = const { Cell::new(true) };
     }
+
+    /// The number of a TCP port that leads to itself.
+    static ITS_OWN: AtomicU16 = AtomicU16::new(0);
 
     /// Whether a process that is forked finds something so. It panics nowhere, since it has this thread alone.
     pub fn is_so_forked(finds: impl FnOnce() -> bool) -> bool {
@@ -1895,8 +1993,8 @@ mod system {
         }
     }
 
-    /// Asks the driver of a file for something, and notes whether a keyboard is grabbed. A pseudo terminal doesn't say
-    /// how much it holds.
+    /// Asks the driver of a file for something, and notes whether a keyboard is grabbed, and how often a line drops
+    /// what it hasn't sent. A pseudo terminal doesn't say how much it holds.
     ///
     /// # Safety
     ///
@@ -1905,6 +2003,9 @@ mod system {
     pub unsafe extern "C" fn ioctl(file: c_int, request: c_ulong, argument: *mut c_void) -> c_int {
         if request == EVIOCGRAB {
             GRABS.with_borrow_mut(|list| list.push(argument.addr()));
+        }
+        if request == TCFLSH && argument.addr() == TCOFLUSH {
+            DROPS.set(DROPS.get() + 1);
         }
         if request == TIOCOUTQ && HELD.get() > 0 {
             // SAFETY: the place is the caller's.
@@ -1920,6 +2021,46 @@ mod system {
         HELD.set(count);
     }
 
+    /// What is waited for at a file, and what has happened there.
+    #[repr(C)]
+    pub struct Waiting {
+        file: c_int,
+        events: c_short,
+        found: c_short,
+    }
+
+    /// Waits for files. After [`fill_after`] none takes bytes.
+    ///
+    /// # Safety
+    ///
+    /// As the system's.
+    #[no_mangle]
+    pub unsafe extern "C" fn poll(files: *mut Waiting, count: c_ulong, time: c_int) -> c_int {
+        // SAFETY: the files are the caller's.
+        let (mut ready, files) = unsafe {
+            (syscall(SYS_POLL, files, count, time) as c_int, std::slice::from_raw_parts_mut(files, count as usize))
+        };
+        for file in files.iter_mut().filter(|file| file.found & POLLOUT != 0) {
+            if TAKES.get() == 0 {
+                ready -= c_int::from(file.found == POLLOUT);
+                file.found &= !POLLOUT;
+            } else {
+                TAKES.set(TAKES.get() - 1);
+            }
+        }
+        ready
+    }
+
+    /// Makes devices say so often more that they take bytes, and no more from then on.
+    pub fn fill_after(count: u32) {
+        TAKES.set(count);
+    }
+
+    /// How often what a line hasn't sent was dropped since the last time.
+    pub fn drops() -> u32 {
+        DROPS.take()
+    }
+
     /// A TCP port that says nothing to who connects to it, since its queue is full.
     pub fn silent() -> (TcpListener, Vec<TcpStream>) {
         let (listener, mut queue) = (TcpListener::bind("127.0.0.1:0").unwrap(), Vec::new());
@@ -1930,6 +2071,36 @@ mod system {
             queue.push(stream);
         }
         (listener, queue)
+    }
+
+    /// The beginning of an address of IPv4, as Linux has it.
+    #[repr(C)]
+    pub struct Address {
+        family: u16,
+        number: [u8; 2],
+    }
+
+    /// Connects to an address. A connection to that of [`leads_to_itself`] is from there.
+    ///
+    /// # Safety
+    ///
+    /// As the system's.
+    #[no_mangle]
+    pub unsafe extern "C" fn connect(file: c_int, address: *const Address, size: c_uint) -> c_int {
+        // SAFETY: the file and the address are the caller's.
+        unsafe {
+            if (*address).family == AF_INET && (*address).number == ITS_OWN.load(Ordering::Relaxed).to_be_bytes() {
+                assert_eq!(syscall(SYS_BIND, file, address, size), 0);
+            }
+            syscall(SYS_CONNECT, file, address, size) as c_int
+        }
+    }
+
+    /// An address at which nobody listens. Who connects to it has a connection that leads to itself.
+    pub fn leads_to_itself() -> SocketAddr {
+        let address = TcpListener::bind("127.0.0.1:0").unwrap().local_addr().unwrap();
+        ITS_OWN.store(address.port(), Ordering::Relaxed);
+        address
     }
 
     /// A pseudo terminal: one end, and the path of the other.
@@ -1944,6 +2115,27 @@ mod system {
         };
         assert_eq!(failed, 0);
         (file, format!("/dev/pts/{number}").into())
+    }
+
+    /// Leaves the terminal of this process, if it has one.
+    pub fn leave_terminal() {
+        // SAFETY: it takes nothing.
+        unsafe { setsid() };
+    }
+
+    /// Whether this process has a terminal.
+    pub fn has_terminal() -> bool {
+        File::open("/dev/tty").is_ok()
+    }
+
+    /// Whether this process waits where it reads a file or writes it, if it has the file open.
+    pub fn waits_at(path: &Path) -> Option<bool> {
+        let path = std::fs::canonicalize(path).unwrap();
+        let mut files = std::fs::read_dir("/proc/self/fd").unwrap().flatten();
+        let file = files.find(|file| std::fs::read_link(file.path()).is_ok_and(|found| found == path))?;
+        let said = std::fs::read_to_string(Path::new("/proc/self/fdinfo").join(file.file_name())).unwrap();
+        let flags = said.lines().find_map(|line| line.strip_prefix("flags:")).unwrap();
+        Some(c_int::from_str_radix(flags.trim(), 8).unwrap() & O_NONBLOCK == 0)
     }
 
     /// What was asked of keyboards since the last time: 1 grabs one, and 0 ends that.
