@@ -21,6 +21,7 @@ import re
 import select
 import signal
 import socket
+import stat
 import statistics
 import struct
 import subprocess
@@ -2591,6 +2592,30 @@ def try_display_that_was_off():
             with mock.patch("time.clock_gettime", lambda clock: now(clock) + 15):
                 told(f"over {kind}: a row after the machine was suspended", (None, True), (
                     raised(display.display_text_at, 1, 0, b"Rice"), shows(b"Bread" + b" " * 15 + b"Rice" + b" " * 16)))
+
+
+def try_no_ports():
+    """A file, a folder, a disk or a pipe is no port. A pipe is one for keys alone."""
+    places = {what: CHECKS.work / what for what in ("file", "folder", "pipe", "disk")}
+    places["file"].touch()
+    places["folder"].mkdir()
+    os.mkfifo(places["pipe"])
+    places["disk"].symlink_to("/dev/null")
+
+    def refusals(what):
+        """What opening each kind of port there is refused with."""
+        found = []
+        for kind in (kijolvar.FilePort, SerialPort, kijolvar.drivers._KeyPort):
+            port = kind(places[what])
+            found.append(refusal(port))
+            port.close()
+        return found
+    for what in ("file", "pipe"):
+        none = (errno.ENODEV, f"{places[what]} is a {what} and no port")
+        told(f"a {what}", [none, none, None if what == "pipe" else none], refusals(what))
+    told("a folder", [errno.EISDIR, errno.EISDIR, errno.ENODEV], [number for number, _ in refusals("folder")])
+    with mock.patch("os.fstat", return_value=types.SimpleNamespace(st_mode=stat.S_IFBLK)):
+        told("a disk", [(errno.ENODEV, f"{places['disk']} is a disk and no port")] * 3, refusals("disk"))
 
 
 def try_flow():

@@ -650,7 +650,10 @@ class _KeyPort(FilePort):
     _way = os.O_RDONLY
 
     def _prepare(self, file: int) -> None:
-        if stat.S_ISCHR(os.fstat(file).st_mode):
+        # A pipe has no keys to keep from other programs.
+        kind = stat.S_IFMT(os.fstat(file).st_mode)
+        if kind != stat.S_IFIFO:
+            self._check_kind(kind)
             with MinorFaults(errno.ENOTTY, errno.EINVAL):
                 fcntl.ioctl(file, _GRAB, 1)
             with MinorFaults():

@@ -35,6 +35,8 @@ _FLOW: Flow = "rts-cts"
 _XON, _XOFF = b"\x11", b"\x13"
 # A parity that is always 0 or 1 (CMSPAR), which `termios` doesn't name.
 _STUCK_PARITY = 0x40000000
+# What is no port, by the types of files.
+_NO_PORTS = {stat.S_IFREG: "a file", stat.S_IFDIR: "a folder", stat.S_IFBLK: "a disk", stat.S_IFIFO: "a pipe"}
 _AT_ONCE = 65_536
 # In how many parts is read what has come.
 _MOST_PARTS = 16
@@ -556,8 +558,7 @@ class FilePort(Port):
 
     def _prepare(self, file: int) -> None:
         """Makes a file that was opened ready."""
-        if stat.S_ISREG(os.fstat(file).st_mode):
-            raise PortError(errno.ENODEV, f"{self.name} is a file and no device")
+        self._check_kind(stat.S_IFMT(os.fstat(file).st_mode))
         # A printer on USB may send packets with nothing in them.
         self._ends_empty = os.isatty(file)
         if self._ends_empty:
@@ -569,6 +570,11 @@ class FilePort(Port):
             except BaseException:
                 _unlock(file)
                 raise
+
+    def _check_kind(self, kind: int) -> None:
+        """Refuses what is no port. Of a pipe this program would read what it writes."""
+        if kind != stat.S_IFCHR:
+            raise PortError(errno.ENODEV, f"{self.name} is {_NO_PORTS.get(kind, 'something else')} and no port")
 
     def _let_go(self, file: int) -> None:
         if os.isatty(file):
