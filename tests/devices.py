@@ -3556,6 +3556,22 @@ def try_ports_again():
                  (name_of(port.open), len(asked)))
 
 
+def try_own_number():
+    """A connection to a port at which nobody listens may lead to itself: it is none."""
+    with socket.create_server(("127.0.0.1", 0)) as server:
+        address = server.getsockname()
+    files = len(os.listdir("/proc/self/fd"))
+    port, connects = kijolvar.TcpPort(*address), socket.socket.connect_ex
+
+    def binds_first(made, there):
+        made.bind(there)
+        return connects(made, there)
+    with mock.patch("socket.socket.connect_ex", binds_first):
+        told("a connection to itself", (errno.ECONNREFUSED, False), (errno_of(port.open), port.is_open))
+    told("nothing is left of it", files, len(os.listdir("/proc/self/fd")))
+    port.close()
+
+
 def try_raising_handlers():
     """A signal's handler that raises an error which the system has too: it isn't taken for one of the port."""
     before = signal.getsignal(signal.SIGUSR1)

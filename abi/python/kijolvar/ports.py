@@ -837,7 +837,16 @@ class _Joining:
         if not waits.poll(_milliseconds(end - time.monotonic())):
             return False
         _check(self._made.getsockopt(socket.SOL_SOCKET, socket.SO_ERROR), 0)
+        if _is_own(self._made):
+            raise ConnectionRefusedError(errno.ECONNREFUSED, os.strerror(errno.ECONNREFUSED))
         return True
+
+
+def _is_own(made: socket.socket) -> bool:
+    """Whether a connection leads to itself. The system may give it the number of the port, if nobody listens there."""
+    with MinorFaults():
+        return bool(made.getsockname() == made.getpeername())
+    return False
 
 
 def _timed_out() -> TimeoutError:
