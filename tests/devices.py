@@ -2553,6 +2553,52 @@ def try_display():
                 told(f"{name}: cleared", True, shows(b" " * 40))
 
 
+def try_display_that_takes_more_later():
+    """A device that is no line, as /dev/usb/lp0, takes the bytes of an order at once, and more once they have left this
+    machine: the order is done then. Here it is a pipe that is full with one part."""
+    path = CHECKS.work / "lp0"
+    os.mkfifo(path)
+    device = os.open(path, os.O_RDWR | os.O_NONBLOCK)
+    fcntl.fcntl(device, fcntl.F_SETPIPE_SZ, 4096)
+    taken = []
+
+    def takes():
+        taken.append((time.monotonic(), os.read(device, 4096)))
+    with opened() as till:
+        driver = SerialDisplay(path, timeout=PATIENCE)
+        with mock.patch("os.fstat", return_value=types.SimpleNamespace(st_mode=stat.S_IFCHR)):
+            driver.port.open()
+        till.drive("p1", driver)
+        with till.display("p1").in_use() as display:
+            taking = threading.Timer(0.3, takes)
+            taking.start()
+            fault, ended = raised(display.display_text, b"Hi"), time.monotonic()
+            taking.join()
+            told("it is done once they have left", (None, True, True),
+                 (fault, ended >= taken[0][0], b"Hi" in taken[0][1]))
+            driver._timeout = TIMEOUT
+            told("one whose bytes don't leave isn't", ((108, 0), False),
+                 (raised(display.display_text, b"Bread"), driver.is_online))
+    os.close(device)
+
+
+def try_terminal_that_sends_slowly():
+    """A terminal that isn't set up as a serial line, as /dev/rfcomm0, says what it hasn't sent."""
+    asks, left = fcntl.ioctl, [7, 7, 0]
+
+    def holds(file, what, *words):
+        if what != termios.TIOCOUTQ:
+            return asks(file, what, *words)
+        return (left.pop(0) if len(left) > 1 else left[0]).to_bytes(4, sys.byteorder)
+    with Display(cable(), 2, 20) as device, contextlib.closing(kijolvar.port_of(device.path)) as port:
+        port.open()
+        with mock.patch("fcntl.ioctl", holds):
+            told("it has sent all", (False, True, [0]), (port.is_line, port.write(b"Hi", PATIENCE), left))
+            left[:] = [7]
+            told("it hasn't", (False, True), (port.write(b"Hi", 0.05), port.is_open))
+            left[:] = [0]
+
+
 def try_display_that_was_off():
     """A display with its own power supply, which was off and on again while nobody could see it."""
     for kind in ("usb stays", "serial"):
@@ -2657,6 +2703,7 @@ def try_left_settings():
         told("XON and XOFF", [b"\x11", b"\x13"], [found[6][place] for place in (termios.VSTART, termios.VSTOP)])
         told("no parity is stuck", 0, found[2] & stuck_parity)
         port.close()
+        told("nothing holds a closed line back", 0, termios.tcgetattr(line)[0] & termios.IXON)
         os.close(line)
 
 
@@ -3098,7 +3145,7 @@ def try_typed_meanwhile():
             typing.join()
             told(f"a display {name}: all was read before", ([True], codes[:20]), (found, shop.told(20)))
         shows("whose line takes nothing yet")
-        with mock.patch.object(port, "_count_unsent", lambda: not found):
+        with mock.patch.object(port, "_is_draining", lambda: not found):
             shows("whose line sends slowly")
 
 

@@ -422,26 +422,8 @@ class Port(Unique):
         """Closes a connection that is being made. It goes on in the process from which this one was forked."""
 
     def _drained(self, end: float) -> bool:
-        """Whether what was written has left this machine before a time."""
+        """Whether what was written has left this machine before a time, as far as the port says that."""
         return True
-
-    def _line_drained(self, end: float) -> bool:
-        """Looks how much waits in a line's driver, in place of waiting for it without an end. A file that was taken for
-        a line may be none."""
-        while self._ends_empty and self._count_unsent():
-            if time.monotonic() >= end:
-                return False
-            rest_beside(0.001)
-        return True
-
-    def _count_unsent(self) -> int:
-        """How many bytes a terminal line hasn't sent yet."""
-        file, found = self.fileno(), bytes(4)
-        try:
-            found = fcntl.ioctl(file, termios.TIOCOUTQ, found)
-        except OSError as fault:
-            self._loses(fault)
-        return int.from_bytes(found, "little")
 
 
 def _wait_beside(seconds: float, file: int | None = None, events: int = 0) -> int:
@@ -592,7 +574,29 @@ class FilePort(Port):
             termios.tcsetattr(file, termios.TCSANOW, _raw(file))
 
     def _drained(self, end: float) -> bool:
-        return self._line is None or self._line_drained(end)
+        """Looks whether something is left, in place of waiting for it without an end."""
+        while self._is_draining():
+            if time.monotonic() >= end:
+                return False
+            rest_beside(0.001)
+        return True
+
+    def _is_draining(self) -> bool:
+        """Whether something that was written hasn't left this machine yet."""
+        file = self.fileno()
+        try:
+            return _unsent(file) > 0
+        except OSError as fault:
+            # Another device is no line, also if it was taken for one.
+            if fault.errno not in (errno.ENOTTY, errno.EINVAL) or _is_of_handler(fault):
+                self._loses(fault)
+                return False
+        return not self._takes_more()
+
+    def _takes_more(self) -> bool:
+        """Whether the device takes more, or is lost. /dev/usb/lp0 takes bytes at once, and more once those have left
+        this machine. If it is closed before that, they are lost."""
+        return any(flags & ~select.POLLIN for _, flags in self._waits[True].poll(0))
 
 
 class SerialPort(FilePort):
@@ -650,9 +654,6 @@ class SerialPort(FilePort):
         found[2], found[4], found[5] = control, self._speed, self._speed
         termios.tcsetattr(file, termios.TCSANOW, found)
         termios.tcflush(file, termios.TCIOFLUSH)
-
-    def _drained(self, end: float) -> bool:
-        return self._line_drained(end)
 
 
 class TcpPort(Port):
@@ -901,14 +902,15 @@ def _unsent(file: int) -> int:
 
 
 def _drop_unsent(file: int) -> None:
-    """Drops what a terminal line hasn't sent. Closing it would wait for that, while flow control holds it back."""
+    """Drops what a terminal line hasn't sent. Closing it would wait for that, while flow control holds it back. Of a
+    pseudo terminal, which says that all is sent, it would drop what the program at its other end hasn't read yet."""
     if _unsent(file):
         termios.tcflush(file, termios.TCOFLUSH)
-        # What a driver can't drop goes out.
-        found = termios.tcgetattr(file)
-        found[0] &= ~(termios.IXON | termios.IXOFF)
-        found[2] &= ~termios.CRTSCTS
-        termios.tcsetattr(file, termios.TCSANOW, found)
+    # What a driver can't drop goes out, and so does what is in an adapter alone.
+    found = termios.tcgetattr(file)
+    found[0] &= ~(termios.IXON | termios.IXOFF)
+    found[2] &= ~termios.CRTSCTS
+    termios.tcsetattr(file, termios.TCSANOW, found)
 
 
 def _raw(file: int) -> list[Any]:
