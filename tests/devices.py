@@ -3619,6 +3619,25 @@ def try_own_number():
     port.close()
 
 
+def try_closed_streams():
+    """A port gets no number of a standard stream that the program has closed: what is written to it goes nowhere."""
+    code = """if True:
+        import os, sys, kijolvar
+        for stream in (0, 2):
+            os.close(stream)
+        ports = [kijolvar.port_of(name) for name in sys.argv[1:]]
+        for port in ports:
+            port.open()
+        print([port.fileno() > 2 for port in ports], [os.path.exists(f"/proc/self/fd/{stream}") for stream in (0, 2)])
+        ports[1].write(b"Hello", 1.0)"""
+    with Scanner(cable()) as device, socket.create_server(("127.0.0.1", 0)) as server:
+        words = [sys.executable, "-c", code, device.path, f"tcp:127.0.0.1:{server.getsockname()[1]}"]
+        done = subprocess.run(words, stdout=subprocess.PIPE, text=True, cwd=TOP / "abi/python")
+        told("a line and a connection", (0, "[True, True] [False, False]\n"), (done.returncode, done.stdout))
+        with server.accept()[0] as other:
+            told("the connection works", b"Hello", other.recv(9))
+
+
 def try_raising_handlers():
     """A signal's handler that raises an error which the system has too: it isn't taken for one of the port."""
     before = signal.getsignal(signal.SIGUSR1)

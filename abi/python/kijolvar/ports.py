@@ -24,6 +24,7 @@ from collections.abc import Iterator, Sequence
 from types import TracebackType
 from typing import Any, Literal, Protocol, Union
 
+from ._files import LAST_STREAM, off_streams
 from ._library import Path
 from ._unique import Unique
 
@@ -530,7 +531,7 @@ class FilePort(Port):
             self._line = SerialPort(self.name, flow=self._flow) if _is_line(self.name) else None
             if self._line is not None:
                 self._line.keeps_faults = self.keeps_faults
-        file = os.open(self.name, self._way | os.O_NONBLOCK | os.O_NOCTTY | os.O_CLOEXEC)
+        file = off_streams(os.open(self.name, self._way | os.O_NONBLOCK | os.O_NOCTTY | os.O_CLOEXEC))
         try:
             self._prepare(file)
             return file
@@ -827,7 +828,10 @@ class _Joining:
         self._ends_at = max(self._ends_at, now + self._seconds * left / self._count)
         self._turn_ends_at = now + (self._ends_at - now) / left
         family, address = self._left.pop(0)
-        self._made = socket.socket(family, socket.SOCK_STREAM | socket.SOCK_NONBLOCK)
+        kind = socket.SOCK_STREAM | socket.SOCK_NONBLOCK
+        self._made = socket.socket(family, kind)
+        if self._made.fileno() <= LAST_STREAM:
+            self._made = socket.socket(family, kind, fileno=off_streams(self._taken().detach()))
         _check(self._made.connect_ex(address), 0, errno.EINPROGRESS)
 
     def _is_made(self, end: float) -> bool:
