@@ -21,6 +21,7 @@ import re
 import select
 import signal
 import socket
+import stat
 import statistics
 import struct
 import subprocess
@@ -2552,6 +2553,52 @@ def try_display():
                 told(f"{name}: cleared", True, shows(b" " * 40))
 
 
+def try_display_that_takes_more_later():
+    """A device that is no line, as /dev/usb/lp0, takes the bytes of an order at once, and more once they have left this
+    machine: the order is done then. Here it is a pipe that is full with one part."""
+    path = CHECKS.work / "lp0"
+    os.mkfifo(path)
+    device = os.open(path, os.O_RDWR | os.O_NONBLOCK)
+    fcntl.fcntl(device, fcntl.F_SETPIPE_SZ, 4096)
+    taken = []
+
+    def takes():
+        taken.append((time.monotonic(), os.read(device, 4096)))
+    with opened() as till:
+        driver = SerialDisplay(path, timeout=PATIENCE)
+        with mock.patch("os.fstat", return_value=types.SimpleNamespace(st_mode=stat.S_IFCHR)):
+            driver.port.open()
+        till.drive("p1", driver)
+        with till.display("p1").in_use() as display:
+            taking = threading.Timer(0.3, takes)
+            taking.start()
+            fault, ended = raised(display.display_text, b"Hi"), time.monotonic()
+            taking.join()
+            told("it is done once they have left", (None, True, True),
+                 (fault, ended >= taken[0][0], b"Hi" in taken[0][1]))
+            driver._timeout = TIMEOUT
+            told("one whose bytes don't leave isn't", ((108, 0), False),
+                 (raised(display.display_text, b"Bread"), driver.is_online))
+    os.close(device)
+
+
+def try_terminal_that_sends_slowly():
+    """A terminal that isn't set up as a serial line, as /dev/rfcomm0, says what it hasn't sent."""
+    asks, left = fcntl.ioctl, [7, 7, 0]
+
+    def holds(file, what, *words):
+        if what != termios.TIOCOUTQ:
+            return asks(file, what, *words)
+        return (left.pop(0) if len(left) > 1 else left[0]).to_bytes(4, sys.byteorder)
+    with Display(cable(), 2, 20) as device, contextlib.closing(kijolvar.port_of(device.path)) as port:
+        port.open()
+        with mock.patch("fcntl.ioctl", holds):
+            told("it has sent all", (False, True, [0]), (port.is_line, port.write(b"Hi", PATIENCE), left))
+            left[:] = [7]
+            told("it hasn't", (False, True), (port.write(b"Hi", 0.05), port.is_open))
+            left[:] = [0]
+
+
 def try_display_that_was_off():
     """A display with its own power supply, which was off and on again while nobody could see it."""
     for kind in ("usb stays", "serial"):
@@ -2593,6 +2640,30 @@ def try_display_that_was_off():
                     raised(display.display_text_at, 1, 0, b"Rice"), shows(b"Bread" + b" " * 15 + b"Rice" + b" " * 16)))
 
 
+def try_no_ports():
+    """A file, a folder, a disk or a pipe is no port. A pipe is one for keys alone."""
+    places = {what: CHECKS.work / what for what in ("file", "folder", "pipe", "disk")}
+    places["file"].touch()
+    places["folder"].mkdir()
+    os.mkfifo(places["pipe"])
+    places["disk"].symlink_to("/dev/null")
+
+    def refusals(what):
+        """What opening each kind of port there is refused with."""
+        found = []
+        for kind in (kijolvar.FilePort, SerialPort, kijolvar.drivers._KeyPort):
+            port = kind(places[what])
+            found.append(refusal(port))
+            port.close()
+        return found
+    for what in ("file", "pipe"):
+        none = (errno.ENODEV, f"{places[what]} is a {what} and no port")
+        told(f"a {what}", [none, none, None if what == "pipe" else none], refusals(what))
+    told("a folder", [errno.EISDIR, errno.EISDIR, errno.ENODEV], [number for number, _ in refusals("folder")])
+    with mock.patch("os.fstat", return_value=types.SimpleNamespace(st_mode=stat.S_IFBLK)):
+        told("a disk", [(errno.ENODEV, f"{places['disk']} is a disk and no port")] * 3, refusals("disk"))
+
+
 def try_flow():
     """What of a line's settings is as it has to be: no flow control for a display, and which bytes count."""
     with Scanner(cable()) as device:
@@ -2632,6 +2703,7 @@ def try_left_settings():
         told("XON and XOFF", [b"\x11", b"\x13"], [found[6][place] for place in (termios.VSTART, termios.VSTOP)])
         told("no parity is stuck", 0, found[2] & stuck_parity)
         port.close()
+        told("nothing holds a closed line back", 0, termios.tcgetattr(line)[0] & termios.IXON)
         os.close(line)
 
 
@@ -3073,7 +3145,7 @@ def try_typed_meanwhile():
             typing.join()
             told(f"a display {name}: all was read before", ([True], codes[:20]), (found, shop.told(20)))
         shows("whose line takes nothing yet")
-        with mock.patch.object(port, "_count_unsent", lambda: not found):
+        with mock.patch.object(port, "_is_draining", lambda: not found):
             shows("whose line sends slowly")
 
 
@@ -3529,6 +3601,41 @@ def try_ports_again():
             port._looks_up_from -= 61
             told(f"a look-up that fails after {took} s, a minute later", ("PortError", wanted + 1),
                  (name_of(port.open), len(asked)))
+
+
+def try_own_number():
+    """A connection to a port at which nobody listens may lead to itself: it is none."""
+    with socket.create_server(("127.0.0.1", 0)) as server:
+        address = server.getsockname()
+    files = len(os.listdir("/proc/self/fd"))
+    port, connects = kijolvar.TcpPort(*address), socket.socket.connect_ex
+
+    def binds_first(made, there):
+        made.bind(there)
+        return connects(made, there)
+    with mock.patch("socket.socket.connect_ex", binds_first):
+        told("a connection to itself", (errno.ECONNREFUSED, False), (errno_of(port.open), port.is_open))
+    told("nothing is left of it", files, len(os.listdir("/proc/self/fd")))
+    port.close()
+
+
+def try_closed_streams():
+    """A port gets no number of a standard stream that the program has closed: what is written to it goes nowhere."""
+    code = """if True:
+        import os, sys, kijolvar
+        for stream in (0, 2):
+            os.close(stream)
+        ports = [kijolvar.port_of(name) for name in sys.argv[1:]]
+        for port in ports:
+            port.open()
+        print([port.fileno() > 2 for port in ports], [os.path.exists(f"/proc/self/fd/{stream}") for stream in (0, 2)])
+        ports[1].write(b"Hello", 1.0)"""
+    with Scanner(cable()) as device, socket.create_server(("127.0.0.1", 0)) as server:
+        words = [sys.executable, "-c", code, device.path, f"tcp:127.0.0.1:{server.getsockname()[1]}"]
+        done = subprocess.run(words, stdout=subprocess.PIPE, text=True, cwd=TOP / "abi/python")
+        told("a line and a connection", (0, "[True, True] [False, False]\n"), (done.returncode, done.stdout))
+        with server.accept()[0] as other:
+            told("the connection works", b"Hello", other.recv(9))
 
 
 def try_raising_handlers():

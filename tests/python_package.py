@@ -2303,6 +2303,59 @@ def try_library():
                     (kijolvar.create_totals, none), (kijolvar.open,), (kijolvar.open, None, none))] + [none.exists()])
 
 
+def try_closed_streams():
+    """A program has closed standard streams. What it writes to them all the same gets into no file of totals."""
+    path, copy_of = WORK / "streams", WORK / "streams.copy"
+    says = f"""if True:
+        import os, kijolvar
+        for stream in (0, 2):
+            os.close(stream)
+        said, syncs = [], os.fsync
+
+        def says():
+            for stream in (0, 2):
+                try:
+                    said.append(os.write(stream, b"what a program says"))
+                except OSError:
+                    said.append(None)
+
+        def syncs_then(file):
+            says()
+            syncs(file)
+        os.fsync = syncs_then
+        for create in (True, False):
+            with kijolvar.open(totals={str(path)!r}, create=create) as till:
+                says()
+                till.totals("t1").create("A" if create else "B", 1)
+        kijolvar.check({str(path)!r})
+        kijolvar.backup({str(path)!r}, {str(copy_of)!r})
+        print(len(said) > 20, set(said))"""
+    told("it creates, opens and copies a file", "True {None}", in_python(says, LIBRARY))
+    told("both are sound", [[b"A", b"B"]] * 2, [list(kijolvar.files(file, LIBRARY).files) for file in (path, copy_of)])
+
+
+def try_line_as_totals():
+    """A serial line in place of a file of totals doesn't become the terminal of the process."""
+    other, line = os.openpty()
+    opens = f"""if True:
+        import errno, os, kijolvar
+        os.setsid()
+        path = {os.ttyname(line)!r}
+        for call in (lambda: kijolvar.open(totals=path), lambda: kijolvar.check(path),
+                     lambda: kijolvar.backup(path, path + ".copy")):
+            try:
+                call()
+            except OSError as fault:
+                print(errno.errorcode[fault.errno])
+        try:
+            print(os.open("/dev/tty", os.O_RDWR | os.O_NOCTTY))
+        except OSError as fault:
+            print(errno.errorcode[fault.errno])"""
+    told("it is no file, and no terminal", ["ESPIPE"] * 3 + ["ENXIO"], in_python(opens, LIBRARY).splitlines())
+    for end in (line, other):
+        os.close(end)
+
+
 def members(kind):
     for name, member in inspect.getmembers(kind):
         if not name.startswith("_") and (inspect.isfunction(member) or isinstance(member, property)):
@@ -2525,7 +2578,7 @@ def main():
                        try_lost_constructors, try_given_up_by_a_closed_control,
                        try_held_orders, try_words_of_drivers, try_faults_of_drivers, try_orders_in_polls,
                        try_closed_drivers, try_closed_in_a_round,
-                       try_profiles, try_library,
+                       try_profiles, try_library, try_closed_streams, try_line_as_totals,
                        try_help, try_texts, try_devices, try_order_bytes, try_interrupted_room, try_reply_lines):
             try_it()
     finally:

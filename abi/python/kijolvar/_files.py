@@ -17,6 +17,19 @@ from ._session import Session, read_whole, write_whole
 # How often a file is opened whose name another program gives to another file meanwhile, and how often one is read again
 # that changes from one reading to the next.
 _TRIES, _READINGS = 10, 1000
+# The highest number of a standard stream.
+LAST_STREAM = 2
+
+
+def off_streams(file: int) -> int:
+    """Gives an open file a number behind those of the standard streams. A program that has closed one of these, and
+    writes to it all the same, would write into the file."""
+    if file > LAST_STREAM:
+        return file
+    try:
+        return fcntl.fcntl(file, fcntl.F_DUPFD_CLOEXEC, LAST_STREAM + 1)
+    finally:
+        os.close(file)
 
 
 @contextlib.contextmanager
@@ -139,7 +152,7 @@ def create_totals(library: ctypes.CDLL, path: Path, profile: bytes = b"") -> Bin
 def _unnamed(folder: int) -> int:
     """A file without a name in a folder, as a descriptor."""
     try:
-        return os.open(".", os.O_RDWR | os.O_TMPFILE, 0o600, dir_fd=folder)
+        return off_streams(os.open(".", os.O_RDWR | os.O_TMPFILE, 0o600, dir_fd=folder))
     except OSError as fault:
         if fault.errno != errno.EOPNOTSUPP:
             raise
@@ -201,6 +214,7 @@ def put_new(path: Path, data: bytes) -> None:
         with naming(f"{name}.part"):
             file = os.open(part, os.O_WRONLY | os.O_CREAT | os.O_EXCL | os.O_CLOEXEC, 0o600, dir_fd=folder)
             ends.callback(os.unlink, part, dir_fd=folder)
+            file = off_streams(file)
             try:
                 write_whole(file, data, 0)
                 os.fsync(file)
@@ -213,5 +227,6 @@ def put_new(path: Path, data: bytes) -> None:
 
 
 def _open_at_once(path: str, flags: int) -> int:
-    """Opens a file. One that isn't regular, such as a FIFO that nobody writes, isn't waited for."""
-    return os.open(path, flags | os.O_NONBLOCK)
+    """Opens a file. One that isn't regular, such as a FIFO that nobody writes, isn't waited for. A serial line doesn't
+    become the terminal of this process."""
+    return off_streams(os.open(path, flags | os.O_NONBLOCK | os.O_NOCTTY))

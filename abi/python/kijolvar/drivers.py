@@ -410,8 +410,8 @@ def _told(link: PrinterLink, wire: Wire) -> list[str]:
 class SerialDisplay(Driver):
     """A customer display with CD5220 or ESC/POS. It shows characters: blinking and reverse ones as normal ones.
 
-    A display answers nothing. Over a serial line an order counts as done once its bytes have left this machine; over
-    TCP and /dev/usb/lp0 once the system has taken them. A display that was lost shows all its rows again with the next
+    A display answers nothing. Over a serial line and /dev/usb/lp0 an order counts as done once its bytes have left this
+    machine; over TCP once the system has taken them. A display that was lost shows all its rows again with the next
     order. One with its own power supply may have been off, which nobody can see. So it also gets all its rows with an
     order that changes nothing, and with one after 10 seconds without any.
 
@@ -650,7 +650,10 @@ class _KeyPort(FilePort):
     _way = os.O_RDONLY
 
     def _prepare(self, file: int) -> None:
-        if stat.S_ISCHR(os.fstat(file).st_mode):
+        # A pipe has no keys to keep from other programs.
+        kind = stat.S_IFMT(os.fstat(file).st_mode)
+        if kind != stat.S_IFIFO:
+            self._check_kind(kind)
             with MinorFaults(errno.ENOTTY, errno.EINVAL):
                 fcntl.ioctl(file, _GRAB, 1)
             with MinorFaults():

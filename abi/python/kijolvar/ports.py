@@ -24,6 +24,7 @@ from collections.abc import Iterator, Sequence
 from types import TracebackType
 from typing import Any, Literal, Protocol, Union
 
+from ._files import LAST_STREAM, off_streams
 from ._library import Path
 from ._unique import Unique
 
@@ -35,6 +36,8 @@ _FLOW: Flow = "rts-cts"
 _XON, _XOFF = b"\x11", b"\x13"
 # A parity that is always 0 or 1 (CMSPAR), which `termios` doesn't name.
 _STUCK_PARITY = 0x40000000
+# What is no port, by the types of files.
+_NO_PORTS = {stat.S_IFREG: "a file", stat.S_IFDIR: "a folder", stat.S_IFBLK: "a disk", stat.S_IFIFO: "a pipe"}
 _AT_ONCE = 65_536
 # In how many parts is read what has come.
 _MOST_PARTS = 16
@@ -420,26 +423,8 @@ class Port(Unique):
         """Closes a connection that is being made. It goes on in the process from which this one was forked."""
 
     def _drained(self, end: float) -> bool:
-        """Whether what was written has left this machine before a time."""
+        """Whether what was written has left this machine before a time, as far as the port says that."""
         return True
-
-    def _line_drained(self, end: float) -> bool:
-        """Looks how much waits in a line's driver, in place of waiting for it without an end. A file that was taken for
-        a line may be none."""
-        while self._ends_empty and self._count_unsent():
-            if time.monotonic() >= end:
-                return False
-            rest_beside(0.001)
-        return True
-
-    def _count_unsent(self) -> int:
-        """How many bytes a terminal line hasn't sent yet."""
-        file, found = self.fileno(), bytes(4)
-        try:
-            found = fcntl.ioctl(file, termios.TIOCOUTQ, found)
-        except OSError as fault:
-            self._loses(fault)
-        return int.from_bytes(found, "little")
 
 
 def _wait_beside(seconds: float, file: int | None = None, events: int = 0) -> int:
@@ -546,7 +531,7 @@ class FilePort(Port):
             self._line = SerialPort(self.name, flow=self._flow) if _is_line(self.name) else None
             if self._line is not None:
                 self._line.keeps_faults = self.keeps_faults
-        file = os.open(self.name, self._way | os.O_NONBLOCK | os.O_NOCTTY | os.O_CLOEXEC)
+        file = off_streams(os.open(self.name, self._way | os.O_NONBLOCK | os.O_NOCTTY | os.O_CLOEXEC))
         try:
             self._prepare(file)
             return file
@@ -556,8 +541,7 @@ class FilePort(Port):
 
     def _prepare(self, file: int) -> None:
         """Makes a file that was opened ready."""
-        if stat.S_ISREG(os.fstat(file).st_mode):
-            raise PortError(errno.ENODEV, f"{self.name} is a file and no device")
+        self._check_kind(stat.S_IFMT(os.fstat(file).st_mode))
         # A printer on USB may send packets with nothing in them.
         self._ends_empty = os.isatty(file)
         if self._ends_empty:
@@ -569,6 +553,11 @@ class FilePort(Port):
             except BaseException:
                 _unlock(file)
                 raise
+
+    def _check_kind(self, kind: int) -> None:
+        """Refuses what is no port. Of a pipe this program would read what it writes."""
+        if kind != stat.S_IFCHR:
+            raise PortError(errno.ENODEV, f"{self.name} is {_NO_PORTS.get(kind, 'something else')} and no port")
 
     def _let_go(self, file: int) -> None:
         if os.isatty(file):
@@ -586,7 +575,29 @@ class FilePort(Port):
             termios.tcsetattr(file, termios.TCSANOW, _raw(file))
 
     def _drained(self, end: float) -> bool:
-        return self._line is None or self._line_drained(end)
+        """Looks whether something is left, in place of waiting for it without an end."""
+        while self._is_draining():
+            if time.monotonic() >= end:
+                return False
+            rest_beside(0.001)
+        return True
+
+    def _is_draining(self) -> bool:
+        """Whether something that was written hasn't left this machine yet."""
+        file = self.fileno()
+        try:
+            return _unsent(file) > 0
+        except OSError as fault:
+            # Another device is no line, also if it was taken for one.
+            if fault.errno not in (errno.ENOTTY, errno.EINVAL) or _is_of_handler(fault):
+                self._loses(fault)
+                return False
+        return not self._takes_more()
+
+    def _takes_more(self) -> bool:
+        """Whether the device takes more, or is lost. /dev/usb/lp0 takes bytes at once, and more once those have left
+        this machine. If it is closed before that, they are lost."""
+        return any(flags & ~select.POLLIN for _, flags in self._waits[True].poll(0))
 
 
 class SerialPort(FilePort):
@@ -644,9 +655,6 @@ class SerialPort(FilePort):
         found[2], found[4], found[5] = control, self._speed, self._speed
         termios.tcsetattr(file, termios.TCSANOW, found)
         termios.tcflush(file, termios.TCIOFLUSH)
-
-    def _drained(self, end: float) -> bool:
-        return self._line_drained(end)
 
 
 class TcpPort(Port):
@@ -820,7 +828,10 @@ class _Joining:
         self._ends_at = max(self._ends_at, now + self._seconds * left / self._count)
         self._turn_ends_at = now + (self._ends_at - now) / left
         family, address = self._left.pop(0)
-        self._made = socket.socket(family, socket.SOCK_STREAM | socket.SOCK_NONBLOCK)
+        kind = socket.SOCK_STREAM | socket.SOCK_NONBLOCK
+        self._made = socket.socket(family, kind)
+        if self._made.fileno() <= LAST_STREAM:
+            self._made = socket.socket(family, kind, fileno=off_streams(self._taken().detach()))
         _check(self._made.connect_ex(address), 0, errno.EINPROGRESS)
 
     def _is_made(self, end: float) -> bool:
@@ -831,7 +842,16 @@ class _Joining:
         if not waits.poll(_milliseconds(end - time.monotonic())):
             return False
         _check(self._made.getsockopt(socket.SOL_SOCKET, socket.SO_ERROR), 0)
+        if _is_own(self._made):
+            raise ConnectionRefusedError(errno.ECONNREFUSED, os.strerror(errno.ECONNREFUSED))
         return True
+
+
+def _is_own(made: socket.socket) -> bool:
+    """Whether a connection leads to itself. The system may give it the number of the port, if nobody listens there."""
+    with MinorFaults():
+        return bool(made.getsockname() == made.getpeername())
+    return False
 
 
 def _timed_out() -> TimeoutError:
@@ -886,14 +906,15 @@ def _unsent(file: int) -> int:
 
 
 def _drop_unsent(file: int) -> None:
-    """Drops what a terminal line hasn't sent. Closing it would wait for that, while flow control holds it back."""
+    """Drops what a terminal line hasn't sent. Closing it would wait for that, while flow control holds it back. Of a
+    pseudo terminal, which says that all is sent, it would drop what the program at its other end hasn't read yet."""
     if _unsent(file):
         termios.tcflush(file, termios.TCOFLUSH)
-        # What a driver can't drop goes out.
-        found = termios.tcgetattr(file)
-        found[0] &= ~(termios.IXON | termios.IXOFF)
-        found[2] &= ~termios.CRTSCTS
-        termios.tcsetattr(file, termios.TCSANOW, found)
+    # What a driver can't drop goes out, and so does what is in an adapter alone.
+    found = termios.tcgetattr(file)
+    found[0] &= ~(termios.IXON | termios.IXOFF)
+    found[2] &= ~termios.CRTSCTS
+    termios.tcsetattr(file, termios.TCSANOW, found)
 
 
 def _raw(file: int) -> list[Any]:
