@@ -2,9 +2,13 @@
 use Rattle.std.specs.Prelude.{◌≡◌, ◌++◌, ◌∷◌, ◌-◌, ℕ, List, [], length, true, false, Option, Some, None, Result, Ok}
 use Rattle.std.specs.Prelude.{Err, codes, decimal, if◌then◌else◌, Bool, nat_lt, replicate, slice_set, ⊤, ◌&&◌, ◌+◌}
 use Rattle.std.specs.Prelude.{◌⊎◌}
+use Rattle.std.specs.Int.{to_be_bytes, w32, w64}
 use Rattle.std.specs.declared.alloc.AllocError.{AllocError}
 use Rattle.pos_disk.specs.State.{part, splice}
-use Rattle.pos_image.specs.Layout.{disk_size, is_open}
+use Rattle.pos_dir.specs.Spelling.{spelling}
+use Rattle.pos_image.specs.Layout.{disk_size, is_open, log_place, open_gate, start}
+use Rattle.pos_image.specs.declared.layout.Layout.TheVariants.{Layout1}
+use Rattle.pos_image.specs.declared.slot.Slot.TheVariants.{Second, Third, Fourth}
 use Rattle.pos_survey.specs.Damages.{Breaks}
 use Rattle.pos_survey.specs.Descriptions.{Describes}
 use Rattle.pos_survey.specs.Words.{words_of}
@@ -115,8 +119,8 @@ is_unused bytes at = are_zero (part (at + 1) 8 bytes)
 
 -- the totals never had an image but their first one, and have changes behind that
 abbrev pub has_first_log : List ℕ → Bool
-has_first_log bytes = is_open bytes 16384
-    && (is_unused bytes 32768 && (is_unused bytes 65536 && is_unused bytes 196608))
+has_first_log bytes = is_open bytes (log_place Layout1)
+    && (is_unused bytes (start Second) && (is_unused bytes (start Third) && is_unused bytes (start Fourth)))
 
 -- the image of new totals can be put again: no image is left, and there never was another
 abbrev pub can_be_put : SurveyFault → List ℕ → Bool
@@ -125,7 +129,7 @@ can_be_put other bytes = false
 
 -- the image of new totals: an open gate, the sequence 1, and the body of no files, which has two bytes
 abbrev pub first_image : List ℕ
-first_image = 165 ∷ 0 ∷ 0 ∷ 0 ∷ 0 ∷ 0 ∷ 0 ∷ 0 ∷ 1 ∷ 0 ∷ 0 ∷ 0 ∷ 2 ∷ 0 ∷ 0 ∷ []
+first_image = open_gate ∷ (to_be_bytes w64 1 ++ (to_be_bytes w32 2 ++ spelling []))
 
 -- bytes with that image in the first slot
 abbrev pub with_first_image : List ℕ → List ℕ

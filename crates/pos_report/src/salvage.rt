@@ -230,8 +230,8 @@ fn cut_line(alloc: Global, bytes: &[u8]) -> Result<Vec<u8>, AllocError>
 ///
 /// # Errors
 ///
-/// `Unformatted` if no image is left, nor changes behind the first one, and `NoMemory`. Never `Damaged`: each damage
-/// has an open gate, which is closed.
+/// `Unformatted` if no image is left, also once that of new totals was put again where it can be; and `NoMemory`. Never
+/// `Damaged`: each damage has an open gate, which is closed.
 pub fn salvage_totals(alloc: Global, bytes: &[u8]) -> Result<Salvaged, SurveyFault>
     ensures ok { IfOk result (λ made. IsSalvaged bytes.now made.bytes.items made.lost.items) }
     ensures refused { IfErr result (IsUnsalvaged bytes.now) }
