@@ -38,7 +38,7 @@ EXTENDED = {"ETOT": "Totals", "EPTR": "Printer"}
 # Names with which a summary begins: they keep their capital.
 NAMES = ("Aztec Code", "Codabar", "Code 128", "Code 39", "Code 93", "Data Matrix", "MaxiCode")
 CATEGORIES = {"POSPrinter": "PosPrinter"}
-# The devices of the built profile.
+# The devices of the built-in profile.
 DEVICES = {"CashDrawer": "d1", "Scanner": "s1", "LineDisplay": "p1", "POSPrinter": "r1", "HardTotals": "t1"}
 KINDS = {"number": "Number", "truth": "Truth", "bytes": "Bytes"}
 

@@ -100,7 +100,7 @@ watches() {
   printf '%s: bytes of stack: %s\n' "$1" "$(paste -s -d, "$work/stack")"
 }
 
-# the console's scripts for the built profile
+# the console's scripts for the built-in profile
 scripts=()
 for expected in "$top"/tests/scripts/*.stdout; do
   [ -e "${expected%.stdout}.profile" ] || scripts+=("${expected%.stdout}")

@@ -174,7 +174,7 @@ def try_scripts():
 
 # ---- threads, and tills that are closed
 
-# What is said of the hardware behind the built profile.
+# What is said of the hardware behind the built-in profile.
 HARDWARE = kijolvar.WireSettings(width=48, feed=3, lines=500)
 
 

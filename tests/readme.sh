@@ -4,7 +4,7 @@
 # items of lists. By the word of a block it is
 #   sh       commands, which print what is in the block `text` that follows, or nothing if none does;
 #   session  lines of a script and their answers, as `LINE => ANSWER`. Without a block `toml` before it, it is a run
-#            over the built profile; after one, over that profile and a new totals file;
+#            over the built-in profile; after one, over that profile and a new totals file;
 #   toml     a profile, which the program takes;
 #   python   a part of a program: the parts of a document run one after another, over the library as a shared object;
 #   c        a whole program in C over the library;
@@ -169,7 +169,7 @@ def stands(code, name):
 
 
 def console(script, profile, folder):
-    """What the program prints for a script: over a profile and a new totals file, or over the built profile."""
+    """What the program prints for a script: over a profile and a new totals file, or over the built-in profile."""
     words = []
     if profile is not None:
         with open(os.path.join(folder, "profile.toml"), "w", encoding="utf-8") as file:

@@ -8,7 +8,7 @@
 #   NAME.before   a script that is run before over the same profile and disk, which is then moved to layout 2;
 #   NAME.left     places and the bytes that have to stand there in the end, written likewise.
 # Each runs four times: as a file, and through a pipe that gives the program pieces of 1, 2 and 7 bytes. One without a
-# profile runs once more over the built profile with each optional key, where no ask fails: it has to print the same.
+# profile runs once more over the built-in profile with each optional key, where no ask fails: it has to print the same.
 # Usage: tests/scripts.sh [PROGRAM]. Without a word it takes the program that was built in crates/pos_console/out. Its
 # last line is 'N passed, M failed'; it ends with 0 where none failed.
 set -u
@@ -53,7 +53,7 @@ run_script() {
   fi
 }
 
-# The built profile, with a ring, and with a line that never fails and a recorder round each device.
+# The built-in profile, with a ring, and with a line that never fails and a recorder round each device.
 wrappers='flaky = [1, 0]
 record = true'
 cat > wrapped.profile << EOF

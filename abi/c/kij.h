@@ -184,7 +184,7 @@ enum kij_flags {
  * kij_close. A call that changes the totals returns once the change is synced. In a process that was forked from the
  * till's, such a call writes nothing: KIJ_DISK_FAILED.
  *
- * @param profile the profile's text (TOML, docs/reference/profile.md), which ends in a 0 byte; null is the built
+ * @param profile the profile's text (TOML, docs/reference/profile.md), which ends in a 0 byte; null is the built-in
  *   profile, and an empty text one without devices
  * @param totals  the path of the file of the totals; null with KIJ_EXISTING: the totals are in memory, and end with the
  *   till

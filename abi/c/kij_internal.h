@@ -293,7 +293,7 @@ static inline kij_argument kij_internal_bytes(const void *data, size_t size) {
     return argument;
 }
 
-/* The text by which the library gets a profile: to it an empty one is the built profile, as null is. */
+/* The text by which the library gets a profile: to it an empty one is the built-in profile, as null is. */
 static inline const char *kij_internal_profile(const char *profile) {
     return profile != NULL && *profile == 0 ? "\n" : profile;
 }

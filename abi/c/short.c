@@ -37,7 +37,7 @@ int main(void) {
     wants("the version", kijolvar_version() == KIJOLVAR_VERSION);
     wants("a profile that is none", kijolvar_open((const uint8_t *)"nonsense", 8, &till.at) == KIJOLVAR_BAD_PROFILE);
     wants("no till is written then", till.at == NULL);
-    wants("the built profile", kijolvar_open(NULL, 0, &till.at) == KIJOLVAR_OK);
+    wants("the built-in profile", kijolvar_open(NULL, 0, &till.at) == KIJOLVAR_OK);
     wants("no answer yet", kijolvar_answer(till, &till.at, NULL, 0, &needed) == KIJOLVAR_OK && needed == 0);
     for (size_t room = 0; room < whole; room++) {
         memset(text, 'x', sizeof text);

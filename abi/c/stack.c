@@ -1,6 +1,6 @@
 /* Measures the stack that each export takes, and then runs the same calls on a thread whose stack has 128 KiB. Then it reads
-   a profile that is nested as deep as may be, on a thread with 4 MiB. Usage: stack SCRIPT .., with scripts for the built
-   profile. It prints the bytes of each, and ends with 'enough' if none takes more than README.md says. */
+   a profile that is nested as deep as may be, on a thread with 4 MiB. Usage: stack SCRIPT .., with scripts for the
+   built-in profile. It prints the bytes of each, and ends with 'enough' if none takes more than README.md says. */
 #define _GNU_SOURCE
 #include "kijolvar.h"
 #include <pthread.h>
@@ -150,7 +150,7 @@ static void opens(const char *profile, uint32_t wanted) {
     if (code == KIJOLVAR_OK) MEASURED(CLOSE, (kijolvar_close(till), 0));
 }
 
-/* The built profile, one of many devices, and one that is refused. */
+/* The built-in profile, one of many devices, and one that is refused. */
 static void begins(void) {
     static char profile[8192];
     size_t length = 0;

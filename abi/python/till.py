@@ -28,7 +28,7 @@ def faulty(call, *words):
 
 
 class Till:
-    """A till over a profile's text (an empty one is the built profile) and a file of totals, or totals in memory if
+    """A till over a profile's text (an empty one is the built-in profile) and a file of totals, or totals in memory if
     there is none. A file that isn't formatted opens too: enabling its totals is E_NOHARDWARE. It closes itself at the
     end of a `with`, and the file stays open. Only the thread that made it may use it."""
 

@@ -389,7 +389,7 @@ static void profiles(void) {
     kij_mistake mistake;
     kij_device devices[4];
     size_t count = 0;
-    succeeds("the built profile", kij_profile_mistake(NULL, &mistake));
+    succeeds("the built-in profile", kij_profile_mistake(NULL, &mistake));
     wants("no mistake", mistake.line == 0 && mistake.reason[0] == 0);
     gives("no TOML", KIJ_BAD_PROFILE, kij_profile_mistake("a = 1\n\"\xc3\xa4\" = = 2", &mistake));
     wants("its place", mistake.line == 2 && mistake.column == 7 && memcmp(mistake.reason, "not TOML: ", 10) == 0);

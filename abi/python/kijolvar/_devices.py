@@ -92,7 +92,7 @@ class Order:
     Attributes:
         device: The device's name.
         name: `openDrawer`, `displayTextAt`, `clearText`, `scrollText`, `print` or `cutPaper`.
-        arguments: The order's arguments: numbers, and bytes for texts (abi/README.md, "Devices of one's own").
+        arguments: The order's arguments: numbers, and bytes for texts (abi/README.md, "Your own devices").
     """
 
     device: str

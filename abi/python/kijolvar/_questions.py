@@ -20,7 +20,7 @@ _NO_PATH = frozenset("=[]#\"")
 
 
 def text_of(profile: Profile | None) -> str:
-    """The text of a profile. To the library an empty one is the built profile; here that is None."""
+    """The text of a profile. To the library an empty one is the built-in profile; here that is None."""
     if profile is None:
         return ""
     if isinstance(profile, str):

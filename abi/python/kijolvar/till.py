@@ -522,8 +522,8 @@ def open(profile: Profile | None = None, totals: Path | BinaryIO | None = None, 
 
     Args:
         profile: The text of a profile (docs/reference/profile.md), or the path of a file with it (a pathlib.Path).
-            Without one, it is the built profile: drawer d1, scanner s1, display p1, receipt printer r1 and Hard Totals
-            t1. An empty text is a profile without devices.
+            Without one, it is the built-in profile: drawer d1, scanner s1, display p1, receipt printer r1 and Hard
+            Totals t1. An empty text is a profile without devices.
         totals: The path of a file of totals, which is locked until the till is closed; or a file that open_totals or
             create_totals returned, which stays yours. Without one, the totals are in memory.
         create: Whether the file of totals is created if it is missing. Totals in memory can't be.

@@ -1,4 +1,4 @@
--- Which devices a till's host may have (abi/README.md, "Devices of one's own").
+-- Which devices a till's host may have (abi/README.md, "Your own devices").
 use Rattle.std.specs.Prelude.{◌≡◌, ◌⊎◌, ◌&&◌, ℕ, Bool, List, None, Option, Some, bytes_eq, false, is_some, true}
 use Rattle.std.specs.List.{list_any}
 use Rattle.std.specs.Bool.{MatchBool}

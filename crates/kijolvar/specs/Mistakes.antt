@@ -101,7 +101,7 @@ pub record WritesNoUtf8 (bytes : List ℕ) (at : ℕ) (before after : List ℕ) 
   pub place : at ≡ utf8_valid_len bytes
   pub tells : WritesText (codes "not UTF-8") before after needed bad_text code
 
--- What is told of the bytes of a profile: that none is the built one, why they are refused, or that they aren't.
+-- What is told of the bytes of a profile: that none is the built-in one, why they are refused, or that they aren't.
 abbrev pub AnswersMistake : List ℕ → (at_before at : ℕ) (before after : List ℕ) (needed_before needed code : ℕ)
     → Type 0
 AnswersMistake [] at_before at before after needed_before needed code =

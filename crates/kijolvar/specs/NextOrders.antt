@@ -1,4 +1,4 @@
--- The next order that a till's host gets (abi/README.md, "Devices of one's own" and "Driven devices").
+-- The next order that a till's host gets (abi/README.md, "Your own devices" and "Driven devices").
 use Rattle.std.specs.Prelude.{List, Some, [], drop, false, length, true, ℕ, ◌++◌, ◌<◌, ◌≡◌, ◌≢◌, ◌≤◌, ◌⊎◌}
 use Rattle.pos_service.specs.declared.order.Order.{Order}
 use Rattle.pos_service.specs.declared.peripheral.Peripheral.{Ghosts}

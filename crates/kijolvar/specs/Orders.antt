@@ -1,4 +1,4 @@
--- What a till's host is told of its devices' orders (abi/README.md, "Devices of one's own").
+-- What a till's host is told of its devices' orders (abi/README.md, "Your own devices").
 use Rattle.std.specs.Prelude.{◌≡◌, ◌≤◌, ◌<◌, ◌⊎◌, ◌++◌, ◌∷◌, [], ℕ, List, IfSome, MatchResult, Result, Ok, false, true}
 use Rattle.std.specs.Prelude.{codes, decimal, drop, length, map}
 use Rattle.std.specs.declared.vec.Vec.{Vec}

@@ -8,7 +8,7 @@ use Rattle.pos_profile.specs.declared.profile.ProfileFault.{ProfileFault}
 use Rattle.pos_profile.specs.declared.profile.ProfileFault.TheVariants as refusal
 use Rattle.kijolvar.specs.Codes.{bad_profile, no_memory}
 
--- the profile of these bytes: the built one if there are none, else that of their text
+-- the profile of these bytes: the built-in one if there are none, else that of their text
 abbrev pub GivesProfile : List ℕ → Contents → Type 0
 GivesProfile [] contents = contents ≡ built
 GivesProfile bytes contents = IsUtf8 bytes × FromDocument (parse_document bytes) (Ok contents)

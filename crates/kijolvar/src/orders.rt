@@ -56,7 +56,7 @@ fn line_with(alloc: Global, device: &[u8], word: &str) -> Result<Vec<u8>, AllocE
 }
 
 /// Returns the line of an order for the host: the device's name, the order's word, and its arguments (abi/README.md,
-/// "Devices of one's own").
+/// "Your own devices").
 ///
 /// # Errors
 ///

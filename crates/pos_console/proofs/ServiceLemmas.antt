@@ -37,7 +37,7 @@ served_nothing streams result (same, (reader, writer)) =
       };
     })
 
--- over the built profile and a new disk the program begins at the start
+-- over the built-in profile and a new disk the program begins at the start
 pub serves_built : {D : Type 0} (bound : DiskGhosts D) (contents : Contents) (disk after : D) (streams : Streams)
     (result : Result (Unit {0}) RunFault) → contents ≡ built → bound.honest disk → HasNoFiles (bound.state disk)
     → (bound.state disk).failures ≡ 0 → ProfileLeaves bound contents disk streams result after → Serves streams result

@@ -17,7 +17,7 @@ use Rattle.pos_run.specs.Streams.{Streams}
 use Rattle.pos_run.specs.Transcript.{Session, begun_session}
 use Rattle.pos_run.specs.Runs.{RunsScript, begun_with, device_with, new_totals}
 
--- the devices of the built profile, served by the program's peripherals: a closed drawer, a scanner, a blank display
+-- the devices of the built-in profile, served by the program's peripherals: a closed drawer, a scanner, a blank display
 -- of 2 rows of 4 columns, and a printer of 8 characters a line with 5 lines of paper, which are near their end at 2
 abbrev pub start_devices : List Device
 start_devices =

@@ -1,4 +1,4 @@
-//! Counters over the built profile, and what scripts print over them.
+//! Counters over the built-in profile, and what scripts print over them.
 ghost use Rattle.std.specs.Prelude.{◌≡◌, false, IfOk};
 ghost use Rattle.pos_counter.specs.Counters.{IsCounterSound};
 
@@ -11,7 +11,7 @@ use pos_streams::{MemorySource, WriterSink};
 use std::alloc::Global;
 use std::test::Fail;
 
-/// A counter over a disk and the devices of the built profile, each of them vacant.
+/// A counter over a disk and the devices of the built-in profile, each of them vacant.
 pub fn vacant<D: Disk + Drop, P: Peripheral>(alloc: Global, disk: D) -> Result<Counter<D, P>, Fail>
     ensures { IfOk result (λ counter. IsCounterSound P.Peripheral counter) }
 {

@@ -1,4 +1,4 @@
--- The built profile (docs/reference/profile.md, "The built profile"): a device of each category, and a spare.
+-- The built-in profile (docs/reference/profile.md, "The built-in profile"): a device of each category, and a spare.
 use Rattle.std.specs.Prelude.{List, [], ◌∷◌, map}
 use Rattle.pos_profile.specs.declared.entry.Entry.{Entry}
 use Rattle.pos_profile.specs.Entries.{Contents, entry_with, no_numbers, plain}

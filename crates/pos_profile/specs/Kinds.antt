@@ -1,4 +1,5 @@
--- What a profile says of each category: what a peripheral for an entry has to be, and its device of the built profile.
+-- What a profile says of each category: what a peripheral for an entry has to be, and its device of the built-in
+-- profile.
 use Rattle.std.specs.Prelude.{ℕ, List, [], ◌∷◌, Option, Some, None, codes}
 use Rattle.pos_service.specs.declared.kind.Kind.{Kind}
 use Rattle.pos_service.specs.declared.kind.Kind.TheVariants as kind
@@ -31,8 +32,8 @@ abbrev pub categories_of : Role → List ℕ
 categories_of Device = codes "CashDrawer, Scanner, LineDisplay, POSPrinter or HardTotals"
 categories_of Spare = codes "CashDrawer, Scanner, LineDisplay or POSPrinter"
 
--- the device of a category in the built profile: the cash drawer d1, the scanner s1, the line display p1 of 2 rows of 4
--- columns, the receipt printer r1 of 8 characters a line, with 5 lines of paper, near their end at 2, and the Hard
+-- the device of a category in the built-in profile: the cash drawer d1, the scanner s1, the line display p1 of 2 rows
+-- of 4 columns, the receipt printer r1 of 8 characters a line, with 5 lines of paper, near their end at 2, and the Hard
 -- Totals device t1; names are in bytes
 abbrev pub built_entry : Category → Entry
 built_entry CashDrawer = entry_with CashDrawer (100 ∷ 49 ∷ []) no_numbers plain
@@ -43,6 +44,6 @@ built_entry PosPrinter =
     entry_with PosPrinter (114 ∷ 49 ∷ []) (record no_numbers { chars = 8; lines = 5; near = 2 }) plain
 built_entry HardTotals = entry_with HardTotals (116 ∷ 49 ∷ []) no_numbers plain
 
--- the category of the built profile's spare
+-- the category of the built-in profile's spare
 abbrev pub spare_category : Category
 spare_category = CashDrawer

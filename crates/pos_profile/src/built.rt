@@ -1,4 +1,4 @@
-//! The built profile.
+//! The built-in profile.
 ghost use Rattle.std.specs.Prelude.{◌≡◌, IfOk};
 ghost use Rattle.pos_profile.specs.Built.{built, built_devices, built_spares};
 
@@ -31,9 +31,9 @@ fn make_spares(alloc: Global) -> Result<Vec<Entry>, NoMemory>
 }
 
 impl Profile {
-    /// Returns the built profile: the cash drawer `d1`, the scanner `s1`, the line display `p1` of 2 rows of 4 columns,
-    /// the receipt printer `r1`, the Hard Totals device `t1`, and a spare cash drawer. The printer has 8 characters a
-    /// line and 5 lines of paper, which are near their end at 2.
+    /// Returns the built-in profile: the cash drawer `d1`, the scanner `s1`, the line display `p1` of 2 rows of 4
+    /// columns, the receipt printer `r1`, the Hard Totals device `t1`, and a spare cash drawer. The printer has 8
+    /// characters a line and 5 lines of paper, which are near their end at 2.
     ///
     /// # Errors
     ///

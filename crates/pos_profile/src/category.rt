@@ -51,7 +51,7 @@ pub(crate) fn kind_with(category: Category, entry: &Entry) -> Option<Kind>
     }
 }
 
-/// Returns the device of a category in the built profile.
+/// Returns the device of a category in the built-in profile.
 pub(crate) fn built_device(alloc: Global, category: Category) -> Result<Entry, NoMemory>
     ensures { IfOk result (λ entry. entry ≡ built_entry category) }
 {
@@ -76,5 +76,5 @@ pub(crate) fn built_device(alloc: Global, category: Category) -> Result<Entry, N
     named_entry(alloc, category, name, numbers, PLAIN)
 }
 
-/// The category of the built profile's spare.
+/// The category of the built-in profile's spare.
 pub(crate) const SPARE_CATEGORY: Category = Category::CashDrawer;

@@ -140,7 +140,7 @@ fn optional_keys_are_read(rt: HostRuntime) -> Result<(), Fail> {
     Ok(())
 }
 
-/// The built profile.
+/// The built-in profile.
 const BUILT: &str = "spare=[{category='CashDrawer'}]\ndevice=[{name='d1',category='CashDrawer'},\
     {name='s1',category='Scanner'},{name='p1',category='LineDisplay',rows=2,columns=4},\
     {name='r1',category='POSPrinter',chars=8,lines=5,near=2},{name='t1',category='HardTotals'}]";

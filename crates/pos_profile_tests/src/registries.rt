@@ -6,7 +6,7 @@ use pos_service::{NoMemory, Peripheral, PeripheralBox};
 use pos_sims::PlainDrawer;
 use std::alloc::Global;
 
-/// The registry of the built profile, each device vacant. Where it finds no memory it is made once more.
+/// The registry of the built-in profile, each device vacant. Where it finds no memory it is made once more.
 fn built<P: Peripheral>(alloc: Global) -> Result<Registry<P>, NoMemory>
     ensures { IfOk result (λ registry. IsRegistrySound P.Peripheral registry) }
 {

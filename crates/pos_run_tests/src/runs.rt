@@ -115,7 +115,7 @@ const SCRIPT: &[u8] = b"show d2\nattach r1 1\n\nnew a CashDrawer\r\nget a State"
 
 const TEXT: &[u8] = b"bad device\nrefused InUse\nok\nok 1\n";
 
-/// How a run over the built profile ends.
+/// How a run over the built-in profile ends.
 fn ran(alloc: Global, reader: &mut Pieces, room: &mut Room) -> Result<Result<(), RunFault>, Fail> {
     let profile = Profile::built(alloc)?;
     let disk = new_disk(alloc)?;

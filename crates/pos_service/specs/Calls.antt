@@ -73,7 +73,8 @@ own_row category claim is_enabled takes_memory =
     record { category = Some category; claim = claim; is_enabled = is_enabled; takes_memory = takes_memory }
 
 -- What is known of each call beforehand: the category that has it (none where each has it), what it asks of the claim,
--- whether the device has to be enabled, and whether it may want memory.
+-- whether the device has to be enabled, and whether it may want memory. Whether a call that every category has may want
+-- memory depends on the control: pos_counter says it.
 abbrev pub row_of : Call → CallRow
 row_of (call.Open name) = common_row
 row_of call.Close = common_row
@@ -123,7 +124,7 @@ needs_of c asked = record {
   is_enabled = (row_of asked).is_enabled;
 }
 
--- the calls of a category's own that may want memory
+-- the call is one of the category's own that may want memory
 abbrev pub takes_memory : Call → Bool
 takes_memory asked = (row_of asked).takes_memory
 

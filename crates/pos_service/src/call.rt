@@ -87,7 +87,8 @@ pub struct CallRow {
     pub claim: ClaimNeed,
     /// Whether the device has to be enabled.
     pub is_enabled: bool,
-    /// Whether it may take memory.
+    /// Whether it may take memory. This says no of a call that each category has: for some of them it depends on the
+    /// control, and the layer above says it.
     pub takes_memory: bool,
 }
 

@@ -20,7 +20,7 @@ use std::os::unix::fs::FileExt;
 use std::sync::atomic::{AtomicU64, Ordering};
 use std::time::Duration;
 
-/// The text of the built profile: the drawer `d1`, the scanner `s1`, the display `p1` of 2 rows of 4 columns, the
+/// The text of the built-in profile: the drawer `d1`, the scanner `s1`, the display `p1` of 2 rows of 4 columns, the
 /// printer `r1` of 8 characters a line with 5 lines of paper, the totals `t1`, and a spare drawer.
 pub const BUILT_PROFILE: &str = r#"[[device]]
 name = "d1"
@@ -51,7 +51,7 @@ category = "HardTotals"
 category = "CashDrawer"
 "#;
 
-/// The text by which the library gets a profile: to it an empty one is the built profile.
+/// The text by which the library gets a profile: to it an empty one is the built-in profile.
 pub(crate) fn library_text(profile: &str) -> &str {
     match profile {
         BUILT_PROFILE => "",
@@ -488,8 +488,8 @@ pub struct Till {
 }
 
 impl Till {
-    /// Opens a till over a profile's text (TOML, docs/reference/profile.md; [`BUILT_PROFILE`] is the built one), with
-    /// its totals in memory or in a file. An empty text is a profile without devices.
+    /// Opens a till over a profile's text (TOML, docs/reference/profile.md; [`BUILT_PROFILE`] is the built-in one),
+    /// with its totals in memory or in a file. An empty text is a profile without devices.
     ///
     /// The file is locked until the till is dropped, and a call that changes the totals returns once the change is
     /// synced. A file that isn't formatted opens; enabling its totals is E_NOHARDWARE.
