@@ -20,10 +20,11 @@ abbrev pub hears : Bool → Progress → HostTally → HostTally
 hears is_done progress.HandedOut tally = reported is_done tally
 hears is_done other tally = tally
 
--- orders are settled where the host is so far with the first: a report that is there is forgotten
+-- orders are settled where the host is so far with the first: it is forgotten if it is pending
 abbrev pub forgets : Progress → HostTally → HostTally
-forgets progress.Reported tally = record tally { forgotten = counted tally.forgotten }
-forgets other tally = tally
+forgets progress.Free tally = tally
+forgets progress.Ready tally = tally
+forgets pending tally = record tally { forgotten = counted tally.forgotten }
 
 -- In between, the host was given no order, and reported nothing.
 pub record LeavesHostAlone (old new : HostTally) : Type 0 where

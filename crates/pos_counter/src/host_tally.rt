@@ -4,7 +4,7 @@ ghost use Rattle.pos_counter.specs.HostTallies.{forgets, gives, hears};
 
 use pos_drive::Progress;
 
-/// How often a counter gave its host an order, and heard of one. No count goes beyond the largest u64.
+/// How often a counter gave its host an order, heard of one, and forgot one. No count goes beyond the largest u64.
 #[derive(Clone, Copy)]
 pub(crate) struct HostTally {
     /// How often it gave the host an order.
@@ -13,7 +13,7 @@ pub(crate) struct HostTally {
     pub(crate) done: u64,
     /// How often the host reported that an order isn't done.
     pub(crate) not_done: u64,
-    /// How often orders were settled while such a report, of the first one, was there.
+    /// How often orders were settled while the first one was still pending.
     pub(crate) forgotten: u64,
 }
 
@@ -54,12 +54,16 @@ impl HostTally {
         self
     }
 
-    /// Returns this after orders were settled, where the host is so far with the first. A report that is there counts.
+    /// Returns this after orders were settled, where the host is so far with the first. It counts if one is pending:
+    /// it waits, the host has it, or has reported what became of it.
     pub(crate) fn forget(mut self, progress: Progress) -> HostTally
         ensures { result ≡ forgets progress self }
     {
-        if progress == Progress::Reported {
-            self.forgotten = self.forgotten.saturating_add(1);
+        match progress {
+            Progress::Free | Progress::Ready => {}
+            Progress::Waits | Progress::HandedOut | Progress::Reported => {
+                self.forgotten = self.forgotten.saturating_add(1);
+            }
         }
         self
     }

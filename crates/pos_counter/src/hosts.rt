@@ -67,7 +67,7 @@ impl<D: Disk, P: Awaits> Counter<D, P> {
         slot.peripheral.as_ref()
     }
 
-    /// Forgets each order that is pending, and what the host reported of it. A report of the first one counts.
+    /// Forgets each order that is pending, and what the host reported of it. The first one counts.
     pub fn settle(&mut self)
         requires sound { IsCounterSound P.Peripheral self.old }
         ensures hosts { hosts_in P.Awaits.course self.new

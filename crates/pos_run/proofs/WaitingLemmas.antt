@@ -18,7 +18,8 @@ use Rattle.pos_counter.proofs.ServiceLemmas.{OnlyNow}
 use Rattle.pos_counter.proofs.HostsLemmas.{alone_same}
 use Rattle.pos_counter.proofs.RunLemmas.{run_tally}
 use Rattle.pos_counter.specs.Counters.{IsLeftDuring, RunsFrom, Stays}
-use Rattle.pos_counter.specs.HostTallies.{LeavesHostAlone}
+use Rattle.pos_counter.specs.HostTallies.{LeavesHostAlone, forgets}
+use Rattle.pos_counter.specs.Hosts.{progress_in}
 use Rattle.pos_counter.specs.declared.host_tally.HostTally.{HostTally}
 use Rattle.pos_counter.specs.Leaving.{Leaves, part_of}
 use Rattle.pos_disk.proofs.MomentLemmas.{weaker}
@@ -37,8 +38,9 @@ use Rattle.pos_streams.specs.declared.sink.WriteFault.{WriteFault}
 use Rattle.pos_totals.specs.Views.{TotalsView}
 use Rattle.pos_run.specs.Runs.{StopsAt}
 use Rattle.pos_run.specs.Transcript.{LineBecomes, LinesPrint, Outcome, Transcript}
-use Rattle.pos_run.specs.WaitingLines.{CarriesOn, Cuts, CutsOff, Holds, IsNotHeld, IsReady, LacksMemory, LineLeaves}
-use Rattle.pos_run.specs.WaitingLines.{RunsLines, RunsAndWrites, lines_in, text_of}
+use Rattle.pos_run.specs.WaitingLines.{CarriesEach, CarriesOn, Cuts, CutsOff, Holds, IsNotHeld, LacksMemory}
+use Rattle.pos_run.specs.WaitingLines.{LeavesReady, LeavesOrder, LineLeaves, RunsLines, RunsAndWrites, is_held}
+use Rattle.pos_run.specs.WaitingLines.{lines_in, text_of}
 use Rattle.pos_run.specs.declared.waiting_lines.LineProgress.{LineProgress}
 
 -- lines with one more at their end are some
@@ -94,6 +96,20 @@ alone_join first second = record {
   done = second.done ∙ first.done;
   not_done = second.not_done ∙ first.not_done;
 }
+
+-- no order is forgotten where none is pending
+forgets_none : (far : Progress) (tally : HostTally) → is_held far ≢ true → forgets far tally ≡ tally
+forgets_none progress.Free tally idle = refl
+forgets_none progress.Ready tally idle = refl
+forgets_none progress.Waits tally idle = absurd (idle refl)
+forgets_none progress.HandedOut tally idle = absurd (idle refl)
+forgets_none progress.Reported tally idle = absurd (idle refl)
+
+-- a line that prints that there was no memory forgets no order, if the counter is settled after it
+keeps_order : (far : Progress) {old ran new : HostTally} {text : List ℕ} → LeavesOrder old ran far text
+    → new ≡ forgets far ran → text ≡ codes "memory\n" → new ≡ old
+keeps_order far {ran} (same, unheld) tally memory =
+    tally ∙ forgets_none far ran (λ pends. unheld pends memory) ∙ same
 
 module _ {D P : Type 0} (bound : DiskGhosts D) (peripherals : Ghosts P) where
   keeps_same : (disk : D) → KeepsDisk bound disk disk
@@ -268,7 +284,8 @@ module _ {D P : Type 0} (bound : DiskGhosts D) (peripherals : Ghosts P) where
     pub cuts_failed : (result : Result (Unit {0}) WriteFault)
         → Stops (IsRun bound peripherals) a s lines start now left b → (now.faults ≡ 0) ⊎ (8 ≤ length now.bytes)
         → Writes before after now.bytes result
-        → (cuts : Cuts bound peripherals a s line before after b left) × IsNotHeld far cuts.text
+        → (cuts : Cuts bound peripherals a s line before after b left)
+        × LeavesOrder a.tally b.tally far cuts.text
     cuts_failed result h fails writes =
         let stops : Stops (IsRun bound peripherals) a s (line ∷ []) (given_with [] 0) now left b =
         subst (λ g. Stops (IsRun bound peripherals) a s (line ∷ []) g now left b) empty
@@ -287,7 +304,10 @@ module _ {D P : Type 0} (bound : DiskGhosts D) (peripherals : Ghosts P) where
             kept = run_keeps a b done.steps done.run;
             tally = alone_same (run_tally bound peripherals a b done.steps done.run);
           },
-          λ pends memory. long_text front back long (sym is ∙ memory),
+          (
+            run_tally bound peripherals a b done.steps done.run,
+            λ pends memory. long_text front back long (sym is ∙ memory),
+          ),
         )
 
     module _ (done : Finishes (IsRun bound peripherals) a s lines start now left b) where
@@ -300,7 +320,8 @@ module _ {D P : Type 0} (bound : DiskGhosts D) (peripherals : Ghosts P) where
 
       -- a line whose text was given
       pub tells_given : Appends before after now.bytes → IsNotHeld far now.bytes
-          → (tells : RunsAndWrites bound peripherals a s (line ∷ []) before after b left) × IsNotHeld far tells.text
+          → (tells : RunsAndWrites bound peripherals a s (line ∷ []) before after b left)
+          × LeavesOrder a.tally b.tally far tells.text
       tells_given written not_held = (
         record {
           text = done.text;
@@ -309,12 +330,13 @@ module _ {D P : Type 0} (bound : DiskGhosts D) (peripherals : Ghosts P) where
           kept = run_keeps a b ran.steps ran.run;
           tally = alone_same (run_tally bound peripherals a b ran.steps ran.run);
         },
-        subst (IsNotHeld far) bytes_are not_held,
+        (run_tally bound peripherals a b ran.steps ran.run, subst (IsNotHeld far) bytes_are not_held),
       )
 
       -- a line at whose text a write failed
       pub cuts_given : IsCut before after now.bytes → IsNotHeld far now.bytes
-          → (cuts : Cuts bound peripherals a s line before after b left) × IsNotHeld far cuts.text
+          → (cuts : Cuts bound peripherals a s line before after b left)
+          × LeavesOrder a.tally b.tally far cuts.text
       cuts_given cut not_held = (
         record {
           text = done.text;
@@ -323,7 +345,7 @@ module _ {D P : Type 0} (bound : DiskGhosts D) (peripherals : Ghosts P) where
           kept = run_keeps a b ran.steps ran.run;
           tally = alone_same (run_tally bound peripherals a b ran.steps ran.run);
         },
-        subst (IsNotHeld far) bytes_are not_held,
+        (run_tally bound peripherals a b ran.steps ran.run, subst (IsNotHeld far) bytes_are not_held),
       )
 
       -- a line that found no memory
@@ -348,25 +370,62 @@ module _ {D P : Type 0} (bound : DiskGhosts D) (peripherals : Ghosts P) where
           }
 
   -- what a line leaves, by what became of it
-  pub leaves_as : (course_of : P → Course) (Then : Progress → List ℕ → Type 0) (a b : Counter D P) (s left : Session)
-      (line : List ℕ) (before after : Given) {result known : Result LineProgress WriteFault} → result ≡ known
+  pub leaves_as : (course_of : P → Course) (Then : HostTally → HostTally → Progress → List ℕ → Type 0)
+      (a b : Counter D P) (s left : Session) (line : List ℕ) (before after : Given) {result known : Result LineProgress WriteFault} → result ≡ known
       → LineLeaves bound peripherals course_of Then a s line before after result b left
       → LineLeaves bound peripherals course_of Then a s line before after known b left
   leaves_as course_of Then a b s left line before after is h =
       subst (λ r. LineLeaves bound peripherals course_of Then a s line before after r b left) is h
 
   -- a line after which the counter is settled
-  pub tells_settled : {a b c : Counter D P} {s left : Session} {line : List ℕ} {before after : Given} {far : Progress}
-      (Then : List ℕ → Type 0) → (tells : RunsAndWrites bound peripherals a s (line ∷ []) before after b left)
-      × Then tells.text → Stays peripherals b c → LeavesHostAlone b.tally c.tally → far ≡ progress.Ready
-      → (tells : RunsAndWrites bound peripherals a s (line ∷ []) before after c left) × IsReady far tells.text
-  tells_settled Then (h, then) stays alone ready = (tells_stay h stays alone, ready)
+  pub tells_settled : {a b c : Counter D P} {s left : Session} {line : List ℕ} {before after : Given} (far : Progress)
+      {done : Progress} → (tells : RunsAndWrites bound peripherals a s (line ∷ []) before after b left)
+      × LeavesOrder a.tally b.tally far tells.text → Stays peripherals b c → LeavesHostAlone b.tally c.tally
+      → c.tally ≡ forgets far b.tally → done ≡ progress.Ready
+      → (tells : RunsAndWrites bound peripherals a s (line ∷ []) before after c left)
+      × LeavesReady a.tally c.tally done tells.text
+  tells_settled far (h, leaves) stays alone tally ready =
+      (tells_stay h stays alone, (ready, keeps_order far leaves tally))
 
-  pub cuts_settled : {a b c : Counter D P} {s left : Session} {line : List ℕ} {before after : Given} {far : Progress}
-      (Then : List ℕ → Type 0) → (cuts : Cuts bound peripherals a s line before after b left) × Then cuts.text
-      → Stays peripherals b c → LeavesHostAlone b.tally c.tally → far ≡ progress.Ready
-      → (cuts : Cuts bound peripherals a s line before after c left) × IsReady far cuts.text
-  cuts_settled Then (h, then) stays alone ready = (cuts_stay h stays alone, ready)
+  pub cuts_settled : {a b c : Counter D P} {s left : Session} {line : List ℕ} {before after : Given} (far : Progress)
+      {done : Progress} → (cuts : Cuts bound peripherals a s line before after b left)
+      × LeavesOrder a.tally b.tally far cuts.text → Stays peripherals b c → LeavesHostAlone b.tally c.tally
+      → c.tally ≡ forgets far b.tally → done ≡ progress.Ready
+      → (cuts : Cuts bound peripherals a s line before after c left) × LeavesReady a.tally c.tally done cuts.text
+  cuts_settled far (h, leaves) stays alone tally ready =
+      (cuts_stay h stays alone, (ready, keeps_order far leaves tally))
+
+  -- no line yet, one after another
+  each_none : ((disk : D) → OnlyNow bound disk) → (c : Counter D P) (s : Session) (given : Given)
+      → CarriesEach bound peripherals c s [] given given c s
+  each_none only c s given = (tells_none only c s given, refl, refl)
+
+  -- one line more
+  each_line : ((disk : D) → OnlyNow bound disk) → (lines : List (List ℕ)) {a b c : Counter D P} {s mid left : Session}
+      {line : List ℕ} {before between after : Given} → CarriesEach bound peripherals a s lines before between b mid
+      → (tells : RunsAndWrites bound peripherals b mid (line ∷ []) between after c left)
+      → (tells.text ≡ codes "memory\n" → c.tally ≡ b.tally)
+      → CarriesEach bound peripherals a s (lines ++ line ∷ []) before after c left
+  each_line only [] {c} {left} {after} (none, nothing, same) tells quiet = (
+    c,
+    left,
+    after,
+    tells_join none tells,
+    (λ memory. quiet (sym (ap (λ t. t ++ tells.text) nothing) ∙ memory) ∙ same),
+    each_none only c left after,
+  )
+  each_line only (x ∷ xs) (mid, between, given, first, is_quiet, rest) tells quiet =
+      (mid, between, given, first, is_quiet, each_line only xs rest tells quiet)
+
+  -- no line more
+  each_then : (lines : List (List ℕ)) {a b c : Counter D P} {s mid left : Session} {before between after : Given}
+      → CarriesEach bound peripherals a s lines before between b mid
+      → (tells : RunsAndWrites bound peripherals b mid [] between after c left) → tells.text ≡ []
+      → c.tally ≡ b.tally → CarriesEach bound peripherals a s lines before after c left
+  each_then [] (none, nothing, same) tells empty tally =
+      (tells_join none tells, ap (λ t. t ++ tells.text) nothing ∙ empty, tally ∙ same)
+  each_then (x ∷ xs) (mid, between, given, first, is_quiet, rest) tells empty tally =
+      (mid, between, given, first, is_quiet, each_then xs rest tells empty tally)
 
   module _ {A : Type 0} where
     -- no line yet
@@ -377,42 +436,66 @@ module _ {D P : Type 0} (bound : DiskGhosts D) (peripherals : Ghosts P) where
       carried = [];
       split = refl;
       tells = tells_none only c s given;
+      each = λ some. absurd (some refl);
       unforgotten = λ none some. refl;
     }
 
-    module _ (a b : Counter D P) {c : Counter D P} (s : Session) {mid : Session} (left : Session)
-        {texts : List (Vec ℕ A)} (before : Given) {between : Given} (after : Given) where
+    -- Lines are carried out, one after another, and no order is pending after one.
+    abbrev pub CarriesSo : (P → Course) → Counter D P → Session → (texts left_texts : List (Vec ℕ A))
+        → (before after : Given) → Counter D P → Session → Type 0
+    CarriesSo course_of old session texts left_texts before after new left =
+        (carries : CarriesOn bound peripherals old session texts left_texts before after new left)
+        × CarriesEach bound peripherals old session carries.carried before after new left
+        × (carries.carried ≢ [] → progress_in course_of new ≡ progress.Ready)
+
+    pub carries_begin : ((disk : D) → OnlyNow bound disk) → (course_of : P → Course) (c : Counter D P) (s : Session)
+        (texts : List (Vec ℕ A)) (given : Given) → CarriesSo course_of c s texts texts given given c s
+    carries_begin only course_of c s texts given =
+        (carries_none only c s texts given, each_none only c s given, λ some. absurd (some refl))
+
+    module _ (course_of : P → Course) (a b : Counter D P) {c : Counter D P} (s : Session) {mid : Session}
+        (left : Session) {texts : List (Vec ℕ A)} (before : Given) {between : Given} (after : Given) where
       -- one line more
-      pub carries_line : {text : Vec ℕ A} {rest : List (Vec ℕ A)} {line : List ℕ} → lines_of text.items ≡ line ∷ []
-          → CarriesOn bound peripherals a s texts (text ∷ rest) before between b mid
-          → RunsAndWrites bound peripherals b mid (line ∷ []) between after c left
-          → CarriesOn bound peripherals a s texts rest before after c left
-      carries_line {rest} {line} is h tells = record {
-        carried = h.carried ++ line ∷ [];
-        split = h.split ∙ ap (λ (ls : List (List ℕ)). h.carried ++ (ls ++ lines_in rest)) is
-            ∙ sym (append_assoc h.carried (line ∷ []) (lines_in rest));
-        tells = tells_join h.tells tells;
-        unforgotten = λ none some. absurd (some_carried h.carried line none);
-      }
+      pub carries_line : ((disk : D) → OnlyNow bound disk) → {text : Vec ℕ A} {rest : List (Vec ℕ A)} {line : List ℕ}
+          → lines_of text.items ≡ line ∷ []
+          → CarriesSo course_of a s texts (text ∷ rest) before between b mid
+          → (tells : RunsAndWrites bound peripherals b mid (line ∷ []) between after c left)
+          × LeavesReady b.tally c.tally (progress_in course_of c) tells.text
+          → CarriesSo course_of a s texts rest before after c left
+      carries_line only {rest} {line} is (h, each, ready) (tells, (now_ready, quiet)) =
+          let more = each_line only h.carried each tells quiet in (
+            record {
+              carried = h.carried ++ line ∷ [];
+              split = h.split ∙ ap (λ (ls : List (List ℕ)). h.carried ++ (ls ++ lines_in rest)) is
+                  ∙ sym (append_assoc h.carried (line ∷ []) (lines_in rest));
+              tells = tells_join h.tells tells;
+              each = λ some. more;
+              unforgotten = λ none some. absurd (some_carried h.carried line none);
+            },
+            more,
+            λ some. now_ready,
+          )
 
       -- a line that is held back
       pub carries_held : {left_texts : List (Vec ℕ A)}
-          → CarriesOn bound peripherals a s texts left_texts before between b mid
+          → CarriesSo course_of a s texts left_texts before between b mid
           → Holds bound peripherals b mid between after c left
           → CarriesOn bound peripherals a s texts left_texts before after c left
-      carries_held {left_texts} h held = record {
-        carried = h.carried ++ [];
-        split = h.split ∙ ap (λ (ls : List (List ℕ)). ls ++ lines_in left_texts) (sym (append-nil h.carried));
-        tells = tells_join h.tells (tells_held held);
-        unforgotten = λ none some. held.tally ∙ h.unforgotten (sym (append-nil h.carried) ∙ none) some;
+      carries_held (h, each, ready) held = record {
+        carried = h.carried;
+        split = h.split;
+        tells = subst (λ ls. RunsAndWrites bound peripherals a s ls before after c left) (append-nil h.carried)
+            (tells_join h.tells (tells_held held));
+        each = λ some. each_then h.carried each (tells_held held) refl held.tally;
+        unforgotten = λ none some. held.tally ∙ h.unforgotten none some;
       }
 
       -- a line at which a write failed
       pub cuts_off : {text : Vec ℕ A} {rest : List (Vec ℕ A)} {line : List ℕ} → lines_of text.items ≡ line ∷ []
-          → CarriesOn bound peripherals a s texts (text ∷ rest) before between b mid
+          → CarriesSo course_of a s texts (text ∷ rest) before between b mid
           → Cuts bound peripherals b mid line between after c left
           → CutsOff bound peripherals a s texts rest before after c left
-      cuts_off {rest} {line} is h cuts = record {
+      cuts_off {rest} {line} is (h, each, ready) cuts = record {
         carried = h.carried;
         line = line;
         given = between;
@@ -420,18 +503,22 @@ module _ {D P : Type 0} (bound : DiskGhosts D) (peripherals : Ghosts P) where
         between = mid;
         split = h.split ∙ ap (λ (ls : List (List ℕ)). h.carried ++ (ls ++ lines_in rest)) is;
         tells = h.tells;
+        each = each;
         cuts = cuts;
       }
 
-    -- then the counter stays as it is to the machine
-    pub carries_stay : {a b c : Counter D P} {s left : Session} {texts left_texts : List (Vec ℕ A)}
-        {before after : Given} → CarriesOn bound peripherals a s texts left_texts before after b left
-        → Stays peripherals b c → LeavesHostAlone b.tally c.tally → left_texts ≡ []
+    -- then the counter stays as it is to the machine, and is settled
+    pub carries_stay : ((disk : D) → OnlyNow bound disk) → (course_of : P → Course) {a b c : Counter D P}
+        {s left : Session} {texts left_texts : List (Vec ℕ A)} {before after : Given}
+        → CarriesSo course_of a s texts left_texts before after b left → Stays peripherals b c
+        → LeavesHostAlone b.tally c.tally → c.tally ≡ forgets (progress_in course_of b) b.tally → left_texts ≡ []
         → CarriesOn bound peripherals a s texts left_texts before after c left
-    carries_stay h stays alone none = record {
+    carries_stay only course_of {b} {left} {after} (h, each, ready) stays alone tally none = record {
       carried = h.carried;
       split = h.split;
       tells = tells_stay h.tells stays alone;
+      each = λ some. each_then h.carried each (tells_stay (tells_none only b left after) stays alone) refl
+          (tally ∙ ap (λ far. forgets far b.tally) (ready some));
       unforgotten = λ idle some. absurd (some none);
     }
 

@@ -8,6 +8,7 @@ use Rattle.pos_counter.specs.Hosts.{progress_in}
 use Rattle.pos_counter.specs.Leaving.{Leaves}
 use Rattle.pos_counter.specs.Steps.{Request, Response}
 use Rattle.pos_counter.specs.declared.counter.Counter.{Counter}
+use Rattle.pos_counter.specs.declared.host_tally.HostTally.{HostTally}
 use Rattle.pos_disk.specs.Keeps.{KeepsDisk}
 use Rattle.pos_disk.specs.declared.device.Disk.{Ghosts as DiskGhosts}
 use Rattle.pos_drive.specs.declared.courses.Course.{Course}
@@ -51,9 +52,13 @@ HoldsBy done text held.Printed = IsNotHeld done text
 HoldsBy done text held.Waits = (is_out done ≡ true) × (text ≡ codes "memory\n")
 HoldsBy done text held.NoMemory = (done ≡ progress.Reported) × (text ≡ codes "memory\n")
 
--- no order is pending, whatever a line prints
-abbrev pub IsReady : Progress → List ℕ → Type 0
-IsReady done text = done ≡ progress.Ready
+-- nothing passed between the counter and its host, and a line with this text isn't one of a pending order
+abbrev pub LeavesOrder : (old new : HostTally) → Progress → List ℕ → Type 0
+LeavesOrder old new done text = (new ≡ old) × IsNotHeld done text
+
+-- no order is pending; and if a line prints that there was no memory, none was forgotten
+abbrev pub LeavesReady : (old new : HostTally) → Progress → List ℕ → Type 0
+LeavesReady old new done text = (done ≡ progress.Ready) × (text ≡ codes "memory\n" → new ≡ old)
 
 -- For all that the disk may leave, the machine that a counter stands for, and what the lines have, are as they were: a
 -- run of no step. So a crash at any moment leaves what may be left before.
@@ -108,20 +113,21 @@ pub record Holds {D P : Type 0} (bound : DiskGhosts D) (peripherals : Ghosts P) 
   pub kept : KeepsDisk bound old.totals.disk new.totals.disk
   pub tally : new.tally ≡ old.tally
 
--- What a line leaves, by what becomes of it, with this of its text and of how far the host is after it.
-abbrev pub LineLeaves : {D P : Type 0} → DiskGhosts D → Ghosts P → (P → Course) → (Progress → List ℕ → Type 0)
-    → Counter D P → Session → (line : List ℕ) → (before after : Given) → Result LineProgress WriteFault → Counter D P
-    → Session
-    → Type 0
+-- What a line leaves, by what becomes of it, with this of what passed between the counter and its host, of how far the
+-- host is after it, and of its text.
+abbrev pub LineLeaves : {D P : Type 0} → DiskGhosts D → Ghosts P → (P → Course)
+    → (HostTally → HostTally → Progress → List ℕ → Type 0) → Counter D P → Session → (line : List ℕ)
+    → (before after : Given) → Result LineProgress WriteFault → Counter D P → Session → Type 0
 LineLeaves bound peripherals course_of Then old session line before after (Ok held.Printed) new left =
     (tells : RunsAndWrites bound peripherals old session (line ∷ []) before after new left)
-    × Then (progress_in course_of new) tells.text
+    × Then old.tally new.tally (progress_in course_of new) tells.text
 LineLeaves bound peripherals course_of Then old session line before after (Ok held.Waits) new left =
     Holds bound peripherals old session before after new left × (is_out (progress_in course_of new) ≡ true)
 LineLeaves bound peripherals course_of Then old session line before after (Ok held.NoMemory) new left =
     Holds bound peripherals old session before after new left × (progress_in course_of new ≡ progress.Reported)
 LineLeaves bound peripherals course_of Then old session line before after (Err fault) new left =
-    (cuts : Cuts bound peripherals old session line before after new left) × Then (progress_in course_of new) cuts.text
+    (cuts : Cuts bound peripherals old session line before after new left)
+    × Then old.tally new.tally (progress_in course_of new) cuts.text
 
 -- the lines of texts
 abbrev pub lines_in : {A : Type 0} → List (Vec ℕ A) → List (List ℕ)
@@ -136,14 +142,28 @@ IsLine text = (line : List ℕ) × (lines_of text ≡ line ∷ [])
 abbrev pub IsOneLine : {A : Type 0} → Vec ℕ A → Type 0
 IsOneLine text = IsLine text.items
 
--- From the front on, lines are carried out, and what they print is given, once each. The others are left. A report is
--- forgotten only after a line, or where no line is left.
+-- Lines are carried out one after another. After one that prints that there was no memory, no order was forgotten.
+abbrev pub CarriesEach : {D P : Type 0} → DiskGhosts D → Ghosts P → Counter D P → Session → (lines : List (List ℕ))
+    → (before after : Given) → Counter D P → Session → Type 0
+CarriesEach bound peripherals old session [] before after new left =
+    (tells : RunsAndWrites bound peripherals old session [] before after new left) × (tells.text ≡ [])
+    × (new.tally ≡ old.tally)
+CarriesEach {D} {P} bound peripherals old session (line ∷ lines) before after new left =
+    (mid : Counter D P) × (between : Session) × (given : Given)
+    × (tells : RunsAndWrites bound peripherals old session (line ∷ []) before given mid between)
+    × (tells.text ≡ codes "memory\n" → mid.tally ≡ old.tally)
+    × CarriesEach bound peripherals mid between lines given after new left
+
+-- From the front on, lines are carried out, and what they print is given, once each. The others are left. A pending
+-- order is forgotten only after a line that prints something else than that there was no memory, or where there was no
+-- line.
 pub record CarriesOn {A D P : Type 0} (bound : DiskGhosts D) (peripherals : Ghosts P) (old : Counter D P)
     (session : Session) (texts left_texts : List (Vec ℕ A)) (before after : Given) (new : Counter D P) (left : Session)
     : Type 0 where
   pub carried : List (List ℕ)
   pub split : lines_in texts ≡ carried ++ lines_in left_texts
   pub tells : RunsAndWrites bound peripherals old session carried before after new left
+  pub each : carried ≢ [] → CarriesEach bound peripherals old session carried before after new left
   pub unforgotten : carried ≡ [] → left_texts ≢ [] → new.tally ≡ old.tally
 
 -- From the front on, lines are carried out, and what they print is given, once each. Then one line is carried out, and
@@ -158,6 +178,7 @@ pub record CutsOff {A D P : Type 0} (bound : DiskGhosts D) (peripherals : Ghosts
   pub between : Session
   pub split : lines_in texts ≡ carried ++ line ∷ lines_in left_texts
   pub tells : RunsAndWrites bound peripherals old session carried before given mid between
+  pub each : CarriesEach bound peripherals old session carried before given mid between
   pub cuts : Cuts bound peripherals mid between line given after new left
 
 -- how lines end: if all were carried out, none is left and no order is pending; else some are left, if there were any,

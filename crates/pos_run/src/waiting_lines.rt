@@ -3,7 +3,7 @@ ghost use Rattle.std.specs.Prelude.{◌≡◌, ◌∷◌, [], ℕ, All, List};
 ghost use Rattle.pos_counter.specs.Counters.{IsCounterSound};
 ghost use Rattle.pos_run.specs.LineRuns.{session_of};
 ghost use Rattle.pos_run.specs.Spares.{AreSparesSound};
-ghost use Rattle.pos_run.specs.WaitingLines.{HoldsBy, IsNotHeld, IsOneLine, IsReady, LineLeaves, LinesLeave, is_out, text_of};
+ghost use Rattle.pos_run.specs.WaitingLines.{HoldsBy, IsOneLine, LeavesReady, LeavesOrder, LineLeaves, LinesLeave, is_out, text_of};
 ghost use Rattle.pos_script.specs.Lines.{lines_of};
 
 use crate::given_lines::run_given_lines;
@@ -69,7 +69,7 @@ fn run_held<W: Sink, D: Disk, P: Awaits + Ends>(
     requires sound { IsCounterSound P.Peripheral counter.old }
     requires spares { AreSparesSound P.Peripheral spares.old }
     ensures line { (line_in : List ℕ) → lines_of line.now ≡ line_in ∷ [] →
-        LineLeaves D.Disk P.Peripheral P.Awaits.course IsNotHeld counter.old
+        LineLeaves D.Disk P.Peripheral P.Awaits.course LeavesOrder counter.old
         (session_of P.Peripheral names.old spares.old) line_in (W.given writer.old) (W.given writer.new) result
         counter.new (session_of P.Peripheral names.new spares.new) }
     ensures sound { IsCounterSound P.Peripheral counter.new }
@@ -109,7 +109,7 @@ fn run_settled<W: Sink, D: Disk, P: Awaits + Ends>(
     requires sound { IsCounterSound P.Peripheral counter.old }
     requires spares { AreSparesSound P.Peripheral spares.old }
     ensures line { (line_in : List ℕ) → lines_of line.now ≡ line_in ∷ [] →
-        LineLeaves D.Disk P.Peripheral P.Awaits.course IsReady counter.old
+        LineLeaves D.Disk P.Peripheral P.Awaits.course LeavesReady counter.old
         (session_of P.Peripheral names.old spares.old) line_in (W.given writer.old) (W.given writer.new) result
         counter.new (session_of P.Peripheral names.new spares.new) }
     ensures sound { IsCounterSound P.Peripheral counter.new }
