@@ -6,7 +6,8 @@ use Rattle.std.specs.IoError.{error_kind}
 use Rattle.std.specs.List.{starts_with}
 use Rattle.std.specs.declared.fs.options.OpenOptions.{OpenOptions}
 use Rattle.std.specs.declared.io.Error.{Error}
-use Rattle.std.specs.declared.io.ErrorKind.TheVariants.{NotFound}
+use Rattle.std.specs.declared.io.ErrorKind.{ErrorKind}
+use Rattle.std.specs.declared.io.ErrorKind.TheVariants.{NotFound, PermissionDenied, Unsupported}
 use Rattle.pos_file.specs.Calls.{Call, is_whole, sync_call, write_call}
 use Rattle.pos_file.specs.Disks.{Asks}
 use Rattle.pos_file.specs.declared.block_file.BlockFile.{Ghosts as FileGhosts}
@@ -70,15 +71,52 @@ abbrev pub Follows : (Error → WholeFault) → Type 0 → Type 0 → Result (Un
 Follows report next undone (Ok u) result = next
 Follows report next undone (Err cause) result = (result ≡ Err (report cause)) × undone
 
--- what giving an open file that is whole its name, and taking away the first one, comes to; its folder is synced then
+-- what follows once an open file was to get its name: that is made to stay; or the file beside it is removed
+abbrev pub SettlesNamed : {S F : Type 0} → SystemGhosts S F → FolderGhosts S → S → S → F → List ℕ → List ℕ
+    → Result (Unit {0}) Error → Result (Unit {0}) WholeFault → Type 0
+SettlesNamed system folder them later written part path named result =
+    Follows fault.Link (Settles system them written path result × (later ≡ them)) (Removes folder them later part)
+    named result
+
+-- a second name was refused as it is where a file has one name
+abbrev pub has_one_name : ErrorKind → Bool
+has_one_name PermissionDenied = true
+has_one_name Unsupported = true
+has_one_name other = false
+
+-- what giving an open file that is whole its name, in place of the first one, comes to
+abbrev pub TakesName : {S F : Type 0} → SystemGhosts S F → FolderGhosts S → FileGhosts F → S → S → F → List ℕ → List ℕ
+    → Result (Unit {0}) WholeFault → Type 0
+TakesName {S} system folder below them later written part path result =
+    (taken : Result (Unit {0}) Error) × (named : S)
+    × folder.takes them named (below.calls written) part path taken
+    × SettlesNamed system folder named later written part path taken result
+
+-- what follows once a second name was refused: where a file has one name, it gets that in place of the first
+abbrev pub EndsRefused : {S F : Type 0} → Bool → SystemGhosts S F → FolderGhosts S → FileGhosts F → S → S → F → List ℕ
+    → List ℕ → Error → Result (Unit {0}) WholeFault → Type 0
+EndsRefused true system folder below named later written part path cause result =
+    TakesName system folder below named later written part path result
+EndsRefused false system folder below named later written part path cause result =
+    (result ≡ Err (fault.Link cause)) × Removes folder named later part
+
+-- what follows once an open file that is whole was to get its name as a second one: the first is taken away, and the
+-- folder is synced
+abbrev pub EndsLink : {S F : Type 0} → SystemGhosts S F → FolderGhosts S → FileGhosts F → S → S → F → List ℕ → List ℕ
+    → Result (Unit {0}) Error → Result (Unit {0}) WholeFault → Type 0
+EndsLink system folder below named later written part path (Ok u) result =
+    (removed : Result (Unit {0}) Error) × folder.removes named later part removed
+    × Follows fault.Left (Settles system later written path result) ⊤ removed result
+EndsLink system folder below named later written part path (Err cause) result =
+    EndsRefused (has_one_name (error_kind cause)) system folder below named later written part path cause result
+
+-- what giving an open file that is whole its name, and taking away the first one, comes to
 abbrev pub LinksPart : {S F : Type 0} → SystemGhosts S F → FolderGhosts S → FileGhosts F → S → S → F → List ℕ → List ℕ
     → Result (Unit {0}) WholeFault → Type 0
 LinksPart {S} system folder below them later written part path result =
     (linked : Result (Unit {0}) Error) × (named : S)
     × folder.links them named (below.calls written) part path linked
-    × Follows fault.Link ((removed : Result (Unit {0}) Error) × folder.removes named later part removed
-    × Follows fault.Left (Settles system later written path result) ⊤ removed result)
-    (Removes folder named later part) linked result
+    × EndsLink system folder below named later written part path linked result
 
 -- what comes next, after a step that did what it should; after another one nothing does
 abbrev pub Then : {S : Type 0} → S → S → Result (Unit {0}) WholeFault → Type 0 → Result (Unit {0}) WholeFault → Type 0
@@ -109,13 +147,6 @@ abbrev pub Puts : {S F : Type 0} → SystemGhosts S F → FolderGhosts S → Fil
 Puts system folder below them later path bytes result = LacksMemory them later result
     ⊎ UsesPart system folder below them later (path ++ codes ".part") true bytes
     (λ made written. LinksPart system folder below made later written (path ++ codes ".part") path result) result
-
--- what follows once an open file was to get its name: that is made to stay; or the file beside it is removed
-abbrev pub SettlesNamed : {S F : Type 0} → SystemGhosts S F → FolderGhosts S → S → S → F → List ℕ → List ℕ
-    → Result (Unit {0}) Error → Result (Unit {0}) WholeFault → Type 0
-SettlesNamed system folder them later written part path named result =
-    Follows fault.Link (Settles system them written path result × (later ≡ them)) (Removes folder them later part)
-    named result
 
 -- what putting an open file that is whole in the place of what has its name comes to
 abbrev pub RenamesPart : {S F : Type 0} → SystemGhosts S F → FolderGhosts S → FileGhosts F → S → S → F → List ℕ

@@ -348,10 +348,10 @@ fn hint_of_whole(cause: &WholeFault) -> &'static str {
         WholeFault::NoFile => "give the path of a file, and not of a link to it",
         WholeFault::NoReport => "give the path of a report, or one that is free",
         WholeFault::Unwritten => "check the device, and the space that is free there",
-        WholeFault::Link(_) => {
-            "if a file is there, give another path; `restore` has --replace; the disk must have hard links"
+        WholeFault::Link(_) => "if a file is there, give another path; `restore` has --replace",
+        WholeFault::Aside(_) => {
+            "if a .old file is there: move it away first; the disk must have hard links"
         }
-        WholeFault::Aside(_) => "if a .old file is there: move it away first",
         WholeFault::Rights(_) => "run it as the old file's owner, or as root",
         WholeFault::Left(_) => "remove the .part file",
         WholeFault::Unsynced(_) =>

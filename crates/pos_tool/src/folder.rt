@@ -8,6 +8,7 @@ ghost use Rattle.pos_tool.specs.Texts.{Done, names_in};
 use pos_file::BlockFile;
 use pos_program::{TotalsDisk, close_totals};
 use pos_streams::Sink;
+use std::fs::File;
 use std::os::unix::fs::{MetadataExt, chown};
 use std::rt::Files;
 use std::{fs, io};
@@ -19,6 +20,10 @@ use std::{fs, io};
 pub trait Folder {
     /// What giving a file a second name may answer, and lead to, by the calls that the file was asked before.
     ghost links: { Self → Self → List Call → List ℕ → List ℕ → Done → Type 0 } = { λ _ _ _ _ _ _. ⊤ };
+
+    /// What giving a file a name that isn't in use, in place of its own, may answer, and lead to, by the calls that the
+    /// file was asked before.
+    ghost takes: { Self → Self → List Call → List ℕ → List ℕ → Done → Type 0 } = { λ _ _ _ _ _ _. ⊤ };
 
     /// What giving a file another name may answer, and lead to, by the calls that the file was asked before.
     ghost renames: { Self → Self → List Call → List ℕ → List ℕ → Done → Type 0 } = { λ _ _ _ _ _ _. ⊤ };
@@ -49,6 +54,15 @@ pub trait Folder {
     /// What the system says, also if the name is in use.
     fn link<F: BlockFile>(&mut self, file: &F, from: &str, to: &str) -> io::Result<()>
         ensures { links self.old self.new (F.calls file.now) from.now to.now result };
+
+    /// Gives an open file, which is at a path, a name that isn't in use, in place of its own. It is for file systems on
+    /// which a file has one name. An empty file may have the new one for a moment, and so after a crash.
+    ///
+    /// # Errors
+    ///
+    /// What the system says, also if the name is in use.
+    fn take_name<F: BlockFile>(&mut self, file: &F, from: &str, to: &str) -> io::Result<()>
+        ensures { takes self.old self.new (F.calls file.now) from.now to.now result };
 
     /// Gives an open file, which is at a path, another name, in place of a file that has it.
     ///
@@ -108,6 +122,15 @@ pub trait Folder {
 impl<R: Files + AllocGlobal + Clone + Drop> Folder for R {
     fn link<F: BlockFile>(&mut self, _file: &F, from: &str, to: &str) -> io::Result<()> {
         fs::hard_link(self, from, to)
+    }
+
+    fn take_name<F: BlockFile>(&mut self, _file: &F, from: &str, to: &str) -> io::Result<()> {
+        let _ = File::options().write(true).create_new(true).open(self, to)?;
+        if let Err(cause) = fs::rename(self, from, to) {
+            let _ = fs::remove_file(self, to);
+            return Err(cause);
+        }
+        Ok(())
     }
 
     fn rename<F: BlockFile>(&mut self, _file: &F, from: &str, to: &str) -> io::Result<()> {

@@ -2,7 +2,7 @@
 ghost use Rattle.std.specs.Prelude.{◌≡◌, ◌++◌, IfOk, string_bytes};
 ghost use Rattle.pos_tool.specs.Whole.{ChecksFile, ChecksReport, LinksPart, Puts, PutsInstead, PutsReport};
 ghost use Rattle.pos_tool.specs.Whole.{RenamesPart, Replaces, ReplacesOpen, SetsAside, Settles, SettlesNamed};
-ghost use Rattle.pos_tool.specs.Whole.{WritesPart, WritesWhole, is_report, to_make};
+ghost use Rattle.pos_tool.specs.Whole.{TakesName, WritesPart, WritesWhole, has_one_name, is_report, to_make};
 
 use crate::folder::Folder;
 use pos_file::BlockFile;
@@ -124,7 +124,32 @@ fn settle<S: FileSystem>(system: &S, file: &S::File, path: &str) -> Result<(), W
     }
 }
 
-// Gives an open file that is whole its name, and takes away the one that it was made with.
+// Whether a second name was refused as it is where a file has one name, such as on a FAT stick.
+fn has_one_name(kind: io::ErrorKind) -> bool
+    ensures { result ≡ has_one_name kind }
+{
+    matches!(
+        kind,
+        io::ErrorKind::PermissionDenied | io::ErrorKind::Unsupported
+    )
+}
+
+// Gives an open file that is whole its name, in place of the one that it was made with.
+fn take_name<S: FileSystem + Folder>(
+    system: &mut S,
+    file: &S::File,
+    part: &str,
+    path: &str,
+) -> Result<(), WholeFault>
+    ensures { TakesName S.FileSystem S.Folder ⟦<S::File as BlockFile>⟧ system.old system.new file.now part.now path.now
+        result }
+{
+    let named = system.take_name(file, part, path);
+    settle_named(system, file, named, part, path)
+}
+
+// Gives an open file that is whole its name, and takes away the one that it was made with. Where a file has one name,
+// it gets the new one in place of that.
 fn link_part<S: FileSystem + Folder>(
     system: &mut S,
     file: &S::File,
@@ -134,9 +159,13 @@ fn link_part<S: FileSystem + Folder>(
     ensures { LinksPart S.FileSystem S.Folder ⟦<S::File as BlockFile>⟧ system.old system.new file.now part.now path.now
         result }
 {
-    if let Err(cause) = system.link(file, part, path) {
-        let _ = system.remove(part);
-        return Err(WholeFault::Link(cause));
+    match system.link(file, part, path) {
+        Ok(()) => {}
+        Err(cause) if has_one_name(cause.kind()) => return take_name(system, file, part, path),
+        Err(cause) => {
+            let _ = system.remove(part);
+            return Err(WholeFault::Link(cause));
+        }
     }
     if let Err(cause) = system.remove(part) {
         return Err(WholeFault::Left(cause));
