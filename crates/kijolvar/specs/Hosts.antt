@@ -8,6 +8,7 @@ use Rattle.pos_drive.specs.Courses.{driven_course}
 use Rattle.pos_drive.specs.declared.courses.Course.{Course}
 use Rattle.pos_service.specs.declared.peripheral.Peripheral.{Ghosts}
 use Rattle.pos_counter.specs.Counters.{Stays}
+use Rattle.pos_counter.specs.HostTallies.{drives}
 use Rattle.pos_counter.specs.Hosts.{changed_named, hosts_in, served_named}
 use Rattle.pos_counter.specs.KeptDevices.{slots_in}
 use Rattle.pos_run.specs.declared.wrapped.Wrapped.{Wrapped}
@@ -45,12 +46,12 @@ is_drivable (Some device) = has_steady_line device.driven.twin
 abbrev pub is_drivable_now : TillState → List ℕ → Bool
 is_drivable_now till name = is_drivable (served_named name (slots_in till.counter.devices))
 
--- Each order of the device of this name waits for the host from now on. Nothing else changes.
+-- Each order of the device of this name waits for the host from now on, and that is counted. Nothing else changes.
 pub record IsDriven (hosts : Device → Course) (peripherals : Ghosts Device) (old : TillState) (name : List ℕ) (code : ℕ)
     (new : TillState) : Type 0 where
   pub code_told : code ≡ ok
   pub counter : Stays peripherals old.counter new.counter
-  pub tally : new.counter.tally ≡ old.counter.tally
+  pub tally : new.counter.tally ≡ drives true old.counter.tally
   pub course : hosts_in hosts new.counter ≡ changed_named driven_course name (hosts_in hosts old.counter)
   pub stays : new ≡ record old { counter = new.counter; is_driven = true }
 

@@ -60,11 +60,12 @@ mounts_device entry made device =
     (device.driven.twin ≡ made) × (device.driven.course ≡ Free)
     × IfSome device.order_sender (λ order_sender. order_sender.device.items ≡ entry.name)
 
--- the simulated peripheral was given an order; or there was no memory for its line, and it wasn't
+-- the simulated peripheral was given an order, and isn't driven if it wasn't; or there was no memory for its line, and
+-- it wasn't given any
 abbrev pub AsksTwin : Driven Wrapped → Order → Result Reply NoMemory → Driven Wrapped → Type 0
 AsksTwin old asked outcome new =
     ((twin_state old).is_parked ≡ false → order_fits (twin_state old).kind asked ≡ true
-    → Asked (twin_state old) asked outcome (twin_state new))
+    → Asked (twin_state old) asked outcome (twin_state new) × (old.course ≡ Free → new.course ≡ Free))
     ⊎ MatchResult outcome (λ said. ⊥) (λ want. new ≡ old)
 
 -- the bytes of lines

@@ -65,6 +65,9 @@ impl Peripheral for Device {
             → order_fits (device_state self.old).kind order.now ≡ true
             → device_course self.old ≢ Free → result ≡ Ok Reply.Done
             → device_course self.old ≡ Reported order.now true }
+        ensures stays_free { (device_state self.old).is_parked ≡ false
+            → order_fits (device_state self.old).kind order.now ≡ true
+            → device_course self.old ≡ Free → device_course self.new ≡ Free }
         ensures moves_on { device_course self.old ≢ Free
             → MovesOn (device_course self.old) order.now result (device_course self.new) }
     {

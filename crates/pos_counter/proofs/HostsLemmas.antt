@@ -392,6 +392,7 @@ absent_same change name (host ∷ hosts) none =
 -- nothing does where the tally is what it was
 pub alone_same : {old new : HostTally} → new ≡ old → LeavesHostAlone old new
 alone_same is = record {
+  driven = ap (λ (t : HostTally). t.driven) is;
   given = ap (λ (t : HostTally). t.given) is;
   done = ap (λ (t : HostTally). t.done) is;
   not_done = ap (λ (t : HostTally). t.not_done) is;

@@ -36,7 +36,7 @@ pub record Begins {D P : Type 0} (peripherals : Ghosts P)
         disk = disk;
         totals = record { layout = Layout1; mode = Off; tail = 0; next = 1; area = None; transactions = [] };
       }
-  pub tally : counter.tally ≡ record { given = 0; done = 0; not_done = 0; forgotten = 0 }
+  pub tally : counter.tally ≡ record { driven = 0; given = 0; done = 0; not_done = 0; forgotten = 0 }
 
 -- how many orders each peripheral was given from an old counter to a new one, by the request and its response
 abbrev pub GivesOrders : {D P : Type 0} → Ghosts P → Counter D P → Request → Response → Counter D P → Type 0

@@ -1,12 +1,15 @@
 //! What passes between a counter and its host.
 ghost use Rattle.std.specs.Prelude.{◌≡◌};
-ghost use Rattle.pos_counter.specs.HostTallies.{forgets, gives, hears};
+ghost use Rattle.pos_counter.specs.HostTallies.{drives, forgets, gives, hears};
 
 use pos_drive::Progress;
 
-/// How often a counter gave its host an order, heard of one, and forgot one. No count goes beyond the largest u64.
+/// How often a counter gave a device to its host, gave the host an order, heard of one, and forgot one. No count goes
+/// beyond the largest u64.
 #[derive(Clone, Copy)]
 pub(crate) struct HostTally {
+    /// How often it made a device's orders wait for the host.
+    pub(crate) driven: u64,
     /// How often it gave the host an order.
     pub(crate) given: u64,
     /// How often the host reported that an order is done.
@@ -20,14 +23,25 @@ pub(crate) struct HostTally {
 impl HostTally {
     /// Returns that of a host that had no order.
     pub(crate) fn none() -> HostTally
-        ensures { result ≡ record { given = 0; done = 0; not_done = 0; forgotten = 0 } }
+        ensures { result ≡ record { driven = 0; given = 0; done = 0; not_done = 0; forgotten = 0 } }
     {
         HostTally {
+            driven: 0,
             given: 0,
             done: 0,
             not_done: 0,
             forgotten: 0,
         }
+    }
+
+    /// Returns this after a device's orders were to wait for the host. It counts if there is such a device.
+    pub(crate) fn drive(mut self, is_found: bool) -> HostTally
+        ensures { result ≡ drives is_found self }
+    {
+        if is_found {
+            self.driven = self.driven.saturating_add(1);
+        }
+        self
     }
 
     /// Returns this after an order was handed out to a host that is so far with it. It counts if the order waits.

@@ -6,7 +6,7 @@ ghost use Rattle.pos_drive.specs.declared.courses.Progress.TheVariants as progre
 ghost use Rattle.pos_profile.specs.Registries.{peripheral_at};
 ghost use Rattle.pos_service.specs.Hardware.{StaysInService};
 ghost use Rattle.pos_counter.specs.Counters.{IsCounterSound, Stays};
-ghost use Rattle.pos_counter.specs.HostTallies.{LeavesHostAlone, forgets, gives, hears};
+ghost use Rattle.pos_counter.specs.HostTallies.{LeavesHostAlone, drives, forgets, gives, hears};
 ghost use Rattle.pos_counter.specs.Hosts.{IsFirstPending, IsNamedAt, NonePending, changed_all, changed_at, changed_named, changed_pending, course_after, course_named, has_pending, host_of, hosts_in, hosts_of, pending_of, pending_peripheral, pends_at, progress_handed_out, progress_in, progress_reported, served_named, waiting_in};
 ghost use Rattle.pos_counter.specs.KeptDevices.{AreDevicesSound, devices_in, slots_in};
 
@@ -100,21 +100,22 @@ impl<D: Disk, P: Awaits> Counter<D, P> {
 }
 
 impl<D: Disk, P: Hosted> Counter<D, P> {
-    /// Makes each order of the device of this name wait for the host from now on. It returns false, and nothing
-    /// changes, if no device has the name or it has no peripheral.
+    /// Makes each order of the device of this name wait for the host from now on, and counts it. It returns false, and
+    /// nothing changes, if no device has the name or it has no peripheral.
     pub fn drive(&mut self, device: &[u8]) -> bool
         requires sound { IsCounterSound P.Peripheral self.old }
         ensures found { result ≡ is_some (course_named device.now (hosts_in P.Awaits.course self.old)) }
         ensures unchanged { result ≡ false → self.new ≡ self.old }
         ensures hosts { hosts_in P.Awaits.course self.new
             ≡ changed_named driven_course device.now (hosts_in P.Awaits.course self.old) }
-        ensures tally { self.new.tally ≡ self.old.tally }
+        ensures tally { self.new.tally ≡ drives result self.old.tally }
         ensures stays { Stays P.Peripheral self.old self.new }
         ensures sound { IsCounterSound P.Peripheral self.new }
     {
         match self.devices.find_hosted(device) {
             Some(place) => {
                 self.act_at(place, HostAct::Drive);
+                self.tally = self.tally.drive(true);
                 true
             }
             None => false,

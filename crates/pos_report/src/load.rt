@@ -1,6 +1,6 @@
 //! Totals that are made of a text.
-ghost use Rattle.std.specs.Prelude.{IfOk};
-ghost use Rattle.pos_report.specs.Load.{Dumps, IsLoaded};
+ghost use Rattle.std.specs.Prelude.{◌≡◌, IfOk};
+ghost use Rattle.pos_report.specs.Load.{Dumps, IsLoaded, is_fresh};
 
 use crate::dump::dump_text;
 use pos_dir::{Change, DirectoryFault, Group, LentBytes};
@@ -134,18 +134,35 @@ fn build(alloc: Global, text: &str) -> Result<Vec<u8>, LoadFault> {
     bytes_of(alloc, store.into_disk())
 }
 
-// Whether a dump of totals with these bytes prints a text.
+/// How many bytes a totals file has.
+const LENGTH: usize = 327_680;
+
+// Whether totals are as they are after each file was made by one change: none longer, and no more changes.
+fn is_fresh(bytes: &[u8], survey: &Survey) -> bool
+    ensures { result ≡ is_fresh bytes.now survey.now }
+{
+    let files = survey.directory.len();
+    bytes.len() == LENGTH
+        && survey.records <= files
+        && survey.sequence.saturating_sub(1) <= files as u64
+}
+
+// Whether totals with these bytes are fresh, and a dump of them prints a text.
 fn is_dump(alloc: Global, bytes: &[u8], text: &[u8]) -> Result<bool, LoadFault>
     ensures { IfOk result (λ is. Dumps bytes.now text.now is) }
 {
     match Survey::of(alloc, bytes) {
-        Ok(survey) => Ok(dump_text(alloc, &survey)?.as_slice() == text),
+        Ok(survey) => {
+            let dumped = dump_text(alloc, &survey)?;
+            Ok(is_fresh(bytes, &survey) && dumped.as_slice() == text)
+        }
         Err(SurveyFault::NoMemory) => Err(LoadFault::NoMemory),
         Err(_) => Ok(false),
     }
 }
 
-/// Returns the bytes of sound totals of which a dump prints this very text.
+/// Returns the bytes of sound totals of which a dump prints this very text. They have as many bytes as a totals file,
+/// and each file is made by one change.
 ///
 /// # Errors
 ///

@@ -92,6 +92,7 @@ arrives {D} state old {d} m {n} {k} steps here same run any_moment =
 -- a host is left alone from one moment to the next, and then to another
 alone_join : {a b c : HostTally} → LeavesHostAlone a b → LeavesHostAlone b c → LeavesHostAlone a c
 alone_join first second = record {
+  driven = second.driven ∙ first.driven;
   given = second.given ∙ first.given;
   done = second.done ∙ first.done;
   not_done = second.not_done ∙ first.not_done;

@@ -9,7 +9,7 @@ use Rattle.pos_disk.specs.declared.device.Disk.{Ghosts as DiskGhosts}
 use Rattle.pos_image.specs.Standing.{HasNoFiles}
 use Rattle.pos_profile.specs.Entries.{Contents}
 use Rattle.pos_program.specs.declared.file_system.FileSystem.{Ghosts as SystemGhosts}
-use Rattle.pos_run.specs.Simulations.{IsSimulatedCounter, wrapped_devices}
+use Rattle.pos_run.specs.Simulations.{AreMounted, IsSimulatedCounter, as_it_is, wrapped_devices}
 use Rattle.pos_run.specs.Spares.{spares_in}
 use Rattle.pos_run.specs.Transcript.{LinesPrint, Session, begun_session}
 use Rattle.pos_run.specs.declared.spares.Spares.{Spares}
@@ -20,13 +20,15 @@ use Rattle.pos_shell.specs.declared.trials.Trial.{Trial}
 use Rattle.pos_shell.specs.declared.trials.TrialFault.{TrialFault}
 use Rattle.pos_shell.specs.declared.trials.TrialFault.TheVariants as fault
 
--- A script's lines are answered this by a new counter of a profile, over totals in memory without files.
+-- A script's lines are answered this by a new counter of a profile, over totals in memory without files. The devices and
+-- the spares are in the wrappers that the profile's keys ask for.
 pub record IsAnswered (bound : DiskGhosts Memory) (contents : Contents) (script answers : List ℕ) : Type 0 where
   pub disk : Memory
   pub empty : HasNoFiles (bound.state disk)
   pub counter : Counter Memory Wrapped
   pub spares : Spares Wrapped
   pub simulated : IsSimulatedCounter wrapped_devices contents disk counter spares
+  pub mounted : AreMounted as_it_is contents counter spares
   pub steps : List (Request × Response)
   pub left : Session
   pub end : Counter Memory Wrapped
