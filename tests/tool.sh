@@ -59,7 +59,8 @@ script() {
 hint_words='hint: `kijolvar help` lists the commands'
 hint_path='hint: check the path, who may read and write it, and if its file system is read-only'
 hint_rights="hint: run it as the old file's owner, or as root"
-hint_link='hint: if a file is there, give another path; `restore` has --replace; the disk must have hard links'
+hint_link='hint: if a file is there, give another path; `restore` has --replace'
+hint_aside='hint: if a .old file is there: move it away first; the disk must have hard links'
 hint_create='hint: is it the right file? Restore a copy if it had totals'
 hint_salvage='hint: `kijolvar salvage FILE TO` makes a sound file of what can be had of it'
 no_image='no image is left, so nothing can be salvaged'$'\n''hint: `kijolvar check FILE` says if it was damaged or has no totals; restore a copy, or load a dump'
@@ -468,6 +469,32 @@ told 'backup: it is written, synced, linked, and its folder synced' 'pwrite64 fs
     sed 's/linkat/link/; s/unlinkat/unlink/' | tr '\n' ' ' | sed 's/ $//')"
 told 'backup opens its source to be read alone' 1 "$(grep -c '"till.totals", O_RDONLY' trace)"
 rm -f new
+# As on a FAT stick, where a file has one name: an empty file takes the name first, and is replaced.
+for error in EPERM EOPNOTSUPP; do
+  strace -f -e trace=openat,pwrite64,fsync,rename,renameat,renameat2,unlink,unlinkat,link,linkat \
+    -e inject=link,linkat:error=$error -o trace "$tool" backup till.totals new > out 2> err
+  told "backup where a file has one name ($error): status and messages" '0 ' "$? $(cat out err)"
+  same "backup where a file has one name ($error) copies the bytes" till.totals new
+  told "backup where a file has one name ($error): the name is taken, then the file put there, and its folder synced" \
+    'pwrite64 fsync link openat rename openat fsync' \
+    "$(sed -n '/"new.part"/,$p' trace | tail -n +2 | grep -oE '(openat|pwrite64|fsync|link|rename|unlink)[a-z]*[0-9]*\(' |
+      sed 's/linkat/link/; s/renameat2*/rename/' | tr -d '(' | tr '\n' ' ' | sed 's/ $//')"
+  told "backup where a file has one name ($error) leaves nothing beside it" new "$(ls new*)"
+  rm -f new
+done
+echo kept > new
+strace -f -e inject=link,linkat:error=EPERM -o trace "$tool" backup till.totals new > out 2> err
+told 'backup where a file has one name, which is in use: status' 4 $?
+told 'backup where a file has one name, which is in use: message' \
+  "kijolvar: new: can't be put there: $there"$'\n'"$hint_link" "$(cat err)"
+told 'backup where a file has one name, which is in use, keeps that file' 'kept new' "$(cat new) $(ls new*)"
+rm -f new
+strace -f -e inject=link,linkat:error=EPERM -e inject=rename,renameat,renameat2:error=EIO -o trace \
+  "$tool" backup till.totals new > out 2> err
+told 'backup where a file has one name, and it fails: status' 4 $?
+told 'backup where a file has one name, and it fails: message' \
+  "kijolvar: new: can't be put there: Input/output error (os error 5)"$'\n'"$hint_link" "$(cat err)"
+told 'backup where a file has one name, and it fails, leaves nothing' '' "$(ls new* 2> /dev/null)"
 # Every first reading of two is changed as it arrives: the file seems to change each time.
 strace -o trace -P "$work/till.totals" -e inject=pread64:poke_exit=@arg2=ff:when=1+2 "$tool" backup till.totals new > out 2> err
 told 'backup of a file that changes each time: status' 4 $?
@@ -491,7 +518,7 @@ ends 'restore, replacing' 0 '' '' restore copy.totals other.totals --replace
 same 'restore, replacing, copies the bytes' copy.totals other.totals
 same 'restore, replacing, keeps the old file' other.totals.old kept
 ends 'restore, replacing, where an old file is' 4 \
-  "kijolvar: other.totals: the old file can't be kept beside it, with .old at its end: $there"$'\n''hint: if a .old file is there: move it away first' \
+  "kijolvar: other.totals: the old file can't be kept beside it, with .old at its end: $there"$'\n'"$hint_aside" \
   '' restore copy.totals other.totals --replace
 same 'that old file stays' other.totals.old kept
 told 'restore leaves nothing beside it' '' "$(ls ./*.part 2> /dev/null)"
