@@ -20,8 +20,8 @@ use Rattle.pos_shell.specs.declared.trials.Trial.{Trial}
 use Rattle.pos_shell.specs.declared.trials.TrialFault.{TrialFault}
 use Rattle.pos_shell.specs.declared.trials.TrialFault.TheVariants as fault
 
--- A script's lines are answered this by a new counter of a profile, over totals in memory without files. The devices and
--- the spares are in the wrappers that the profile's keys ask for.
+-- A script's lines are answered this by a new counter of a profile, over totals in memory without files. The devices
+-- and the spares are in the wrappers that the profile's keys ask for.
 pub record IsAnswered (bound : DiskGhosts Memory) (contents : Contents) (script answers : List ℕ) : Type 0 where
   pub disk : Memory
   pub empty : HasNoFiles (bound.state disk)
