@@ -106,7 +106,8 @@ const kij_reason_row kij_internal_reasons[] = {
     {KIJ_NO_CATEGORY, KIJ_VERB_SET, " DeviceEnabled", KIJ_E_FAILURE, 0,
      "The totals can't be recovered."},
     {KIJ_NO_CATEGORY, KIJ_VERB_SET, " PowerNotify", KIJ_E_ILLEGAL, 0,
-     "The value is none, the device is enabled, or it doesn't report its power."},
+     "The value is out of its range, would change while the device is enabled, or is PN_ENABLED and the device "
+     "doesn't report its power."},
     {KIJ_CASH_DRAWER, KIJ_VERB_CALL, " openDrawer", KIJ_E_CLAIMED, 0,
      "Another control has claimed the device."},
     {KIJ_CASH_DRAWER, KIJ_VERB_CALL, " openDrawer", KIJ_E_DISABLED, 0,
@@ -167,7 +168,7 @@ const kij_reason_row kij_internal_reasons[] = {
     {KIJ_LINE_DISPLAY, KIJ_VERB_CALL, " scrollText", KIJ_E_DISABLED, 0,
      "The control is disabled."},
     {KIJ_LINE_DISPLAY, KIJ_VERB_CALL, " scrollText", KIJ_E_ILLEGAL, 0,
-     "The direction is none, or there are more units than rows or columns in that direction."},
+     "The direction or the units are out of their range."},
     {KIJ_LINE_DISPLAY, KIJ_VERB_CALL, " scrollText", KIJ_E_FAILURE, 0,
      "The display didn't answer."},
     {KIJ_LINE_DISPLAY, KIJ_VERB_CALL, " scrollText", KIJ_E_OFFLINE, 0,

@@ -280,7 +280,8 @@ typedef enum kij_property {
      * Of every category: a number, read and written. KIJ_PN_DISABLED, KIJ_PN_ENABLED.
      * Reading: KIJ_E_CLOSED: the control is closed.
      * Writing: KIJ_E_CLOSED: the control is closed.
-     * Writing: KIJ_E_ILLEGAL: the value is none, the device is enabled, or it doesn't report its power.
+     * Writing: KIJ_E_ILLEGAL: the value is out of its range, would change while the device is enabled, or is
+     * KIJ_PN_ENABLED and the device doesn't report its power.
      */
     KIJ_PROP_POWER_NOTIFY = 6,
     /**
@@ -667,7 +668,7 @@ kij_result kij_display_clear_text(kij_control *display);
  * @retval KIJ_E_CLAIMED Another control has claimed the device.
  * @retval KIJ_E_NOTCLAIMED No control has claimed the device.
  * @retval KIJ_E_DISABLED The control is disabled.
- * @retval KIJ_E_ILLEGAL The direction is none, or there are more units than rows or columns in that direction.
+ * @retval KIJ_E_ILLEGAL The direction or the units are out of their range.
  * @retval KIJ_E_FAILURE The display didn't answer.
  * @retval KIJ_E_OFFLINE The display is off.
  * @retval KIJ_NO_MEMORY There was no memory.

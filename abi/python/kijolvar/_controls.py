@@ -150,7 +150,8 @@ class StandardControl(Control):
 
         Raises, when you set it:
             ClosedError: The control is closed.
-            IllegalError: The value is none, the device is enabled, or it doesn't report its power.
+            IllegalError: The value is out of its range, would change while the device is enabled, or is PN_ENABLED and
+                the device doesn't report its power.
 
         UnifiedPOS 1.16, chapter Common Properties, Methods and Events.
         """
@@ -710,7 +711,7 @@ class LineDisplay(StandardControl):
             ClaimedError: Another control has claimed the device.
             NotClaimedError: No control has claimed the device.
             DisabledError: The control is disabled.
-            IllegalError: The direction is none, or there are more units than rows or columns in that direction.
+            IllegalError: The direction or the units are out of their range.
             FailureError: The display didn't answer.
             OfflineError: The display is off.
 

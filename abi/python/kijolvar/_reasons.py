@@ -42,7 +42,9 @@ REASONS: dict[str, dict[str, str]] = {
     },
     "power_notify": {
         "E_CLOSED": "The control is closed.",
-        "E_ILLEGAL": "The value is none, the device is enabled, or it doesn't report its power.",
+        "E_ILLEGAL":
+            "The value is out of its range, would change while the device is enabled, or is PN_ENABLED and the device "
+            "doesn't report its power.",
     },
     "power_state": {
         "E_CLOSED": "The control is closed.",
@@ -125,7 +127,7 @@ REASONS: dict[str, dict[str, str]] = {
         "E_CLAIMED": "Another control has claimed the device.",
         "E_NOTCLAIMED": "No control has claimed the device.",
         "E_DISABLED": "The control is disabled.",
-        "E_ILLEGAL": "The direction is none, or there are more units than rows or columns in that direction.",
+        "E_ILLEGAL": "The direction or the units are out of their range.",
         "E_FAILURE": "The display didn't answer.",
         "E_OFFLINE": "The display is off.",
     },

@@ -232,7 +232,8 @@ impl Control<'_> {
     /// # Errors
     ///
     /// - [`E_CLOSED`](ResultCode::Closed): the control is closed.
-    /// - [`E_ILLEGAL`](ResultCode::Illegal): the value is none, the device is enabled, or it doesn't report its power.
+    /// - [`E_ILLEGAL`](ResultCode::Illegal): the value is out of its range, would change while the device is enabled,
+    ///   or is PN_ENABLED and the device doesn't report its power.
     pub fn set_power_notify(&self, value: PowerNotify) -> Result<(), Error> {
         self.set(Property::PowerNotify, Value::Number(value.number().into()))
     }
@@ -700,8 +701,7 @@ impl<'till> LineDisplay<'till> {
     /// - [`E_CLAIMED`](ResultCode::Claimed): another control has claimed the device.
     /// - [`E_NOTCLAIMED`](ResultCode::NotClaimed): no control has claimed the device.
     /// - [`E_DISABLED`](ResultCode::Disabled): the control is disabled.
-    /// - [`E_ILLEGAL`](ResultCode::Illegal): the direction is none, or there are more units than rows or columns in
-    ///   that direction.
+    /// - [`E_ILLEGAL`](ResultCode::Illegal): the direction or the units are out of their range.
     /// - [`E_FAILURE`](ResultCode::Failure): the display didn't answer.
     /// - [`E_OFFLINE`](ResultCode::Offline): the display is off.
     /// - [`Cause::NoMemory`]: there was no memory.

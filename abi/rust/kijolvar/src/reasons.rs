@@ -25,7 +25,8 @@ const ROWS: [Row; 144] = [
     (None, "set", "DeviceEnabled", "E_FAILURE",
      "The totals can't be recovered."),
     (None, "set", "PowerNotify", "E_ILLEGAL",
-     "The value is none, the device is enabled, or it doesn't report its power."),
+     "The value is out of its range, would change while the device is enabled, or is PN_ENABLED and the device \
+      doesn't report its power."),
     (Some(Category::CashDrawer), "call", "openDrawer", "E_CLAIMED",
      "Another control has claimed the device."),
     (Some(Category::CashDrawer), "call", "openDrawer", "E_DISABLED",
@@ -86,7 +87,7 @@ const ROWS: [Row; 144] = [
     (Some(Category::LineDisplay), "call", "scrollText", "E_DISABLED",
      "The control is disabled."),
     (Some(Category::LineDisplay), "call", "scrollText", "E_ILLEGAL",
-     "The direction is none, or there are more units than rows or columns in that direction."),
+     "The direction or the units are out of their range."),
     (Some(Category::LineDisplay), "call", "scrollText", "E_FAILURE",
      "The display didn't answer."),
     (Some(Category::LineDisplay), "call", "scrollText", "E_OFFLINE",
