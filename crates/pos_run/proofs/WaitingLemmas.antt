@@ -372,7 +372,8 @@ module _ {D P : Type 0} (bound : DiskGhosts D) (peripherals : Ghosts P) where
 
   -- what a line leaves, by what became of it
   pub leaves_as : (course_of : P → Course) (Then : HostTally → HostTally → Progress → List ℕ → Type 0)
-      (a b : Counter D P) (s left : Session) (line : List ℕ) (before after : Given) {result known : Result LineProgress WriteFault} → result ≡ known
+      (a b : Counter D P) (s left : Session) (line : List ℕ) (before after : Given)
+      {result known : Result LineProgress WriteFault} → result ≡ known
       → LineLeaves bound peripherals course_of Then a s line before after result b left
       → LineLeaves bound peripherals course_of Then a s line before after known b left
   leaves_as course_of Then a b s left line before after is h =

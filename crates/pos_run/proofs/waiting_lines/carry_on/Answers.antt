@@ -3,7 +3,8 @@ use Rattle.std.proofs.lemmas.List.Elements.{All-tail}
 use Rattle.pos_drive.specs.declared.courses.Progress.{Progress}
 use Rattle.pos_script.specs.Lines.{lines_of}
 use Rattle.pos_run.proofs.Common.{Ok, ap, session_of, subst, sym, true, ◌∙◌, ◌≡◌}
-use Rattle.pos_run.proofs.WaitingLemmas.{CarriesSo, carries_begin, carries_held, carries_line, carries_none, carries_stay}
+use Rattle.pos_run.proofs.WaitingLemmas.{CarriesSo, carries_begin, carries_held, carries_line, carries_none}
+use Rattle.pos_run.proofs.WaitingLemmas.{carries_stay}
 use Rattle.pos_run.proofs.WaitingLemmas.{cuts_off, first_of, leaves_as, none_left, some_left}
 use Rattle.pos_run.specs.WaitingLines.{IsOneLine, LeavesReady, is_out}
 use Rattle.pos_run.specs.declared.waiting_lines.LineProgress.TheVariants as held
@@ -52,8 +53,8 @@ loop-line-preserved-in-Ok-Printed g c =
     let (line, is) = lines 0 c.in-Some.line.now (omega arith) in
     let told : c.run_settled.result ≡ Ok held.Printed = grind (arith, c.in-Ok-Printed.is, c.in-Ok-Printed.field-0-is) in
     let tells =
-    leaves_as g.D.Disk g.P.Peripheral g.P.Awaits.course LeavesReady c.loop-line.counter c.run_settled.new.counter old new
-    line before after told (c.run_settled.ensures.line line (ap lines_of c.as_slice.ensures.value ∙ is)) in
+    leaves_as g.D.Disk g.P.Peripheral g.P.Awaits.course LeavesReady c.loop-line.counter c.run_settled.new.counter old
+    new line before after told (c.run_settled.ensures.line line (ap lines_of c.as_slice.ensures.value ∙ is)) in
     record {
       carries = carries_line g.D.Disk g.P.Peripheral g.P.Awaits.course c.args.counter.now c.loop-line.counter first new
           (g.W.Sink.given c.args.writer.now) after g.met.D.Disk.only_now is (subst (λ (xs : List (Vec ℕ Global)).
@@ -76,8 +77,8 @@ returns-in-Ok-Waits-clause-carried g c =
     let (line, is) = subst (All IsOneLine) split c.loop-line.invariant.lines 0 c.in-Some.line.now (omega arith) in
     let waits : c.run_settled.result ≡ Ok held.Waits = grind (arith, c.in-Ok-Waits.is, c.in-Ok-Waits.field-0-is) in
     let (holds, out) =
-    leaves_as g.D.Disk g.P.Peripheral g.P.Awaits.course LeavesReady c.loop-line.counter c.run_settled.new.counter old new
-    line before after waits (c.run_settled.ensures.line line (ap lines_of c.as_slice.ensures.value ∙ is)) in (
+    leaves_as g.D.Disk g.P.Peripheral g.P.Awaits.course LeavesReady c.loop-line.counter c.run_settled.new.counter old
+    new line before after waits (c.run_settled.ensures.line line (ap lines_of c.as_slice.ensures.value ∙ is)) in (
       carries_held g.D.Disk g.P.Peripheral g.P.Awaits.course c.args.counter.now c.loop-line.counter first new
           (g.W.Sink.given c.args.writer.now) after c.loop-line.invariant.carries holds,
       (λ none. absurd (some_left split none), out),
@@ -97,8 +98,8 @@ returns-in-Ok-NoMemory-clause-carried g c =
     let wants : c.run_settled.result ≡ Ok held.NoMemory =
     grind (arith, c.in-Ok-NoMemory.is, c.in-Ok-NoMemory.field-0-is) in
     let (holds, reported) =
-    leaves_as g.D.Disk g.P.Peripheral g.P.Awaits.course LeavesReady c.loop-line.counter c.run_settled.new.counter old new
-    line before after wants (c.run_settled.ensures.line line (ap lines_of c.as_slice.ensures.value ∙ is)) in (
+    leaves_as g.D.Disk g.P.Peripheral g.P.Awaits.course LeavesReady c.loop-line.counter c.run_settled.new.counter old
+    new line before after wants (c.run_settled.ensures.line line (ap lines_of c.as_slice.ensures.value ∙ is)) in (
       carries_held g.D.Disk g.P.Peripheral g.P.Awaits.course c.args.counter.now c.loop-line.counter first new
           (g.W.Sink.given c.args.writer.now) after c.loop-line.invariant.carries holds,
       (some_left split, reported),
@@ -116,8 +117,8 @@ returns-in-Err-clause-carried g c =
     (grind (arith, c.in-Some.ensures.variant)) c.in-Some.ensures.lookup c.pop_front-in-Err.ensures.rest in
     let (line, is) = subst (All IsOneLine) split c.loop-line.invariant.lines 0 c.in-Some.line.now (omega arith) in
     let (cuts, (ready, quiet)) =
-    leaves_as g.D.Disk g.P.Peripheral g.P.Awaits.course LeavesReady c.loop-line.counter c.run_settled.new.counter old new
-    line before after c.in-Err.is (c.run_settled.ensures.line line (ap lines_of c.as_slice.ensures.value ∙ is)) in (
+    leaves_as g.D.Disk g.P.Peripheral g.P.Awaits.course LeavesReady c.loop-line.counter c.run_settled.new.counter old
+    new line before after c.in-Err.is (c.run_settled.ensures.line line (ap lines_of c.as_slice.ensures.value ∙ is)) in (
       cuts_off g.D.Disk g.P.Peripheral g.P.Awaits.course c.args.counter.now c.loop-line.counter first new
           (g.W.Sink.given c.args.writer.now) after is (subst (λ (xs : List (Vec ℕ Global)). CarriesSo g.D.Disk
           g.P.Peripheral g.P.Awaits.course c.args.counter.now first c.args.lines.now.items xs
