@@ -114,7 +114,7 @@ enum kij_code {
     KIJ_BAD_ARGUMENT = 34,
     /** The property has another type, or the device another category. */
     KIJ_WRONG_TYPE = 35,
-    /** Another call of the same till is under way. */
+    /** Another call of the same till is under way, as when a driver calls its till. Nothing was done. */
     KIJ_IN_CALL = 36,
     /** The library answered something that this version doesn't know. The call was carried out. */
     KIJ_BAD_ANSWER = 37,
@@ -149,7 +149,9 @@ enum kij_code {
 const char *kij_strerror(kij_result result);
 
 /** Returns what the result of the till's last call means, in English: why that call was refused, if a control refused
- * it. Of any other result, and without a till, it is kij_strerror's text. The text is static. */
+ * it. Of KIJ_E_OFFLINE it says, too, why the port of the device isn't open, if it isn't: "The printer is off: No such
+ * file or directory." Such a text is lent; any other is static. Of any other result, and without a till, it is
+ * kij_strerror's text. */
 const char *kij_reason(const kij_till *till, kij_result result);
 
 /** Returns the name of a result's code, as "E_ILLEGAL" or "KIJ_BAD_PROFILE". KIJ_OK has "E_SUCCESS", and what is no

@@ -4,6 +4,7 @@
 #endif
 #include "kij_internal.h"
 #include <errno.h>
+#include <stdio.h>
 #include <string.h>
 
 /* The row of a property if it has this shape, or null. */
@@ -95,7 +96,8 @@ static const kij_number_row own_codes[] = {
     {KIJ_NO_CATEGORY, KIJ_BAD_ARGUMENT, "KIJ_BAD_ARGUMENT", "An argument can't be passed on to the library."},
     {KIJ_NO_CATEGORY, KIJ_WRONG_TYPE, "KIJ_WRONG_TYPE",
      "The property has another type, or the device another category."},
-    {KIJ_NO_CATEGORY, KIJ_IN_CALL, "KIJ_IN_CALL", "Another call of the same till is under way."},
+    {KIJ_NO_CATEGORY, KIJ_IN_CALL, "KIJ_IN_CALL",
+     "Another call of the same till is under way: wait until it has returned. A driver can't call its till."},
     {KIJ_NO_CATEGORY, KIJ_BAD_ANSWER, "KIJ_BAD_ANSWER",
      "The library answered something that this version doesn't know."},
     {KIJ_NO_CATEGORY, KIJ_DISCARDED, "KIJ_DISCARDED", "The control was given back."},
@@ -175,11 +177,26 @@ static bool are_same(kij_result one, kij_result other) {
     return one.code == other.code && one.extended == other.extended && one.category == other.category;
 }
 
+/* Why a call was refused, by what the code means of it. */
+static const char *static_reason(const kij_refusal *refusal) {
+    for (size_t place = 0; place < kij_internal_reason_count; place++)
+        if (is_reason(&kij_internal_reasons[place], refusal)) return kij_internal_reasons[place].text;
+    return kij_strerror(refusal->result);
+}
+
+void kij_internal_write_reason(kij_refusal *refusal, int why) {
+    const char *said = static_reason(refusal), *words = own_words(why);
+    size_t size = strlen(said);
+    if (words == NULL) return;
+    if (size > 0 && said[size - 1] == '.') size--;
+    snprintf(refusal->text, sizeof refusal->text, "%.*s: %s.", (int)size, said, words);
+}
+
 const char *kij_reason(const kij_till *till, kij_result result) {
-    size_t count = till != NULL && are_same(till->refusal.result, result) ? kij_internal_reason_count : 0;
-    for (const kij_reason_row *row = kij_internal_reasons; row < kij_internal_reasons + count; row++)
-        if (is_reason(row, &till->refusal)) return row->text;
-    return kij_strerror(result);
+    if (till == NULL || !are_same(till->refusal.result, result)) return kij_strerror(result);
+    /* That of an earlier call is there still behind one that wasn't refused. */
+    bool has_text = result.code != KIJ_OK && till->refusal.text[0] != 0;
+    return has_text ? till->refusal.text : static_reason(&till->refusal);
 }
 
 const char *kij_code_name(int code) {

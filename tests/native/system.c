@@ -1104,6 +1104,48 @@ static void try_reasons(void) {
     kij_close(till);
 }
 
+/* Whether a display's text is refused, and for which reason; if it isn't, the reason is that of no refusal. */
+static void shows(const char *name, int code, const char *wanted, kij_till *till, kij_control *display) {
+    kij_result result = kij_display_text(display, "4.50", KIJ_ZERO_ENDED, KIJ_DISP_DT_NORMAL);
+    told(name, code, result.code);
+    gives_reason(name, wanted, till, result);
+}
+
+/* A call that is refused since its device is off says why the port isn't open. Of one that is open, or may be another
+   device's, it says nothing. */
+static void try_offline_reasons(const char *folder) {
+    static const kij_result done = {KIJ_OK, 0, KIJ_LINE_DISPLAY};
+    kij_display_settings settings = KIJ_DISPLAY_SETTINGS;
+    kij_till *till = NULL;
+    kij_control *display = NULL;
+    const char *answer = NULL;
+    char path[4096];
+    settings.pause = 0;
+    snprintf(path, sizeof path, "%s/display-that-comes", folder);
+    told("a till", KIJ_OK, kij_open(NULL, NULL, KIJ_EXISTING, &till).code);
+    told("a display that isn't there", KIJ_OK, kij_serial_display_open(till, "p1", path, &settings).code);
+    told("its control", KIJ_OK, kij_start(till, KIJ_LINE_DISPLAY, "p1", KIJ_CLAIMED, &display).code);
+    shows("a display that isn't there", KIJ_E_OFFLINE, "The display is off: No such file or directory.", till, display);
+    told("a folder in its place", 0, mkdir(path, 0700));
+    told("the folder is no device", KIJ_OK, kij_run_devices(till, 0, NULL).code);
+    shows("a folder in its place", KIJ_E_OFFLINE, "The display is off: Is a directory.", till, display);
+    told("the folder goes", 0, rmdir(path));
+    told("a device in its place", 0, symlink("/dev/null", path));
+    told("the device is found", KIJ_OK, kij_run_devices(till, 0, NULL).code);
+    shows("a device", KIJ_OK, kij_strerror(done), till, display);
+    told("it is switched off", KIJ_OK, kij_input_power(till, "p1", false).code);
+    shows("a device that is off", KIJ_E_OFFLINE, "The display is off.", till, display);
+    kij_close(till);
+    told("no device", 0, unlink(path));
+    told("another till", KIJ_OK, kij_open(NULL, NULL, KIJ_EXISTING, &till).code);
+    told("its display", KIJ_OK, kij_serial_display_open(till, "p1", path, &settings).code);
+    told("its control", KIJ_OK, kij_start(till, KIJ_LINE_DISPLAY, "p1", KIJ_CLAIMED, &display).code);
+    shows("it is missing", KIJ_E_OFFLINE, "The display is off: No such file or directory.", till, display);
+    told("a line that may open a control", KIJ_OK, kij_carry_out(till, "# open k1", 9, &answer).code);
+    shows("nobody knows which display it is", KIJ_E_OFFLINE, "The display is off.", till, display);
+    kij_close(till);
+}
+
 /* A null path stands for memory with KIJ_EXISTING alone. With another flag it is a mistake, as getenv of a variable that
    isn't set. */
 static void try_lost_path(void) {
@@ -1367,6 +1409,7 @@ int main(int count, char **words) {
     try_lost_path();
     try_texts(words[1]);
     try_reasons();
+    try_offline_reasons(words[1]);
     try_totals(path);
     try_link(words[1]);
     snprintf(forked, sizeof forked, "%s/totals-without-room", words[1]);
