@@ -111,7 +111,8 @@ def sale(page):
     """A sale by clicks: two articles, one more by its code, and the payment."""
     told("the till begins", "Good morning.", page.text("#says"))
     page.click(article(1))
-    told("an article is shown on the display", ["Bread           4.50", "Sum             4.50"], page.text("#display").split("\n"))
+    told("an article is shown on the display", ["Bread           4.50", "Sum             4.50"],
+         page.text("#display").split("\n"))
     page.click(article(3))
     page.type("#code", "4002")
     page.click("#scan button")

@@ -367,8 +367,8 @@ try_record() {
 
 # ---- installs
 
-# blocks FILE HEADING KIND: the blocks of a section: `sh` and `text` as they are named, `indented` those that are. Without
-# any it prints what is no command and no text of a block
+# blocks FILE HEADING KIND: the blocks of a section: `sh` and `text` as they are named, `indented` those that are.
+# Without any it prints what is no command and no text of a block
 blocks() {
   awk -v heading="## $2" -v kind="$3" '
     /^## / { inside = $0 == heading }

@@ -89,7 +89,8 @@ def of_property(it):
     values = "" if it["values"] is None else f", {it['values']}"
     is_set = f"set: {range_of(it)}".rstrip(": ") if it["writable"] else ""
     more = [f"{error['code']} ({low(cell(error['when']))})" for error in it["errors"] if error["code"] not in COMMON]
-    sets = [f"{error['code']} ({low(cell(error['when']))})" for error in it["set_errors"] if error["code"] != "E_CLOSED"]
+    sets = [f"{error['code']} ({low(cell(error['when']))})"
+            for error in it["set_errors"] if error["code"] != "E_CLOSED"]
     return [it["name"], kind + values, is_set, cell(" ".join(filter(None, [it["summary"], it["detail"]]))),
             CLAIMS[it["claim"]], "yes" if it["enabled"] else "", "; ".join(more + sets)]
 

@@ -1,8 +1,8 @@
 #!/usr/bin/env python3
 """Writes the tables that documents have from the tree: crates, tests, benches, calls of the library and the like.
 
-A crate's row has the first sentence of its `//!` head and its line of crates.txt, that of a script or of a call the first
-sentence of the comment before it. A table is between two marks.
+A crate's row has the first sentence of its `//!` head and its line of crates.txt, that of a script or of a call the
+first sentence of the comment before it. A table is between two marks.
 
 Usage: tools/lists.py, or with --check to compare only. Its last line is 'N passed, M failed', a table each.
 """
@@ -174,7 +174,8 @@ def count(pattern, root=sources.TOP):
 
 def scripts():
     paths = glob.glob("tests/scripts/*", root_dir=sources.TOP)
-    return f"There are {sum(not re.search(r'[.](stdout|profile|disk|left|before)$', path) for path in paths)} scripts.\n"
+    count = sum(not re.search(r"[.](stdout|profile|disk|left|before)$", path) for path in paths)
+    return f"There are {count} scripts.\n"
 
 
 def edits():

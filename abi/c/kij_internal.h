@@ -276,8 +276,8 @@ bool kij_internal_read_number(char **at, int64_t *number);
 /* Turns so many hex digits into bytes where they stand; `-` is none. */
 bool kij_internal_read_bytes(char *digits, size_t length, size_t *size);
 
-/* kij_properties.c: writes why the control refused the call that is noted, whose device has no open port for this reason
-   (errno). */
+/* kij_properties.c: writes why the control refused the call that is noted, whose device has no open port for this
+   reason (errno). */
 void kij_internal_write_reason(kij_refusal *refusal, int why);
 
 /* Arguments. */
@@ -327,8 +327,8 @@ int kij_internal_sync_first(int file);
 /* Reads a file, as many bytes as totals have: 0 or errno. */
 int kij_internal_read_file(int file, uint8_t *bytes, size_t *size);
 
-/* Makes a file with these bytes, for its owner alone, at a path where nothing is: 0, or errno, or a code of enum kij_code
-   with a minus. It appears whole or not at all. */
+/* Makes a file with these bytes, for its owner alone, at a path where nothing is: 0, or errno, or a code of enum
+   kij_code with a minus. It appears whole or not at all. */
 int kij_internal_put_file(const char *path, const uint8_t *bytes, size_t size);
 
 /* What the library's code means to who opens a file or a till. */

@@ -82,8 +82,8 @@ static const kij_number_row own_codes[] = {
     {KIJ_NO_CATEGORY, KIJ_NO_ANSWER, "KIJ_NO_ANSWER",
      "The call was carried out, but there was no memory for its answer."},
     {KIJ_NO_CATEGORY, KIJ_DISK_FAILED, "KIJ_DISK_FAILED",
-     "The totals file failed: close the till; before you open the file again, read docs/reference/trouble.md, \"After a "
-     "failed sync\"."},
+     "The totals file failed: close the till; before you open the file again, read docs/reference/trouble.md, \"After "
+     "a failed sync\"."},
     {KIJ_NO_CATEGORY, KIJ_TOO_SMALL, "KIJ_TOO_SMALL", "The file is shorter than a disk of totals."},
     {KIJ_NO_CATEGORY, KIJ_NO_DEVICE, "KIJ_NO_DEVICE", "The profile has no device of the name that has orders."},
     {KIJ_NO_CATEGORY, KIJ_UNFORMATTED, "KIJ_UNFORMATTED", "The file isn't formatted: it has no totals."},

@@ -75,8 +75,8 @@ void kij_close(kij_till *till) {
     free_till(till);
 }
 
-/* What a line is to the drivers: its orders are of output that waits. Or, if it is carried out: it attaches something to
-   a device, it gives up what a printer hasn't printed, or it does that if it delivers the event of an output that
+/* What a line is to the drivers: its orders are of output that waits. Or, if it is carried out: it attaches something
+   to a device, it gives up what a printer hasn't printed, or it does that if it delivers the event of an output that
    failed. */
 typedef enum effect { NO_EFFECT, WORKS, ATTACHES, GIVES_UP, MAY_GIVE_UP } effect;
 

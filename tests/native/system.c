@@ -1146,8 +1146,8 @@ static void try_offline_reasons(const char *folder) {
     kij_close(till);
 }
 
-/* A null path stands for memory with KIJ_EXISTING alone. With another flag it is a mistake, as getenv of a variable that
-   isn't set. */
+/* A null path stands for memory with KIJ_EXISTING alone. With another flag it is a mistake, as getenv of a variable
+   that isn't set. */
 static void try_lost_path(void) {
     kij_till *const none = (kij_till *)&failed;
     kij_till *till = none;

@@ -62,8 +62,8 @@
 //! # Later versions
 //!
 //! What may have more variants or fields in a later version is `#[non_exhaustive]`: match it with a `_`. Exhaustive is
-//! what the standard fixes, as [`ErrorReply`](standard::ErrorReply). Settings and a [`Scan`] are made of their defaults:
-//! `EscPosSettings { timeout, ..EscPosSettings::default() }`.
+//! what the standard fixes, as [`ErrorReply`](standard::ErrorReply). Settings and a [`Scan`] are made of their
+//! defaults: `EscPosSettings { timeout, ..EscPosSettings::default() }`.
 
 mod actor;
 mod control;

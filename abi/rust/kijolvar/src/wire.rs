@@ -1,7 +1,7 @@
 //! What a printer sends, as what it means for a device.
 
-/// What the hardware of a device is, as numbers. Only those of the device's kind count. Later versions may have more, so
-/// end with `..WireSettings::default()`.
+/// What the hardware of a device is, as numbers. Only those of the device's kind count. Later versions may have more,
+/// so end with `..WireSettings::default()`.
 #[repr(C)]
 #[derive(Debug, Clone, Copy, PartialEq, Eq)]
 pub struct WireSettings {

@@ -1177,8 +1177,8 @@ fn a_driver_says_whether_its_port_is_open() {
     }
 }
 
-/// What a driver has come by: its till, and controls of it. It drops one and discards the key of another within its next
-/// order.
+/// What a driver has come by: its till, and controls of it. It drops one and discards the key of another within its
+/// next order.
 struct Met {
     till: &'static Till,
     drawer: CashDrawer<'static>,
