@@ -299,8 +299,9 @@ end() {
     done < "$recorded"
   elif [ "$failed" -eq 0 ]; then
     {
-      echo "# How many growths of memory each run has: of a script before its first line, in its lines, and of those that it does"
-      echo "# without; of a command all; of a test all, and those at which it ends. tests/growths.sh -k wrote it."
+      echo "# How many growths of memory each run has: of a script before its first line, in its lines, and of those"
+      echo "# that it does without; of a command all; of a test all, and those at which it ends. tests/growths.sh -k"
+      echo "# wrote it."
       cat found
     } > "$recorded"
   fi

@@ -97,8 +97,8 @@ fitted = set()
 
 
 def ends(words, said=None, folder=None):
-    """How a program ends, and what it prints on standard output and on standard error. One that takes too long is ended,
-    with all that it began: -9."""
+    """How a program ends, and what it prints on standard output and on standard error. One that takes too long is
+    ended, with all that it began: -9."""
     pipe = subprocess.PIPE
     running = subprocess.Popen(words, stdin=None if said is None else pipe, stdout=pipe, stderr=pipe, cwd=folder,
                                text=True, start_new_session=True)

@@ -17,8 +17,9 @@ PAGE = "docs/reference/calls.md"
 DESCRIPTION = "abi/description.json"
 HEAD = """# Every call, property, event and code
 
-Every method, property, event and code of the standard that is there, with arguments and refusals. `tools/calls.py` writes
-this page from [abi/description.json](../../abi/description.json). [model.md](model.md) says what the calls do together.
+Every method, property, event and code of the standard that is there, with arguments and refusals. `tools/calls.py`
+writes this page from [abi/description.json](../../abi/description.json). [model.md](model.md) says what the calls do
+together.
 
 - **Claim**: the call needs the control's own claim, or that no other control has one.
 - **Enabled**: the call needs an enabled device.
