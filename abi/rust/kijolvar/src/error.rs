@@ -230,7 +230,9 @@ impl fmt::Display for Cause {
             Cause::Vacant => "no peripheral is attached to the device",
             Cause::ActorEnded => "the thread of the actor has ended",
             Cause::InsideActor => "work of an actor can't wait for other work of it",
-            Cause::InCall => "a call of the till is under way: a driver can't call its till, so do it behind that call",
+            Cause::InCall => {
+                "a call of the till is under way: a driver can't call its till, so make this one once that has returned"
+            }
         };
         out.write_str(text)
     }

@@ -1226,7 +1226,9 @@ impl Met {
         for (place, error) in refused.into_iter().enumerate() {
             let error = error.unwrap_or_else(|| panic!("{place}"));
             assert!(matches!(error.cause(), Cause::InCall), "{error}");
-            assert!(error.to_string().ends_with("a driver can't call its till, so do it behind that call"), "{error}");
+            assert!(error
+                .to_string()
+                .ends_with(": a driver can't call its till, so make this one once that has returned"));
         }
         assert_eq!((drawer.device().as_deref(), totals.device().as_deref()), (Some("d1"), Some("t1")));
         if let Some((scanner, key)) = self.given_back.take() {
