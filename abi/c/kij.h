@@ -93,7 +93,8 @@ enum kij_code {
     KIJ_DISK_FAILED = 7,
     /** The file is shorter than a disk of totals. */
     KIJ_TOO_SMALL = 9,
-    /** The profile has no device of the name that has orders. */
+    /** The profile has no device of the name that has orders; or the device has no driver, or can't have one, as with
+     * `flaky` in the profile. */
     KIJ_NO_DEVICE = 13,
     /** The file isn't formatted: it has no totals. */
     KIJ_UNFORMATTED = 15,

@@ -85,7 +85,9 @@ static const kij_number_row own_codes[] = {
      "The totals file failed: close the till; before you open the file again, read docs/reference/trouble.md, \"After "
      "a failed sync\"."},
     {KIJ_NO_CATEGORY, KIJ_TOO_SMALL, "KIJ_TOO_SMALL", "The file is shorter than a disk of totals."},
-    {KIJ_NO_CATEGORY, KIJ_NO_DEVICE, "KIJ_NO_DEVICE", "The profile has no device of the name that has orders."},
+    {KIJ_NO_CATEGORY, KIJ_NO_DEVICE, "KIJ_NO_DEVICE",
+     "The profile has no device of the name that has orders; or the device has no driver, or can't have one, as with "
+     "`flaky` in the profile."},
     {KIJ_NO_CATEGORY, KIJ_UNFORMATTED, "KIJ_UNFORMATTED", "The file isn't formatted: it has no totals."},
     {KIJ_NO_CATEGORY, KIJ_DAMAGED, "KIJ_DAMAGED", "The totals in the file are damaged: keep it, and work on a copy."},
     {KIJ_NO_CATEGORY, KIJ_MOVED, "KIJ_MOVED", "The totals in the file have layout 2 already."},

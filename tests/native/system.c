@@ -1026,10 +1026,20 @@ static void says(const char *name, const char *wanted, kij_result result) {
     printf("failed: %s\n  wanted: %s\n  found:  %s\n", name, wanted, kij_strerror(result));
 }
 
+static bool is_refused(void *context, const kij_order *order) {
+    (void)context, (void)order;
+    return false;
+}
+
 /* A text is true of each call that gives its result. */
 static void try_texts(const char *folder) {
     const char *missing = "The file of the totals isn't there. If it was to be created, its folder isn't, or /proc.";
     const char *another = "The property has another type, or the device another category.";
+    const char *undriven = "The profile has no device of the name that has orders; or the device has no driver, or "
+                           "can't have one, as with `flaky` in the profile.";
+    const char *flaky = "[[device]]\nname = \"d1\"\ncategory = \"CashDrawer\"\nflaky = [1, 1]\n";
+    static const kij_driver driver = {KIJ_CASH_DRAWER, is_refused, NULL, NULL, NULL, NULL, NULL, NULL, NULL, NULL, NULL};
+    kij_driver_view view;
     char path[4096];
     kij_till *till = NULL;
     kij_control *drawer = NULL;
@@ -1046,6 +1056,11 @@ static void try_texts(const char *folder) {
     says("a printer is no drawer", another, kij_show_drawer(till, "r1", &is_open));
     told("a control", KIJ_OK, kij_start(till, KIJ_CASH_DRAWER, "d1", KIJ_UNCLAIMED, &drawer).code);
     says("a number is no flag", another, kij_get_bool(drawer, KIJ_PROP_STATE, &is_open));
+    says("a simulated device has no driver", undriven, kij_show_driver(till, "p1", &view));
+    says("no device to host", undriven, kij_host(till, "p9"));
+    kij_close(till);
+    told("a till with a flaky drawer", KIJ_OK, kij_open(flaky, NULL, KIJ_EXISTING, &till).code);
+    says("a flaky drawer has no driver", undriven, kij_driver_open(till, "d1", &driver, NULL));
     kij_close(till);
 }
 
