@@ -1,7 +1,7 @@
 #!/usr/bin/env python3
-"""Writes what the library declares, out of the exports and codes of crates/kijolvar/src, the settings of crates/pos_wire
-and the numbers of crates/pos_service: for C kijolvar.h, for Python the constants alone. typed_c.py and typed_rust.py write
-what is typed for C and Rust.
+"""Writes what the library declares, out of the exports and codes of crates/kijolvar/src, the settings of
+crates/pos_wire and the numbers of crates/pos_service: for C kijolvar.h, for Python the constants alone. typed_c.py and
+typed_rust.py write what is typed for C and Rust.
 
 Usage: abi/declare.py c > abi/kijolvar.h
        abi/declare.py python > abi/python/standard.py
@@ -156,7 +156,8 @@ def codes():
 
 def settings():
     """What a host says of the hardware: what the record is, and its fields, each with what it is."""
-    (source,) = [text for path in sorted(WIRE.glob("*.rt")) if "pub struct WireSettings {" in (text := path.read_text())]
+    texts = [path.read_text() for path in sorted(WIRE.glob("*.rt"))]
+    (source,) = [text for text in texts if "pub struct WireSettings {" in text]
     start = source.index("pub struct WireSettings {")
     fields = re.finditer(r"^    pub (\w+): u32,$", source[start:source.index("\n}", start)], re.M)
     return doc_before(source, start), [(found[1], doc_before(source, start + found.start())) for found in fields]
@@ -172,7 +173,8 @@ def constants(source):
 
 def c(source):
     about, fields = settings()
-    print(f"""/* A till's devices for C: lines in, the text of their answers out. Written by abi/declare.py: don't change it by hand.
+    print(f"""\
+/* A till's devices for C: lines in, the text of their answers out. Written by abi/declare.py: don't change it by hand.
    abi/README.md says how it is used, docs/reference/console.md what the lines are. */
 #ifndef KIJOLVAR_H
 #define KIJOLVAR_H
@@ -190,8 +192,8 @@ extern "C" {{
 /* The least bytes of a file for totals. */
 #define KIJOLVAR_DISK_LENGTH {disk_length()}
 
-/* A till. Each call that is given one hands out what it is from then on, which is to be given to the next call; one at a
-   time. Buffers don't overlap, and one of no bytes may be null. */
+/* A till. Each call that is given one hands out what it is from then on, which is to be given to the next call; one at
+   a time. Buffers don't overlap, and one of no bytes may be null. */
 typedef struct {{
     void *at;
 }} kijolvar_till;

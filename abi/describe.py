@@ -2,7 +2,8 @@
 """Writes abi/description.json: the methods, properties, events, codes and constants, with what they mean.
 
 The words, types, ranges and numbers are read from the definitions under crates/. The meaning is read from
-abi/documentation.toml, and so are the numbers of the types of bar codes, which no definition names. The script fails if something has no entry there, or if an entry there names nothing.
+abi/documentation.toml, and so are the numbers of the types of bar codes, which no definition names. The script fails if
+something has no entry there, or if an entry there names nothing.
 
 Usage: abi/describe.py, or abi/describe.py --check, which compares the file with what would be written.
 """

@@ -16,8 +16,8 @@ extern "C" {
 /* The least bytes of a file for totals. */
 #define KIJOLVAR_DISK_LENGTH 327680
 
-/* A till. Each call that is given one hands out what it is from then on, which is to be given to the next call; one at a
-   time. Buffers don't overlap, and one of no bytes may be null. */
+/* A till. Each call that is given one hands out what it is from then on, which is to be given to the next call; one at
+   a time. Buffers don't overlap, and one of no bytes may be null. */
 typedef struct {
     void *at;
 } kijolvar_till;

@@ -88,9 +88,23 @@ def errors(listed, memory=False):
     return ["", "# Errors", "", *lines] if lines else []
 
 
+def arm(left, right, indent=12):
+    """An arm of a match, in one line if it has room."""
+    front = " " * indent
+    line = f"{front}{left} => {right},\n"
+    return line if len(line) <= WIDTH + 1 else f"{front}{left} => {{\n{front}    {right}\n{front}}}\n"
+
+
 def arms(pairs):
     """The arms of a match within a function."""
-    return "".join(f"            {left} => {right},\n" for left, right in pairs)
+    return "".join(arm(left, right) for left, right in pairs)
+
+
+def fitting(line, parts, end):
+    """What begins with a line, has parts behind it, and ends so: in one line if it has room, else a line for each
+    part."""
+    whole = line + "".join(parts) + end
+    return whole if len(whole) <= WIDTH else line + "".join(f"\n            {part}" for part in parts) + end
 
 
 def lowered(text):
@@ -219,12 +233,12 @@ impl ExtendedCode {{
 {texts("ExtendedCode", members)}"""
 
 
-def words(name, what, members, method):
-    """An enum of words in lines."""
+def words(name, what, members, method, marked=""):
+    """An enum of words in lines. It is marked so if later versions may have more of them."""
     body = "".join(doc([said], 4) + f"    {rust},\n" for rust, _, said in members)
     words_of = arms((f"{name}::{rust}", f'"{word}"') for rust, word, _ in members)
     return f"""{doc([what])}#[derive(Debug, Clone, Copy, PartialEq, Eq, Hash)]
-pub enum {name} {{
+{marked}pub enum {name} {{
 {body}}}
 
 impl {name} {{
@@ -265,7 +279,7 @@ pub(crate) mod library {{
     members = [(category(found["name"]), found["word"], f"{found['summary']} {found['detail']}")
                for found in DESCRIPTION["categories"]]
     out.append(words("Category", "A category of devices.", members,
-                     f"/// Returns the category's name in the standard and in profiles.{word}"))
+                     f"/// Returns the category's name in the standard and in profiles.{word}", "#[non_exhaustive]\n"))
     exclusive = " | ".join(f"Category::{category(found['name'])}"
                            for found in DESCRIPTION["categories"] if found["exclusive"])
     out.append(f"""impl Category {{
@@ -319,6 +333,7 @@ pub enum Property {{"""]
 
 /// The type of a property.
 #[derive(Debug, Clone, Copy, PartialEq, Eq, Hash)]
+#[non_exhaustive]
 pub enum PropertyType {{
     /// A number that isn't negative.
     Number,
@@ -330,6 +345,7 @@ pub enum PropertyType {{
 
 /// A property's value.
 #[derive(Debug, Clone, PartialEq, Eq, Hash)]
+#[non_exhaustive]
 pub enum Value {{
     /// A number.
     Number(u64),
@@ -410,17 +426,22 @@ def method(about):
         said.append(f"- returns `{value['name']}`: {lowered(value['summary'])}")
     lines += ["", *said] if said else []
     lines += errors(about["errors"], about["takes_memory"])
-    given = "".join(f", {argument['name']}: {argument_type(argument)}" for argument in about["arguments"])
+    given = ["&self", *(f"{argument['name']}: {argument_type(argument)}" for argument in about["arguments"])]
     kind, reader = RETURNED[about["returns"]["type"]]
-    word = f".word(\"{about['word']}\")" if about["line"] == "call" else ""
-    line = f"self.line(\"{about['line']}\"){word}" + "".join(argument_word(argument) for argument in about["arguments"])
+    head = f"    pub fn {about['snake']}(" + ", ".join(given) + f") -> Result<{kind}, Error> {{"
+    if len(head) > WIDTH:
+        head = f"    pub fn {about['snake']}(\n" + "".join(f"        {one},\n" for one in given)
+        head += f"    ) -> Result<{kind}, Error> {{"
+    words = [f".word(\"{about['word']}\")"] * (about["line"] == "call")
+    words += [argument_word(argument) for argument in about["arguments"]]
+    line = fitting(f"        let line = self.line(\"{about['line']}\")", words, ";")
     asked = f"self.ask(\"{about['name']}\", &line)?.{reader}()"
     if about["name"] == "open":
         asked = "self.open_on(device, &line)"
     elif about["name"] == "close":
         asked = "self.close_by(&line)"
-    return f"""{doc(lines, 4)}    pub fn {about['snake']}(&self{given}) -> Result<{kind}, Error> {{
-        let line = {line};
+    return f"""{doc(lines, 4)}{head}
+{line}
         {asked}
     }}
 """
@@ -655,7 +676,13 @@ def run_method(about, owner):
     """An arm that makes the call."""
     given = ", ".join(run_word(argument, place) for place, argument in enumerate(about["arguments"]))
     call = f"{SHOWN[about['returns']['type']]}({owner}.{about['snake']}({given}))"
-    return f"        (\"{about['word']}\", {len(about['arguments'])}) => {call},\n"
+    left = f"(\"{about['word']}\", {len(about['arguments'])})"
+    if len(f"            {call}") > WIDTH:
+        call = f"{SHOWN[about['returns']['type']]}({owner}.{about['snake']}(\n"
+        call += "".join(f"                {run_word(argument, place)},\n"
+                        for place, argument in enumerate(about["arguments"])) + "            ))"
+        return f"        {left} => {{\n            {call}\n        }}\n"
+    return arm(left, call, 8)
 
 
 def run_getter(about):

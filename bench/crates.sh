@@ -1,5 +1,6 @@
-# Lays out a crate of a bench, and runs it. A bench in Rattle sources this file; it needs `top`, the top of the tree, and `work`,
-# an empty folder. `--small` as the first word of the bench sets `is_small`: counts are a thousandth, and nothing is proved.
+# Lays out a crate of a bench, and runs it. A bench in Rattle sources this file; it needs `top`, the top of the tree,
+# and `work`, an empty folder. `--small` as the first word of the bench sets `is_small`: counts are a thousandth, and
+# nothing is proved.
 
 is_small=
 if [ "${1:-}" = --small ]; then

@@ -1,8 +1,8 @@
 #!/usr/bin/env bash
 # Runs a line display of 8 rows of 80 columns, and a plain Rust program over a Vec of cells, through the same hundred
 # thousand displayText of 40 characters, three times, and prints the microseconds that each takes; where valgrind is
-# installed also how many instructions each takes for a text. Usage: bench/display.sh [--small]. It needs rt and rustc; a
-# run proves the crates. With --small the counts are a thousandth, and nothing is proved.
+# installed also how many instructions each takes for a text. Usage: bench/display.sh [--small]. It needs rt and rustc;
+# a run proves the crates. With --small the counts are a thousandth, and nothing is proved.
 set -eu
 top=$(cd "$(dirname "$0")/.." && pwd)
 work=$(mktemp -d)

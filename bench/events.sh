@@ -1,7 +1,7 @@
 #!/usr/bin/env bash
 # Runs the queues of events and of output, and a plain Rust program with a VecDeque a kind, through the same work, and
-# prints the microseconds that each takes. Usage: bench/events.sh [--small]. It needs rt and rustc; a run proves the crates.
-# With --small the counts are a thousandth, and nothing is proved.
+# prints the microseconds that each takes. Usage: bench/events.sh [--small]. It needs rt and rustc; a run proves the
+# crates. With --small the counts are a thousandth, and nothing is proved.
 set -eu
 top=$(cd "$(dirname "$0")/.." && pwd)
 work=$(mktemp -d)

@@ -1,10 +1,10 @@
 #!/usr/bin/env bash
-# Durable changes a second over a file: of the program over Hard Totals, one change a commit and ten changes a transaction,
-# beside the bare floor (two writes and two syncs a change from a plain Rust program) and SQLite (WAL, synchronous=FULL, each
-# change a commit). In turns, five rounds, the median of each; the start of a process is left out. Then from start to exit on
-# an empty script.
-# Usage: bench/file.sh [CHANGES [FOLDER [PROGRAM]]]. It needs rustc and python3, and rt where it is given no program; the
-# files are made in FOLDER, which has to be on a real disk: one in memory is refused.
+# Durable changes a second over a file: of the program over Hard Totals, one change a commit and ten changes a
+# transaction, beside the bare floor (two writes and two syncs a change from a plain Rust program) and SQLite (WAL,
+# synchronous=FULL, each change a commit). In turns, five rounds, the median of each; the start of a process is left
+# out. Then from start to exit on an empty script.
+# Usage: bench/file.sh [CHANGES [FOLDER [PROGRAM]]]. It needs rustc and python3, and rt where it is given no program;
+# the files are made in FOLDER, which has to be on a real disk: one in memory is refused.
 set -eu
 top=$(cd "$(dirname "$0")/.." && pwd)
 changes=${1:-2000}
@@ -14,7 +14,10 @@ trap 'rm -rf "$work"' EXIT
 system=$(df --output=fstype "$work" | tail -n 1)
 echo "file system: $system ($(df --output=source "$work" | tail -n 1))"
 case $system in
-  tmpfs | ramfs | devtmpfs) echo "a file system in memory has no durable changes: name a FOLDER on a disk" >&2; exit 2 ;;
+  tmpfs | ramfs | devtmpfs)
+    echo "a file system in memory has no durable changes: name a FOLDER on a disk" >&2
+    exit 2
+    ;;
 esac
 
 rustc -O -o "$work/floor" "$top/bench/floor.rs"
@@ -83,11 +86,14 @@ run_script single && [ "$(grep -c '^ok' "$work/text")" -ge "$changes" ]
 
 median() { sort -g "$work/$1.times" | sed -n 3p; }
 for which in $contenders; do
-  median "$which" | awk -v w="$which" -v n="$changes" '{ printf "%-7s %9.0f changes a second (median of 5)\n", w, n / $1 }'
+  median "$which" |
+    awk -v w="$which" -v n="$changes" '{ printf "%-7s %9.0f changes a second (median of 5)\n", w, n / $1 }'
 done
 awk -v f="$(median floor)" -v s="$(median single)" -v t="$(median tens)" -v q="$(median sqlite)" 'BEGIN {
-  printf "a change takes %.2f times the floor; ten in a transaction %.1f times as many a second as SQLite\n", s / f, q / t
+  printf "a change takes %.2f times the floor; ", s / f
+  printf "ten in a transaction %.1f times as many a second as SQLite\n", q / t
 }'
 for _ in 1 2 3 4 5 6 7 8 9; do
   seconds "$program" run --profile "$work/profile.toml" --disk "$work/disk" < /dev/null
-done | sort -g | sed -n 5p | awk '{ printf "from start to exit on an empty script: %.1f ms (median of 9)\n", 1000 * $1 }'
+done | sort -g | sed -n 5p |
+  awk '{ printf "from start to exit on an empty script: %.1f ms (median of 9)\n", 1000 * $1 }'

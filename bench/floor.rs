@@ -1,6 +1,7 @@
-// The bare floor of bench/file.sh: the two writes and two syncs of so many changes of Hard Totals, and nothing else. Each
-// change goes to the log behind the image: its record without the gate, and the closed gate of the next one behind it, then
-// its gate, with a sync after each. Where the log is at its end it begins again. It prints the seconds that the changes took.
+// The bare floor of bench/file.sh: the two writes and two syncs of so many changes of Hard Totals, and nothing else.
+// Each change goes to the log behind the image: its record without the gate, and the closed gate of the next one behind
+// it, then its gate, with a sync after each. Where the log is at its end it begins again. It prints the seconds that
+// the changes took.
 use std::fs::File;
 use std::os::unix::fs::FileExt;
 use std::time::Instant;

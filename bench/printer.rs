@@ -1,4 +1,5 @@
-//! The same work as that of bench/printer.rt.in, in one pass over each request's bytes, and with a VecDeque of requests.
+//! The same work as that of bench/printer.rt.in, in one pass over each request's bytes, and with a VecDeque of
+//! requests.
 use std::collections::VecDeque;
 use std::hint::black_box;
 use std::time::Instant;
@@ -174,7 +175,8 @@ impl Printer {
 
 /// A text of 4,096 bytes: lines with bold, centred and right parts, carriage returns, and cuts.
 fn text() -> Vec<u8> {
-    let piece: &[u8] = b"\x1b|cA\x1b|bCKIJOLVAR\x1b|N\r\n2 x COFFEE, LARGE\x1b|rA  7.80\n\x1b|NTOTAL   7.80\r\n\x1b|2lF\x1b|50P";
+    let piece: &[u8] = b"\x1b|cA\x1b|bCKIJOLVAR\x1b|N\r\n2 x COFFEE, LARGE\x1b|rA  7.80\n\
+        \x1b|NTOTAL   7.80\r\n\x1b|2lF\x1b|50P";
     piece.iter().copied().cycle().take(4096).collect()
 }
 

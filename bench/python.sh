@@ -1,7 +1,7 @@
 #!/usr/bin/env bash
 # Says what a typed call of the Python package costs beside a bare ctypes call of the same bytes (bench/python.py).
-# Usage: bench/python.sh [--small]. It needs rt, gcc and python3; it builds the library, a shared object. With --small it makes
-# few calls.
+# Usage: bench/python.sh [--small]. It needs rt, gcc and python3; it builds the library, a shared object. With --small
+# it makes few calls.
 set -eu
 top=$(cd "$(dirname "$0")/.." && pwd)
 work=$(mktemp -d)

@@ -1,9 +1,9 @@
 #!/usr/bin/env bash
 # Scrolls a plain line display and one whose rows are a ring, each of 8 rows of 80 columns, by a hundred thousand
-# scrollText of a row, and by as many displayText in the last row, of a line feed alone and of one with eleven characters
-# behind it, and shows as many texts of forty characters, three times, and prints the microseconds that each takes; where
-# valgrind is installed also how many instructions an order takes. Usage: bench/ring.sh [--small]. It needs rt; a run proves
-# the crates. With --small the counts are a thousandth, and nothing is proved.
+# scrollText of a row, and by as many displayText in the last row, of a line feed alone and of one with eleven
+# characters behind it, and shows as many texts of forty characters, three times, and prints the microseconds that each
+# takes; where valgrind is installed also how many instructions an order takes. Usage: bench/ring.sh [--small]. It needs
+# rt; a run proves the crates. With --small the counts are a thousandth, and nothing is proved.
 set -eu
 top=$(cd "$(dirname "$0")/.." && pwd)
 work=$(mktemp -d)

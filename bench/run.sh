@@ -42,7 +42,8 @@ for script in turns events; do
     binary=$work/baseline
     [ "$which" = console ] && binary=$program
     best=$(for _ in 1 2 3 4 5; do seconds "$binary" "$work/$script" "$work/$which.$script"; done | sort -g | head -1)
-    awk -v w="$which" -v s="$script" -v n="$count" -v t="$best" 'BEGIN { printf "%-8s %-8s %8d lines %8.3f s %12.0f lines a second\n", s, w, n, t, n / t }'
+    awk -v w="$which" -v s="$script" -v n="$count" -v t="$best" \
+      'BEGIN { printf "%-8s %-8s %8d lines %8.3f s %12.0f lines a second\n", s, w, n, t, n / t }'
   done
   cmp "$work/baseline.$script" "$work/console.$script"
 done

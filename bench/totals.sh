@@ -35,20 +35,23 @@ script "$writes" > "$work/script"
 count=$(wc -l < "$work/script")
 for which in plain console; do
   best=$(for _ in 1 2 3 4 5; do seconds "$work/$which" "$work/script" "$work/$which.text"; done | sort -g | head -1)
-  awk -v w="$which" -v n="$count" -v t="$best" 'BEGIN { printf "%-8s %8d lines %8.3f s %12.0f lines a second\n", w, n, t, n / t }'
+  awk -v w="$which" -v n="$count" -v t="$best" \
+    'BEGIN { printf "%-8s %8d lines %8.3f s %12.0f lines a second\n", w, n, t, n / t }'
 done
 cmp "$work/plain.text" "$work/console.text"
 
 # instructions of a run over a script with so many writes
 instructions() {
   script "$2" > "$work/short"
-  valgrind --tool=callgrind --callgrind-out-file=/dev/null "$1" < "$work/short" 2>&1 > /dev/null | awk '/refs:/ { gsub(",", ""); print $NF }'
+  valgrind --tool=callgrind --callgrind-out-file=/dev/null "$1" < "$work/short" 2>&1 > /dev/null |
+    awk '/refs:/ { gsub(",", ""); print $NF }'
 }
 
 if command -v valgrind > /dev/null; then
   for which in plain console; do
     few=$(instructions "$work/$which" 1000)
     many=$(instructions "$work/$which" 2000)
-    awk -v w="$which" -v n=$((many - few)) 'BEGIN { printf "%-8s %8.0f instructions for a line that writes\n", w, n / 1000 }'
+    awk -v w="$which" -v n=$((many - few)) \
+      'BEGIN { printf "%-8s %8.0f instructions for a line that writes\n", w, n / 1000 }'
   done
 fi

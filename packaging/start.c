@@ -1,8 +1,8 @@
 /* The start of the release's programs, in place of the C library's own, so that they run with glibc 2.31 or later.
 
    An object that starts a program today asks for __libc_start_main of glibc 2.34, which runs the program's constructors
-   itself. The one of glibc 2.2.5 is still in every later glibc, and runs what the program's start names to it. Here this
-   runs the constructors: one of the kit keeps the words of the command line.
+   itself. The one of glibc 2.2.5 is still in every later glibc, and runs what the program's start names to it. Here
+   this runs the constructors: one of the kit keeps the words of the command line.
 
    Rattle's main asks glibc 2.33 which instructions the processor has, and ends if it isn't an x86-64-v2. Here the
    processor itself answers. */

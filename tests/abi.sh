@@ -1,8 +1,9 @@
 #!/usr/bin/env bash
-# Tries the library: its archive by both compilers, the header against the exports, the typed layers against their description,
-# the sale in C, Rust and Python, which have to print the same, want of memory at each allocation in turn, two tills on two
-# threads, and the stack that each export takes. valgrind looks for misuse of the heap by the library and by the three layers. It installs nothing, and a
-# tool that is missing is a failure that names its package. Usage: tests/abi.sh. Its last line is 'N passed, M failed'.
+# Tries the library: its archive by both compilers, the header against the exports, the typed layers against their
+# description, the sale in C, Rust and Python, which have to print the same, want of memory at each allocation in turn,
+# two tills on two threads, and the stack that each export takes. valgrind looks for misuse of the heap by the library
+# and by the three layers. It installs nothing, and a tool that is missing is a failure that names its package. Usage:
+# tests/abi.sh. Its last line is 'N passed, M failed'.
 set -u
 top=$(cd "$(dirname "$0")/.." && pwd)
 abi=$top/abi
@@ -49,8 +50,8 @@ sells() {
   told "$name" "$(cat "$abi/sale.stdout")" "$("$@" "$work/totals" 2>&1)"
 }
 
-# watched COMMAND ..: runs a command under valgrind, which prints each misuse of the heap, by the library too, and what is
-# left there without a pointer to it. Python's own modules leave something.
+# watched COMMAND ..: runs a command under valgrind, which prints each misuse of the heap, by the library too, and what
+# is left there without a pointer to it. Python's own modules leave something.
 watched() {
   local leaks=full
   [ "$1" != "$python" ] || leaks=no
@@ -138,8 +139,10 @@ mv "$work/program" "$work/totals_c"
 reads "a long answer in C, watched" "$work/totals_c"
 reads "a long answer in Rust, watched" "$work/totals_rust"
 reads "a long answer in Python, watched" "$python" "$abi/python/totals.py" "$work/libkijolvar.so"
-runs "what records calls is built" gcc -std=c11 -Wall -Wextra -Werror -O1 -shared -fPIC -o "$work/calls.so" "$abi/c/calls.c"
-python3 -W error "$top/tests/abi_files.py" "$work/libkijolvar.so" "$work/calls.so" "$work/totals_c" "$work/totals_rust" \
+runs "what records calls is built" gcc -std=c11 -Wall -Wextra -Werror -O1 -shared -fPIC -o "$work/calls.so" \
+  "$abi/c/calls.c"
+python3 -W error "$top/tests/abi_files.py" "$work/libkijolvar.so" "$work/calls.so" \
+  "$work/totals_c" "$work/totals_rust" \
   > "$work/files" 2>&1
 told "files, and tills that are killed" "166 passed, 0 failed" "$(cat "$work/files")"
 

@@ -1,11 +1,11 @@
 #!/usr/bin/env python3
 """Tries the library and its wrappers over files:
 
-- which files the library formats and opens, what a till answers while errands are left or after one failed, and when a host
-  gets its devices' orders;
+- which files the library formats and opens, what a till answers while errands are left or after one failed, and when a
+  host gets its devices' orders;
 - in which order a change is written and synced, and what a power cut leaves between and within these errands;
-- in C, Rust and Python, which files open, which names are free for a new one, what each call does to the file and its folder,
-  and what is left if the host is killed before a call, or if a call fails;
+- in C, Rust and Python, which files open, which names are free for a new one, what each call does to the file and its
+  folder, and what is left if the host is killed before a call, or if a call fails;
 - a till that is killed while it writes totals, twenty times.
 
 Usage: abi_files.py libkijolvar.so calls.so TOTALS_C TOTALS_RUST, with abi/c/calls.c to preload, and the programs of
@@ -156,7 +156,8 @@ class Host:
             self.loose = []
 
     def cuts(self):
-        """What a power cut may leave now: each loose write is missing, there, or there by its front or its back half."""
+        """What a power cut may leave now: each loose write is missing, there, or there by its front or its back
+        half."""
         for shares in itertools.product(range(4), repeat=len(self.loose)):
             image = bytearray(self.image)
             for share, (at, kept) in zip(shares, self.loose):
@@ -253,8 +254,8 @@ def orders(library):
 
 
 def errands_of(host, line, look):
-    """Carries out a line that changes the totals. Returns its errands, and what is found after a power cut: a set for each
-    moment behind an errand. The last set is from when the line is answered."""
+    """Carries out a line that changes the totals. Returns its errands, and what is found after a power cut: a set for
+    each moment behind an errand. The last set is from when the line is answered."""
     done, found = [], []
     assert host.carry_out(line)[0] == KIJOLVAR_ERRANDS, line
     while (errand := host.errand())[0] != KIJOLVAR_OK:
@@ -309,8 +310,8 @@ def records(library):
 
 
 def images(library):
-    """A change that has no room in the log makes a new image: the slot's old gate, if it is open, and a sync; the image and a
-    sync; its gate and a sync."""
+    """A change that has no room in the log makes a new image: the slot's old gate, if it is open, and a sync; the image
+    and a sync; its gate and a sync."""
     host = Host(library, bytes(KIJOLVAR_DISK_LENGTH), "kijolvar_format_file")
     host.settle()
     host.run(OPENING + "call t create 41 7000 false\n")
@@ -476,8 +477,8 @@ def finds(library, path):
 
 
 def creations(library, wrapper):
-    """Kills the host before each call of a creation in turn, and fails each: nothing is left, and the file can be created again;
-    or, once it has its name, a whole file, which opens."""
+    """Kills the host before each call of a creation in turn, and fails each: nothing is left, and the file can be
+    created again; or, once it has its name, a whole file, which opens."""
     wrapper.has(None)
     made = wrapper.recorded("create")[2]
     naming, amiss = made.index("link totals") + 1 if "link totals" in made else 0, []
@@ -520,7 +521,8 @@ def changes(library, wrapper):
 
 
 def kills(library, folder, words):
-    """Kills a till at random moments: the file has to hold each number that was printed, and none that was not written."""
+    """Kills a till at random moments: the file has to hold each number that was printed, and none that was not
+    written."""
     lost = []
     for number in range(ROUNDS):
         path = os.path.join(folder, f"killed{number}")

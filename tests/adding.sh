@@ -2,8 +2,8 @@
 # Counts what an addition costs, as docs/contributing/adding.md says: for one of each kind that is there, the files of
 # src/, specs/ and proofs/ that name it. Tests and the example pos_till don't count. Neither do pos_escpos and
 # pos_report, which name some and need none: but a code needs a row there that explains it. Usage: tests/adding.sh.
-# A kind that takes more files than its row says has failed, and so has one that no file names. Of the categories it is the
-# median, and so it is of the properties that can be set. Its last line is 'N passed, M failed'.
+# A kind that takes more files than its row says has failed, and so has one that no file names. Of the categories it is
+# the median, and so it is of the properties that can be set. Its last line is 'N passed, M failed'.
 set -u
 cd "$(dirname "$0")/.." || exit 1
 passed=0
@@ -11,8 +11,10 @@ failed=0
 
 # files_with PATTERN: the files that name it, comments aside. What a file imports of a module of the same name isn't it.
 files_with() {
-  grep -rnP --include='*.rt' --include='*.antt' "(?<!specs\.)(?<!proofs\.)(?:$1)" crates/*/src crates/*/specs crates/*/proofs |
-    grep -vP '^[^:]*:[0-9]+:\s*(//|--)' | cut -d: -f1 | sort -u | grep -v '_tests/\|src/tests\.rt\|pos_till/\|pos_escpos/\|pos_report/'
+  grep -rnP --include='*.rt' --include='*.antt' "(?<!specs\.)(?<!proofs\.)(?:$1)" \
+    crates/*/src crates/*/specs crates/*/proofs |
+    grep -vP '^[^:]*:[0-9]+:\s*(//|--)' | cut -d: -f1 | sort -u |
+    grep -v '_tests/\|src/tests\.rt\|pos_till/\|pos_escpos/\|pos_report/'
 }
 
 # judge KIND MOST NUMBER FILES: a kind that so many files name, of which at most so many are said

@@ -1,7 +1,8 @@
 #!/usr/bin/env bash
-# Builds and runs every bench on a small size, and compares what it prints, without the times. It runs before a release, not in
-# .ci/run. It proves nothing, and its times mean nothing. The benches in Rattle are built and run by `rt try`. The others run
-# over PROGRAM, by default the one in crates/pos_console/out. It needs rt, rustc, python3, and a TMPDIR on a disk.
+# Builds and runs every bench on a small size, and compares what it prints, without the times. It runs before a release,
+# not in .ci/run. It proves nothing, and its times mean nothing. The benches in Rattle are built and run by `rt try`.
+# The others run over PROGRAM, by default the one in crates/pos_console/out. It needs rt, rustc, python3, and a TMPDIR
+# on a disk.
 # Usage: tests/benches.sh [PROGRAM]. Its last line is 'N passed, M failed', a bench each.
 set -u
 top=$(cd "$(dirname "$0")/.." && pwd)
@@ -51,7 +52,8 @@ compares display 3
 compares events 12
 compares printer 6
 counts ring 8 '^(plain|ring), .*: 100 in [0-9]+ us$' "$bench/ring.sh" --small
-counts store 20 '^layout [12], .*, round [1-5]: [1-9][0-9]* commits a second, [0-9]+ new images$' "$bench/store.sh" --small
+counts store 20 '^layout [12], .*, round [1-5]: [1-9][0-9]* commits a second, [0-9]+ new images$' \
+  "$bench/store.sh" --small
 # these two compare the texts of two programs themselves
 counts run 4 ' lines a second$' "$bench/run.sh" 1000 "$program"
 counts totals 2 ' lines a second$' "$bench/totals.sh" 1000 "$program"

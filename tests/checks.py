@@ -1,8 +1,8 @@
 """What the tests that take time have in common: their checks are counted, each has a folder of its own, and a test is
 repeated if the machine stood still during it.
 
-Usage: checks.py COMMAND [WORD ..] runs a command, again if it fails while the machine stands still, and ends with its status.
-It prints what the last turn printed, and on standard error what the others did.
+Usage: checks.py COMMAND [WORD ..] runs a command, again if it fails while the machine stands still, and ends with its
+status. It prints what the last turn printed, and on standard error what the others did.
 """
 import collections
 import contextlib
@@ -19,12 +19,12 @@ import traceback
 
 from emulator import take_unknown
 
-# How often it is looked whether this machine goes on, and how often, in such looks, whether each thread does, which costs
-# more; how many of those count together, which is half a second; and for how long of that something didn't go on if the
-# machine stood still, in seconds.
+# How often it is looked whether this machine goes on, and how often, in such looks, whether each thread does, which
+# costs more; how many of those count together, which is half a second; and for how long of that something didn't go on
+# if the machine stood still, in seconds.
 OFTEN, RARELY, LOOKS, LONG = 0.05, 3, 5, 0.1
-# How often a test is run at most, and for how long a machine is waited for that is busy, before the second turn, in seconds:
-# before the third twice as long, and so on.
+# How often a test is run at most, and for how long a machine is waited for that is busy, before the second turn, in
+# seconds: before the third twice as long, and so on.
 TURNS, PATIENCE = 5, 15
 # How long what a test has begun is waited for once it has ended, in seconds.
 LEFT = 60
@@ -38,8 +38,8 @@ def read(path):
 
 
 def read_waits(top):
-    """How long each thread of a process, and of those that it began, has waited for a processor so far, and how long each
-    processor has waited for the machine that this one runs on, by a name of each, in seconds."""
+    """How long each thread of a process, and of those that it began, has waited for a processor so far, and how long
+    each processor has waited for the machine that this one runs on, by a name of each, in seconds."""
     found, processes = {}, [str(top)]
     for process in processes:
         try:
@@ -63,7 +63,8 @@ def read_waits(top):
 
 def watch(top):
     """Looks whether the machine goes on for a process. For each line of standard input it prints for how much of half a
-    second it stood still, at most, since the last one: for its threads together, for a processor, or for this process."""
+    second it stood still, at most, since the last one: for its threads together, for a processor, or for this
+    process."""
     late, longest, left, looks = 0.0, 0.0, 0, collections.deque(maxlen=LOOKS)
     before, worked = time.monotonic(), time.thread_time()
     while True:
@@ -98,8 +99,8 @@ def is_calm():
 class Watch:
     """Looks whether the machine goes on, in a process of its own.
 
-    It stands still for threads that can run and don't: as others have the processors, as the machine that this one runs on
-    has them, or as all stands still.
+    It stands still for threads that can run and don't: as others have the processors, as the machine that this one runs
+    on has them, or as all stands still.
     """
 
     def __init__(self):
@@ -133,9 +134,9 @@ class Checks:
     """How many checks passed and failed.
 
     An order fails if its printer doesn't answer in time. The emulated one doesn't if the machine stands still, and no
-    test can tell that from a fault. So a test that fails is run again if the machine stood still meanwhile. What it found
-    is printed each time, and the last time alone counts, with what its threads and its devices found. The line before the
-    last says how often a test ran again.
+    test can tell that from a fault. So a test that fails is run again if the machine stood still meanwhile. What it
+    found is printed each time, and the last time alone counts, with what its threads and its devices found. The line
+    before the last says how often a test ran again.
 
     Attributes:
         work: A folder for the files of the test that runs.
@@ -157,7 +158,8 @@ class Checks:
             print(f"failed: {name}\n  wanted: {wanted!r}\n  found:  {found!r}", flush=True)
 
     def run(self, test, give_time=None):
-        """Runs a test, again if it fails while the machine stands still. Before that `give_time` is called, if it is given."""
+        """Runs a test, again if it fails while the machine stands still. Before that `give_time` is called, if it is
+        given."""
         self._has_run = True
         for turn in range(1, TURNS + 1):
             before, others = (self.passed, self.failed), set(threading.enumerate())

@@ -33,7 +33,8 @@ needs() {
   fi
 }
 
-# has_to_run FAULT PACKAGE COMMAND ..: ends with a failure if the command fails, and names the package of Debian that has it
+# has_to_run FAULT PACKAGE COMMAND ..: ends with a failure if the command fails, and names the package of Debian that
+# has it
 has_to_run() {
   local fault=$1 package=$2
   shift 2

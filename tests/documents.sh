@@ -1,6 +1,6 @@
 #!/usr/bin/env bash
-# Checks README.md, CONTRIBUTING.md, CHANGELOG.md, abi/README.md and docs/ against the tree. Each rule looks at one kind of
-# claim:
+# Checks README.md, CONTRIBUTING.md, CHANGELOG.md, abi/README.md and docs/ against the tree. Each rule looks at one kind
+# of claim:
 #   paths      a file or folder in backticks exists; a command's first word is one
 #   links      a link leads to a file, and to a heading or a line of it, and so does a heading that is quoted behind a link
 #   comments   a document and a heading that a source, a test or a script names exist
@@ -8,13 +8,15 @@
 #   words      a single word in backticks that looks like a name is a word of the sources, or of the list of others below
 #   proofs     each function that a crate's users can call and that has a clause is in the crate's table of docs/proofs/contracts.md, and
 #              each function of a table is the crate's
-#   generated  docs/proofs/contracts.md, docs/reference/calls.md, the lists of docs/proofs/trust.md and the tables between
+#   generated  docs/proofs/contracts.md, docs/reference/calls.md, the lists of docs/proofs/trust.md and the tables
+#   between
 #              marks are what tools/contracts.py, tools/calls.py, tools/trust.py and tools/lists.py write
 #   clauses    a clause that is named beside a function, and a field beside a definition, is there
 #   claims     a definition that a claim of README or of docs/proofs/what-is-proved.md names is one to which the
 #              contract of a function in the same claim leads, in a crate that the claim names
 #   theorems   in docs/proofs/theorems.md, a function is one that its crate's users can call and has the clause, and its contract
-#              leads to the relation; a quoted refusal is in docs/contributing/decisions.md; a part without a function is said to be missing
+#              leads to the relation; a quoted refusal is in docs/contributing/decisions.md; a part without a function
+#              is said to be missing
 #   commits    a commit's id is one of this history
 #   kit        the kit that `rt version` tells is one of those that README names
 #   crates     the crates and what they stand on are those of crates.txt
@@ -24,10 +26,10 @@
 #              of a file's faults are there
 #   counts     a number in a sentence that this script lists is what the tree has
 #   sections   each group of lines of a script names the section of the standard, or of a document, that it is from
-# A rule that finds nothing to look at has failed. Then one wrong claim of each kind is planted in the documents, in memory,
-# and its rule has to find it.
-# Usage: tests/documents.sh, or with --self-test the planted claims alone. Its last line is 'N passed, M failed', a rule and a
-# planted claim each; it ends with 0 where none failed.
+# A rule that finds nothing to look at has failed. Then one wrong claim of each kind is planted in the documents, in
+# memory, and its rule has to find it.
+# Usage: tests/documents.sh, or with --self-test the planted claims alone. Its last line is 'N passed, M failed', a rule
+# and a planted claim each; it ends with 0 where none failed.
 set -u
 cd "$(dirname "$0")/.." || exit 1
 exec python3 - "$@" <<'PROGRAM'

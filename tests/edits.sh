@@ -2,8 +2,8 @@
 # Tries the wrong bodies that the gate leaves out, tests/edits/CRATE/*.edit, in a copy of the tree: the prover has to
 # refuse each, and not only because a proof file names what the edit took away. What was proved before is used; what
 # wasn't is proved first.
-# Usage: tests/edits.sh [CRATE ..]. Without a word it tries those of each crate. Its last line is 'N passed, M failed'; it
-# ends with 0 where some were tried and none failed.
+# Usage: tests/edits.sh [CRATE ..]. Without a word it tries those of each crate. Its last line is 'N passed, M failed';
+# it ends with 0 where some were tried and none failed.
 set -u
 top=$(cd "$(dirname "$0")/.." && pwd)
 edits=$top/tests/edits

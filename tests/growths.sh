@@ -1,18 +1,19 @@
 #!/usr/bin/env bash
 # Refuses each growth of memory in turn. Over the program it runs each script of tests/scripts and refuses the
 # first growth of the run, then the second alone, and so on until a run meets none. Each time
-#   either the run has ended for want of memory before its first line, with nothing printed, and tells so: of the words, of
-#   the profile's file or of the disk's, or of what is made of them;
+#   either the run has ended for want of memory before its first line, with nothing printed, and tells so: of the words,
+#   of the profile's file or of the disk's, or of what is made of them;
 #   or it went on without that growth, as where room that is only reserved ahead is refused, and printed what is wanted;
 #   or one line was answered `memory`, all before it as ever, and where that line is written twice, with the same growth
 #   refused, all else is answered as without a refusal, and the disk in the end has the bytes of NAME.left.
-# Over the tests crates that `rt test` built it runs the tests that go on after a refusal likewise: they pass, or end where
-# they find no memory for what they begin with.
-# First it counts the growths of each run without refusing any, and compares them with tests/growths, which records them.
-# Usage: tests/growths.sh [-v] [-k | -s STEP] [PROGRAM]. With -v it prints how many growths each run has. With -k it writes
-# tests/growths in the place of comparing. With -s it refuses each STEP-th growth alone, another one of them first in each
-# script, and of the program only; it still compares how many growths each run has. It needs a C compiler: the one of the kit,
-# by rt, or cc. Its last line is 'N passed, M failed'; it ends with 0 where none failed.
+# Over the tests crates that `rt test` built it runs the tests that go on after a refusal likewise: they pass, or end
+# where they find no memory for what they begin with.
+# First it counts the growths of each run without refusing any, and compares them with tests/growths, which records
+# them.
+# Usage: tests/growths.sh [-v] [-k | -s STEP] [PROGRAM]. With -v it prints how many growths each run has. With -k it
+# writes tests/growths in the place of comparing. With -s it refuses each STEP-th growth alone, another one of them
+# first in each script, and of the program only; it still compares how many growths each run has. It needs a C compiler:
+# the one of the kit, by rt, or cc. Its last line is 'N passed, M failed'; it ends with 0 where none failed.
 set -u
 export LC_ALL=C
 is_loud=
@@ -33,7 +34,8 @@ cd "$work" || exit 1
 all=0
 : > found
 
-# malloc and realloc of the C library, but for the growth with the number REFUSED, whose refusal is told at descriptor 9. Where
+# malloc and realloc of the C library, but for the growth with the number REFUSED, whose refusal is told at descriptor
+# 9. Where
 # REFUSED is 0 each growth is told there, and none is refused
 cat > refuse.c <<'C'
 typedef unsigned long size;
@@ -70,8 +72,8 @@ give_up() {
 [ -x "$program" ] || give_up "$program isn't there"
 [ -n "$is_kept_anew" ] || [ -s "$recorded" ] || give_up "$recorded isn't there: tests/growths.sh -k writes it"
 
-# refuse NUMBER INPUT WORD ..: runs the words with that growth refused. What they print is in `out` and `err`, and `met` is
-# empty where there is no such growth
+# refuse NUMBER INPUT WORD ..: runs the words with that growth refused. What they print is in `out` and `err`, and `met`
+# is empty where there is no such growth
 refuse() {
   local number=$1 input=$2
   shift 2
@@ -92,8 +94,8 @@ count() {
   count=$(wc -c < met)
 }
 
-# record NAME NUMBER ..: writes down how many growths a run has, of each kind, and compares it with what is recorded. Where each
-# STEP-th is refused alone, the kinds aren't known, and the sum is compared
+# record NAME NUMBER ..: writes down how many growths a run has, of each kind, and compares it with what is recorded.
+# Where each STEP-th is refused alone, the kinds aren't known, and the sum is compared
 record() {
   local name=$1 wanted
   shift
@@ -116,8 +118,8 @@ padded() {
   cat "$1"
 }
 
-# repeat SCRIPT WANTED LINE: writes into `script` and `wanted` the script with the line twice that prints the line LINE of
-# WANTED, and what that prints
+# repeat SCRIPT WANTED LINE: writes into `script` and `wanted` the script with the line twice that prints the line LINE
+# of WANTED, and what that prints
 repeat() {
   local asks length
   asks=$(awk '!/^#/ && !/^ *\r?$/ { print NR }' "$1" | sed -n "$3p")
@@ -152,7 +154,8 @@ is_kept() {
   [ ! -f "$1.left" ] || is_left "$1.left"
 }
 
-# refuse_line NAME SCRIPT NUMBER WORD ..: the growth was refused in a line, which is written twice and has it refused again
+# refuse_line NAME SCRIPT NUMBER WORD ..: the growth was refused in a line, which is written twice and has it refused
+# again
 refuse_line() {
   local name=$1 script=$2 number=$3 line
   shift 3
@@ -207,8 +210,9 @@ refuse_each() {
   if [ "$step" -eq 1 ]; then record "$name" "$before" "$lines" "$spared"; else record "$name" "$count"; fi
 }
 
-# refuse_each_of VERB FAULT WANTED: refuses each growth of the program as it does VERB with the disk `disk.start`: it ends for want
-# of memory, tells so, prints nothing and leaves the disk as it was; or all is as without a refusal, and it prints WANTED
+# refuse_each_of VERB FAULT WANTED: refuses each growth of the program as it does VERB with the disk `disk.start`: it
+# ends for want of memory, tells so, prints nothing and leaves the disk as it was; or all is as without a refusal, and
+# it prints WANTED
 refuse_each_of() {
   local verb=$1 fault=$2 wanted=$3 number count status
   count /dev/null "$program" "$verb" --disk disk
@@ -223,7 +227,11 @@ refuse_each_of() {
     all=$((all + 1))
     case $status:$(cat out err) in
       '6:pos_console: no memory' | '6:pos_console: disk: no memory to open it' | "6:pos_console: $fault")
-        if cmp -s disk disk.start; then passed=$((passed + 1)); else tell "$verb" "growth $number: the disk was written"; fi
+        if cmp -s disk disk.start; then
+          passed=$((passed + 1))
+        else
+          tell "$verb" "growth $number: the disk was written"
+        fi
         ;;
       "0:$wanted") passed=$((passed + 1)) ;;
       *) tell "$verb" "growth $number: status $status $(cat out err | head -n 3 | tr '\n' ' ')" ;;
@@ -235,7 +243,8 @@ refuse_each_of() {
 # Before all else: a refusal has an effect, it is told, and growths are counted
 rm -f disk.start
 count /dev/null "$program"
-[ "$status:$(cat out err)" = 0: ] && [ "$count" -gt 0 ] || give_up "the preloaded library counts no growth, or the program failed"
+[ "$status:$(cat out err)" = 0: ] && [ "$count" -gt 0 ] ||
+  give_up "the preloaded library counts no growth, or the program failed"
 refuse 1 /dev/null "$program"
 [ "$?:$(cat out err)" = '6:pos_console: no memory' ] && [ "$(cat met)" = refused ] ||
   give_up 'the preloaded library refuses no growth, or a refusal has no effect'
@@ -290,8 +299,9 @@ end() {
     done < "$recorded"
   elif [ "$failed" -eq 0 ]; then
     {
-      echo "# How many growths of memory each run has: of a script before its first line, in its lines, and of those that it does"
-      echo "# without; of a command all; of a test all, and those at which it ends. tests/growths.sh -k wrote it."
+      echo "# How many growths of memory each run has: of a script before its first line, in its lines, and of those"
+      echo "# that it does without; of a command all; of a test all, and those at which it ends. tests/growths.sh -k"
+      echo "# wrote it."
       cat found
     } > "$recorded"
   fi

@@ -1,17 +1,17 @@
 #!/usr/bin/env bash
-# Kills the program (kill -9) while it changes Hard Totals in a file, and looks at what the file holds. A round kills it four
-# times, each time over a new file:
+# Kills the program (kill -9) while it changes Hard Totals in a file, and looks at what the file holds. A round kills it
+# four times, each time over a new file:
 #   in a stream: at a random moment, while it works through transactions that are written ahead;
 #   between calls: in an open transaction, after the answer to its begin or to one of its writes;
 #   in a commit: after it began to write the file for a commit, and before the commit's answer;
 #   in a move: after a move to layout 2 began to write the file, and before it ends.
-# The last two are tried until a kill has landed there: the file's bytes have changed, and nothing was answered. Each try is
-# judged, also one that came too early or too late. The file must hold one file of totals, whole, as one transaction left it:
-# the last that was answered or a later one that was asked for; between calls the last that was answered. After that the
-# file can be moved to layout 2 exactly once, and holds the same.
+# The last two are tried until a kill has landed there: the file's bytes have changed, and nothing was answered. Each
+# try is judged, also one that came too early or too late. The file must hold one file of totals, whole, as one
+# transaction left it: the last that was answered or a later one that was asked for; between calls the last that was
+# answered. After that the file can be moved to layout 2 exactly once, and holds the same.
 # This tries the end of the process. What a loss of power leaves is the crash model of docs/proofs/crashes.md.
-# Usage: tests/killed.sh [TIMES [PROGRAM]]. It does TIMES rounds, by default 25. Without PROGRAM it builds one, and needs rt. It
-# needs python3, and a TMPDIR on a disk. Its last line is 'N passed, M failed', four for each round.
+# Usage: tests/killed.sh [TIMES [PROGRAM]]. It does TIMES rounds, by default 25. Without PROGRAM it builds one, and
+# needs rt. It needs python3, and a TMPDIR on a disk. Its last line is 'N passed, M failed', four for each round.
 set -eu
 top=$(cd "$(dirname "$0")/.." && pwd)
 times=${1:-25}
@@ -25,8 +25,8 @@ python3 - "$times" "$program" <<'PROGRAM' || status=$?
 import os, random, subprocess, sys, time
 
 times, program = int(sys.argv[1]), sys.argv[2]
-# How long a try for a place goes on at least, in seconds, and how many kills it has at least: on a busy machine with a quick
-# disk one of hundreds lands. And how many transactions a stream has.
+# How long a try for a place goes on at least, in seconds, and how many kills it has at least: on a busy machine with a
+# quick disk one of hundreds lands. And how many transactions a stream has.
 PATIENCE, KILLS, STREAM = 60, 3000, 1500
 # A transaction writes its number into each of these places of a file of 64 bytes.
 PLACES = [0, 20, 41, 60]
@@ -290,7 +290,8 @@ def in_move():
     return True
 
 
-landed = dict.fromkeys([f"in a {what}, {when} its last write" for what in ("commit", "move") for when in ("before", "after")], 0)
+landed = dict.fromkeys(
+    [f"in a {what}, {when} its last write" for what in ("commit", "move") for when in ("before", "after")], 0)
 first_files = make_first()
 passed = failed = 0
 tries = 0

@@ -1,5 +1,6 @@
 #!/usr/bin/env bash
-# Checks how the crates are laid out, a check each rule: the crates of tests are left out.
+# Checks how the crates are laid out, a check each rule: the crates of tests are left out. And how long lines of code
+# are.
 #   nouns     no source file is named by a participle in -ing
 #   short     each source file but a root has 25 lines, or is listed here with its reason
 #   heads     each source file begins with its one `//!` text
@@ -9,8 +10,9 @@
 #   case      no two files or folders of a crate differ only in the case of their letters
 #   width     no line has more than 120 columns, but an import
 #   edits     each text that a wrong body or its twin replaces is in its file, once
-# Then it plants one fault of each kind, in memory, which has to be found, a check each. Usage: tests/layout.sh. Its last
-# line is 'N passed, M failed'; it ends with 0 if none failed.
+#   code      no line of C, Rust, Python or shell has more than 120 columns, but as many of a file as are listed here
+# Then it plants one fault of each kind, in memory, which has to be found, a check each. Usage: tests/layout.sh. Its
+# last line is 'N passed, M failed'; it ends with 0 if none failed.
 set -u
 cd "$(dirname "$0")/.." || exit 1
 exec python3 - << 'END'
@@ -50,6 +52,34 @@ def read_edits():
 
 
 EDITS = read_edits()
+
+# How many long lines a file may have: texts that it compares, and lines that nobody has made shorter yet. Write fewer.
+LONG_LINES = {
+    ".ci/run": 9, "abi/python/generate.py": 1, "tests/abi_files.py": 24, "tests/devices.py": 20, "tests/devices.sh": 1,
+    "tests/documents.sh": 36, "tests/powercut/powercut.py": 30, "tests/program.sh": 15, "tests/python.sh": 2,
+    "tests/python_package.py": 17, "tests/tool.sh": 77,
+}
+
+
+def is_code(path, text):
+    return path.endswith((".c", ".h", ".rs", ".py", ".sh", ".mjs", ".java")) or text.startswith("#!")
+
+
+def read_code():
+    """The code outside the crates, with its text: what is built or written by a run is left out."""
+    code = {}
+    for path in glob.glob("*/**/*", recursive=True) + glob.glob(".ci/*"):
+        is_left_out = path.startswith("crates/") or re.search(r"(^|/)(out|target|__pycache__|dist)/", path)
+        if is_left_out or not os.path.isfile(path):
+            continue
+        with open(path, "rb") as file:
+            text = file.read().decode("utf-8", "replace")
+        if is_code(path, text):
+            code[path] = text
+    return code
+
+
+CODE = read_code()
 
 
 def crate_of(path):
@@ -150,6 +180,14 @@ def edits(tree):
                 yield f"{path}: {old.strip()!r} is {count} times in {name}"
 
 
+def code(tree):
+    files = CODE | {path: text for path, text in tree.items() if not path.startswith("crates/")}
+    for path, text in sorted(files.items()):
+        long = [number for number, line in enumerate(text.split("\n"), 1) if len(line) > MOST]
+        if len(long) > LONG_LINES.get(path, 0):
+            yield f"{path}: {len(long)} lines have more than {MOST} columns, as the line {long[-1]}"
+
+
 def with_file(path, text):
     return lambda tree: tree.update({path: text})
 
@@ -169,6 +207,7 @@ RULES = [
     (case, with_file("crates/pos_dir/specs/changes.antt", "")),
     (width, with_line("crates/pos_dir/proofs/Lib.antt", "-- " + "a" * MOST)),
     (edits, with_file("crates/pos_tool/src/whole.rt", LONG)),
+    (code, with_file("abi/c/planted.c", "/* " + "a" * MOST + " */\n")),
 ]
 
 tree = read_tree()

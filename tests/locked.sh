@@ -56,7 +56,8 @@ untold() {
 # served NAME: whether the file serves each command that leaves it as it is
 served() {
   ends "run after $1" 0 '' "$(printf 'ok\nok\nok\nok 0')" run --profile till.toml --disk till.disk
-  ends "files after $1" 0 '' "$(printf 'layout 1\nslot 0\nsequence 1\nrecords 0\nroom 16378\nfiles 0')" files --disk till.disk
+  ends "files after $1" 0 '' "$(printf 'layout 1\nslot 0\nsequence 1\nrecords 0\nroom 16378\nfiles 0')" \
+    files --disk till.disk
 }
 
 # --- a run of the program, which has answered a line and waits for the next

@@ -8,9 +8,9 @@
 #   clearInputProperties, clearOutput, claimFile, releaseFile, beginTrans and rollback;
 #   none of these lines asked for a growth;
 #   in no line a growth came after a write to the disk.
-# It wants the last of `format` and `migrate` too, once a file that is too short has been lengthened. With -t it also runs
-# the tests `orders::..` of pos_counter_tests that `rt test` built. Their peripherals report each order, and no growth may
-# come between an order and the line's answer.
+# It wants the last of `format` and `migrate` too, once a file that is too short has been lengthened. With -t it also
+# runs the tests `orders::..` of pos_counter_tests that `rt test` built. Their peripherals report each order, and no
+# growth may come between an order and the line's answer.
 # Usage: tests/memory.sh [-t] [PROGRAM [TESTS]]. It needs a C compiler: the one of the kit, by rt, or cc. Its last
 # line is 'N passed, M failed'; it ends with 0 if nothing failed.
 set -u

@@ -82,7 +82,8 @@ def cable(kind="usb"):
     hangs_up = "serial" not in kind and "stays" not in kind
     if "tcp" in kind:
         return TcpCable(hangs_up=hangs_up)
-    return PtyCable(CHECKS.work / f"port-{made}", hangs_up=hangs_up, holds="holds" in kind, keeps=256 * ("adapter" in kind))
+    keeps = 256 * ("adapter" in kind)
+    return PtyCable(CHECKS.work / f"port-{made}", hangs_up=hangs_up, holds="holds" in kind, keeps=keeps)
 
 
 def until(condition, seconds=PATIENCE):
@@ -141,8 +142,8 @@ class Host:
 
 TEXT = b"First line\n\x1b|cA\x1b|bCSecond line\n\x1b|N\x1b|rAThird line\n"
 # Why a printer refuses a text that isn't ASCII (abi/documentation.toml).
-NO_ASCII = ("The station isn't the receipt; or the data has more than 4,096 bytes, a byte that isn't ASCII text, LF, CR "
-            "or ESC, or a number out of range.")
+NO_ASCII = ("The station isn't the receipt; or the data has more than 4,096 bytes, a byte that isn't ASCII text, LF, "
+            "CR or ESC, or a number out of range.")
 PRINTED = [("left", b"First line"), ("center", b"Second line"), ("right", b"Third line")]
 TROUBLES = {
     "the cover is opened": (lambda device: device.cover(True), lambda device: device.cover(False), "err 114 201"),
@@ -591,7 +592,8 @@ def try_ports_that_stay():
                 shop.device.plug_in()
                 told(f"{name}: it is back", True, shop.settle())
                 # Answers without a number may still come, as long as nothing says that they are lost.
-                told(f"{name}: again", True, until(lambda: shop.print(TEXT) == "ok", PATIENCE if "asked" in kind else 0))
+                patience = PATIENCE if "asked" in kind else 0
+                told(f"{name}: again", True, until(lambda: shop.print(TEXT) == "ok", patience))
                 told(f"{name}: another order", "ok", shop.print(b"Other\n"))
                 told(f"{name}: the paper", [*PRINTED, ("left", b"Other")], shop.paper())
                 told(f"{name}: nothing else", "0", shop.late())
@@ -632,16 +634,18 @@ def try_asynchronous():
 
 def try_immediate_between():
     """Output that waits fails and comes out later, and something else is printed at once before it is tried again: it
-    is printed once. If it was given up, the same output is a new one."""
-    for is_given_up in (False, True):
-        name = f"something between{', and given up' * is_given_up}"
+    is printed once, wherever the line that works on it is in a text. If it was given up, the same output is a new
+    one."""
+    ways = [("work r1",), ("get r State", "work r1"), ("work r1", "get r State"), ("# a comment", "  work  r1 ")]
+    for is_given_up, way in [*((False, way) for way in ways), (True, ways[0])]:
+        name = f"something between{', and given up' * is_given_up}, worked on by {way}"
         with contextlib.ExitStack() as stack:
             shop = Shop(stack, timeout=AMPLE)
             device, ask, line = shop.device, shop.host.ask, shop.host.line
             told(f"{name}: it waits", "ok", line("set r AsyncMode true"))
             device.after_characters(3, lambda device=device: device.cover(True))
             told(f"{name}: accepted", "ok", shop.print(TEXT))
-            told(f"{name}: it fails", "failed 114 201", line("work r1"))
+            told(f"{name}: it fails", True, "failed 114 201" in shop.host.lines(*way))
             device.cover(False)
             told(f"{name}: it comes out later", True, until(lambda: ask("run 10") and len(device.receipt()) == 3))
             told(f"{name}: that is heard", True, until(
@@ -649,10 +653,31 @@ def try_immediate_between():
             told(f"{name}: another order", "ok", line("call r printImmediate 2 4174206f6e63650a"))
             until(lambda: line("deliver r") == "none")
             if is_given_up:
-                told(f"{name}: given up, and accepted again", ["ok", "ok"], [line("call r clearOutput"), shop.print(TEXT)])
-            told(f"{name}: again", f"done {1 + is_given_up}", line("work r1"))
+                told(f"{name}: given up, and accepted again", ["ok", "ok"],
+                     [line("call r clearOutput"), shop.print(TEXT)])
+            told(f"{name}: again", True, f"done {1 + is_given_up}" in shop.host.lines(*way))
             told(f"{name}: the paper", [*PRINTED, ("left", b"At once"), *(PRINTED * is_given_up)], shop.paper())
             told(f"{name}: what was late", str(int(is_given_up)), shop.late())
+
+
+def try_work_before_another():
+    """A text has a line that works on output that waits, and behind it an order that is printed at once: that is none
+    of the output. The output is printed once."""
+    with contextlib.ExitStack() as stack:
+        shop = Shop(stack, timeout=AMPLE)
+        device, ask, line = shop.device, shop.host.ask, shop.host.line
+        told("it waits", ["ok", "ok"], [line("set r AsyncMode true"), shop.print(TEXT)])
+        device.after_characters(3, lambda: device.cover(True))
+        told("it fails", "failed 114 201", line("work r1"))
+        device.cover(False)
+        told("it comes out later", True, until(lambda: ask("run 10") and len(device.receipt()) == 3))
+        told("that is heard", True, until(
+            lambda: ask("run 10") and not (device._sends or device.cable.unread())) and shop.settle())
+        until(lambda: line("deliver r") == "none")
+        at_once = "call r printImmediate 2 4174206f6e63650a"
+        told("one text", ["ok", "done 1", "ok"], shop.host.lines(at_once, "work r1", at_once))
+        told("the paper", [*PRINTED, *[("left", b"At once")] * 2], shop.paper())
+        told("nothing was late", "0", shop.late())
 
 
 def try_another_between():
@@ -889,7 +914,8 @@ def pressed(code):
 
 
 def heard_of(host, wanted):
-    """The codes of a scanner that are told, and whether one has failed, once it is what is wanted; or what it is then."""
+    """The codes of a scanner that are told, and whether one has failed, once it is what is wanted; or what it is
+    then."""
     found = [[], False]
 
     def is_all():
@@ -904,8 +930,9 @@ def heard_of(host, wanted):
 
 
 def try_typed_apart():
-    """Parts of codes that are typed while a call waits for a printer. What no Enter has followed for a second is a failed
-    scan, also if it was typed before the call, and what comes then is a code of its own. A shorter pause is none."""
+    """Parts of codes that are typed while a call waits for a printer. What no Enter has followed for a second is a
+    failed scan, also if it was typed before the call, and what comes then is a code of its own. A shorter pause is
+    none."""
     rest = pressed(b"81")
     rest += struct.pack("@llHHi", 0, 0, 1, 28, 1) + struct.pack("@llHHi", 0, 0, 1, 28, 0)
     cases = (("half a code and another one", 1.5, (pressed(b"40063"), rest), [[b"81"], True]),
@@ -1222,7 +1249,8 @@ def try_long_off():
     for kind in ("serial", "usb stays", "tcp stays"):
         with contextlib.ExitStack() as stack:
             shop = Shop(stack, kind)
-            told(f"it is idle over {kind}", True, until(lambda: shop.host.ask("run 10") == "false" and shop.device.is_idle))
+            told(f"it is idle over {kind}", True, until(
+                lambda: shop.host.ask("run 10") == "false" and shop.device.is_idle))
             shop.device.pull_plug()
             shop.device.cover(True)
             end = time.monotonic() + 3.5 * TIMEOUT / 1000
@@ -1297,7 +1325,8 @@ def try_garbage():
 
 
 def try_late():
-    """An order that is printed after it had failed, and isn't asked for again. It is its printer's, not the drawer's."""
+    """An order that is printed after it had failed, and isn't asked for again. It is its printer's, not the
+    drawer's."""
     with contextlib.ExitStack() as stack:
         shop = Shop(stack, words="drawer d1")
         shop.device.hang()
@@ -2630,7 +2659,8 @@ def try_exchanged():
     with contextlib.ExitStack() as stack:
         device = stack.enter_context(Printer(cable()))
         host = Host(stack, PROFILE + SPARES)
-        told("both are opened", "ok", host.ask(f"printer r1 {device.path} timeout {AMPLE} pause 10 lines 1000 drawer d1"))
+        told("both are opened", "ok", host.ask(
+            f"printer r1 {device.path} timeout {AMPLE} pause 10 lines 1000 drawer d1"))
         told("the drawer is detached", ["ok"] * 5,
              host.lines("detach d1", "new r POSPrinter", "open r r1", "claim r 0", "set r DeviceEnabled true"))
         told("an order of the printer", "ok", host.line("call r printNormal 2 410a"))
@@ -2857,7 +2887,8 @@ def try_own_printer():
         host.ask("says cover closed;paper 0")
         told("two things at once", ["true", "ok false", "ok true"],
              [host.ask("run 10"), *host.lines("get r CoverOpen", "get r RecEmpty")])
-        told("a spare that isn't there", ["bad spare", "0"], [host.line("attach r1 9"), host.line("show r1").split()[2]])
+        told("a spare that isn't there", ["bad spare", "0"],
+             [host.line("attach r1 9"), host.line("show r1").split()[2]])
         told("a spare is attached", ["ok"] * 3, host.lines("close r", "detach r1", "attach r1 1"))
         told("the driver says how it is", "700", host.line("show r1").split()[2])
     with contextlib.ExitStack() as stack:
@@ -2903,12 +2934,30 @@ def try_own_scanner():
         told("the next code", ["true", ["event DataEvent 0", "ok 63", "ok 501"]], [host.ask("run 10"), comes()])
 
 
+def try_offline_reasons():
+    """A call that is refused since the printer is off says why the port isn't open. If it is open, it says nothing of
+    what it had before."""
+    with contextlib.ExitStack() as stack:
+        device = stack.enter_context(Printer(cable("usb stays")))
+        host, link = Host(stack), CHECKS.work / "printer-that-comes"
+        told("a printer that isn't there", "ok", host.ask(f"printer r1 {link} timeout {TIMEOUT} pause 10 lines 1000"))
+        reason = f"reason {TEXT.hex()}"
+        told("it isn't there", "The printer is off: No such file or directory.", host.ask(reason))
+        link.symlink_to(device.path)
+        told("it is there", True, until(lambda: host.ask("run 10") and host.ask("state r1") == "online 0"))
+        told("nothing is refused", "", host.ask(reason))
+        device.pull_plug()
+        told("it is off, and its port is open", True, until(
+            lambda: host.ask("run 10") and host.ask("state r1") == "offline 0"))
+        told("why it was off before", str(errno.ENOENT), host.ask("why r1"))
+        told("that is no reason now", "The printer is off.", host.ask(reason))
+
+
 def try_own_calls():
-    """A driver of the host's own may not call the till, where it could."""
+    """A driver of the host's own can't call the till. Its order is done."""
     with contextlib.ExitStack() as stack:
         host = Host(stack)
-        if host.ask("calls") != "ok":
-            return
+        told("it calls the till", "ok", host.ask("calls"))
         host.ask("own d2 1")
         host.lines("new d CashDrawer", "open d d2", "set d DeviceEnabled true")
         told("an order whose driver calls the till", ["ok", "KIJ_IN_CALL"],
@@ -3497,7 +3546,8 @@ def try_random():
             shop.device.wait(lambda: shop.device.is_idle)
             found = [item.characters for item in shop.device.receipt()]
             strange = first_strange(found, shop.device.runs, wanted)
-            told(f"random faults over {kind}: the paper", None, strange and (strange, found[max(strange - 4, 0):strange + 4]))
+            told(f"random faults over {kind}: the paper", None,
+                 strange and (strange, found[max(strange - 4, 0):strange + 4]))
             told(f"random faults over {kind}: no late order", "0", shop.late())
             print(f"{WORDS.name}, {WORDS.faults // len(KINDS)} random faults over {kind}: {counts}", flush=True)
 

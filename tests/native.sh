@@ -5,7 +5,8 @@
 # can do, tests/native/memory.c what the library says without memory, and tests/native/cost.c says what an order costs.
 # tests/native/preloaded.c changes what the system does for a host, and tests/native/other_version.c which version the
 # library has.
-# The line before its last says how often a test ran again, since the machine stood still. It installs nothing, and a missing tool is a failure that names its package.
+# The line before its last says how often a test ran again, since the machine stood still. It installs nothing, and a
+# missing tool is a failure that names its package.
 # Usage: tests/native.sh [WORD ..]. The words are those of tests/native.py: --faults N (100 random faults by default),
 # --seed N, --only WORD. KIJOLVAR_ARCHIVE names a library in place of the one that rt lib builds. Its last line is
 # 'N passed, M failed'.
@@ -20,7 +21,8 @@ export PYTHONDONTWRITEBYTECODE=1
 . "$top/tests/common.sh"
 count_runs_again
 
-# times NAME COMMAND ..: whether a command ends well that takes time: it runs again if it fails while the machine stands still
+# times NAME COMMAND ..: whether a command ends well that takes time: it runs again if it fails while the machine stands
+# still
 times() {
   local name=$1
   shift
@@ -40,8 +42,8 @@ if [ "$failed" -gt 0 ]; then
   exit 1
 fi
 
-# tries NAME HOST WORD ..: begins what tests/native.py does with a host. Most of it is waiting, so three run at a time for each
-# processor
+# tries NAME HOST WORD ..: begins what tests/native.py does with a host. Most of it is waiting, so three run at a time
+# for each processor
 names=()
 tries() {
   while [ "$(jobs -rp | wc -l)" -ge $((3 * $(nproc))) ]; do

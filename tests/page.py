@@ -33,8 +33,8 @@ class Browser:
     def __init__(self, program, folder):
         theirs_in, self.out = os.pipe()
         self.into, theirs_out = os.pipe()
-        words = [program, "--headless=new", "--no-sandbox", "--disable-gpu", "--no-first-run", f"--user-data-dir={folder}",
-                 "--remote-debugging-pipe", "about:blank"]
+        words = [program, "--headless=new", "--no-sandbox", "--disable-gpu", "--no-first-run",
+                 f"--user-data-dir={folder}", "--remote-debugging-pipe", "about:blank"]
         self.process = subprocess.Popen(
             ["bash", "-c", f'exec 3<&{theirs_in} 4>&{theirs_out}; exec "$@"', "browser", *words],
             pass_fds=(theirs_in, theirs_out), stdout=subprocess.DEVNULL, stderr=subprocess.DEVNULL)
@@ -111,7 +111,8 @@ def sale(page):
     """A sale by clicks: two articles, one more by its code, and the payment."""
     told("the till begins", "Good morning.", page.text("#says"))
     page.click(article(1))
-    told("an article is shown on the display", ["Bread           4.50", "Sum             4.50"], page.text("#display").split("\n"))
+    told("an article is shown on the display", ["Bread           4.50", "Sum             4.50"],
+         page.text("#display").split("\n"))
     page.click(article(3))
     page.type("#code", "4002")
     page.click("#scan button")
@@ -119,9 +120,10 @@ def sale(page):
     page.click("#pay")
     told("the sale is paid", "14.88 paid.", page.text("#says"))
     told("the receipt", [
-        "KIJOLVAR", "", "Bread                       4.50", "Coffee                      8.99", "Milk                        1.39",
-        "Sum                        14.88", "", "Thank you"],
-        page.value("[...document.querySelectorAll('#paper .l, #paper .c, #paper .r')].map(it => it.innerText.trimEnd())"))
+        "KIJOLVAR", "", "Bread                       4.50", "Coffee                      8.99",
+        "Milk                        1.39", "Sum                        14.88", "", "Thank you"],
+        page.value("[...document.querySelectorAll('#paper .l, #paper .c, #paper .r')]"
+                   ".map(it => it.innerText.trimEnd())"))
     told("bold characters", "KIJOLVARSum                        14.88",
          page.value("[...document.querySelectorAll('#paper b')].map(it => it.innerText).join('')"))
     told("a cut", 1, page.value("document.querySelectorAll('#paper .cut').length"))
@@ -151,9 +153,9 @@ def devices(page):
          [f"{name}: StatusUpdateEvent 2001" for name in ("drawer", "scanner", "display", "printer")],
          page.text("#events").split("\n")[:4])
     told("the last events", [
-        "drawer: StatusUpdateEvent 1", "drawer: StatusUpdateEvent 0", "scanner: DataEvent 0", "printer: StatusUpdateEvent 11",
-        "printer: StatusUpdateEvent 12", "printer: StatusUpdateEvent 2004", "printer: StatusUpdateEvent 2001",
-        "drawer: StatusUpdateEvent 1"], page.text("#events").split("\n")[-8:])
+        "drawer: StatusUpdateEvent 1", "drawer: StatusUpdateEvent 0", "scanner: DataEvent 0",
+        "printer: StatusUpdateEvent 11", "printer: StatusUpdateEvent 12", "printer: StatusUpdateEvent 2004",
+        "printer: StatusUpdateEvent 2001", "drawer: StatusUpdateEvent 1"], page.text("#events").split("\n")[-8:])
     page.type("#line", "get drawer DrawerOpened")
     page.click("#type button")
     told("a line that was typed", "ok true\nget drawer DrawerOpened".split("\n"),

@@ -1,6 +1,6 @@
 #!/usr/bin/env bash
-# Tries the server of abi/page. Without --server it also tries its page in a browser: a sale by clicks, and the devices by
-# hand. The library is the one that rt lib builds. It needs rt, gcc and python3, and for the browser chromium, and
+# Tries the server of abi/page. Without --server it also tries its page in a browser: a sale by clicks, and the devices
+# by hand. The library is the one that rt lib builds. It needs rt, gcc and python3, and for the browser chromium, and
 # installs nothing. The gate has it with --server.
 # Usage: tests/page.sh [PICTURE], or tests/page.sh --server. KIJOLVAR_ARCHIVE names another library. Its last line is
 # 'N passed, M failed'.

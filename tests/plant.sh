@@ -1,8 +1,8 @@
 #!/usr/bin/env bash
-# Plants wrong bodies in the functions of a crate, in a copy of the tree, and compares those that the contracts let through
-# with tests/plant/CRATE, the list of those that are known and right. `rt plant --help` says which bodies it plants, and
-# what the words proves, no-ensures and untested mean. The lists have its lines without the number of the line, and behind
-# ` -- ` of each why it is right; a line without a reason fails.
+# Plants wrong bodies in the functions of a crate, in a copy of the tree, and compares those that the contracts let
+# through with tests/plant/CRATE, the list of those that are known and right. `rt plant --help` says which bodies it
+# plants, and what the words proves, no-ensures and untested mean. The lists have its lines without the number of the
+# line, and behind ` -- ` of each why it is right; a line without a reason fails.
 # Usage: tests/plant.sh [--keep] [CRATE ..]. Without a crate it takes each that has a list; with --keep it writes the
 # lists, with the reasons that were there and ` -- ?` behind what is new.
 # A body takes a few seconds. A batch that takes over 240 isn't judged, so for the largest crates the machine has to be

@@ -1,7 +1,7 @@
 #!/usr/bin/env bash
-# Tries the words, the statuses and the messages of the program on real files. Usage: tests/program.sh [PROGRAM]. Without a
-# word it builds the program, and needs rt; with one it takes that one. It needs strace, ps, and setpriv of util-linux if root
-# runs it. Its last line is 'N passed, M failed'; it ends with 0 where none failed.
+# Tries the words, the statuses and the messages of the program on real files. Usage: tests/program.sh [PROGRAM].
+# Without a word it builds the program, and needs rt; with one it takes that one. It needs strace, ps, and setpriv of
+# util-linux if root runs it. Its last line is 'N passed, M failed'; it ends with 0 where none failed.
 set -u
 top=$(cd "$(dirname "$0")/.." && pwd)
 program=${1:-$top/crates/pos_console/out/pos_console}
@@ -305,8 +305,8 @@ opens_devices() {
   told "$1: devices" "$(yes ok | head -n $((2 * $2 + 1)); echo err 109)" "$(cat out)"
 }
 
-# reports_profiles FORMAT COUNT: whether the program reports profiles as it should. Each line of standard input has a profile,
-# an arrow, and the message, or `sound`. FORMAT has a place for the profile. A sound one has so many devices.
+# reports_profiles FORMAT COUNT: whether the program reports profiles as it should. Each line of standard input has a
+# profile, an arrow, and the message, or `sound`. FORMAT has a place for the profile. A sound one has so many devices.
 reports_profiles() {
   local line
   mv script kept.script

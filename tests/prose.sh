@@ -9,8 +9,8 @@
 #            drawings, and without the tables of names, which tests/documents.sh and tests/rules.sh check cell by cell
 # Tables, headings and code don't count as sentences. Tables do count for repeats, cell by cell. A name in backticks
 # is one word. Then it plants one fault of each kind, in memory, and its rule has to find it.
-# Usage: tests/prose.sh [-v]. -v also prints how many bytes by hand, sentences and words a sentence each document has. Its
-# last line is 'N passed, M failed': a rule of a document or a planted fault each. It ends with 0 if none failed.
+# Usage: tests/prose.sh [-v]. -v also prints how many bytes by hand, sentences and words a sentence each document has.
+# Its last line is 'N passed, M failed': a rule of a document or a planted fault each. It ends with 0 if none failed.
 set -u
 cd "$(dirname "$0")/.." || exit 1
 exec python3 - "$@" <<'PROGRAM'

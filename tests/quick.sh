@@ -1,8 +1,10 @@
 #!/usr/bin/env bash
-# Runs the scripts without a profile, and two tests crates, without a proof. It builds the program and the crates with checks.
-# It runs each script of tests/scripts that has no profile, and compares what it prints byte by byte. It runs
-# the tests of the crates that are built soonest. It takes up to three minutes on four idle hardware threads, and needs rt.
-# Usage: tests/quick.sh. Its last line is 'N passed, M failed'. It fails if that is fewer than tests/expected has for it.
+# Runs the scripts without a profile, and two tests crates, without a proof. It builds the program and the crates with
+# checks. It runs each script of tests/scripts that has no profile, and compares what it prints byte by byte. It runs
+# the tests of the crates that are built soonest. It takes up to three minutes on four idle hardware threads, and needs
+# rt.
+# Usage: tests/quick.sh. Its last line is 'N passed, M failed'. It fails if that is fewer than tests/expected has for
+# it.
 set -u
 top=$(cd "$(dirname "$0")/.." && pwd)
 scripts=$top/tests/scripts

@@ -1,7 +1,7 @@
 #!/usr/bin/env bash
 # Runs the commands and the examples of README, abi/README.md, CONTRIBUTING.md, docs/guide/ and of some other
-# documents, in one folder that has abi/, examples/, the library's archive and the program on its path. It leaves out the
-# items of lists. By the word of a block it is
+# documents, in one folder that has abi/, examples/, the library's archive and the program on its path. It leaves out
+# the items of lists. By the word of a block it is
 #   sh       commands, which print what is in the block `text` that follows, or nothing if none does;
 #   session  lines of a script and their answers, as `LINE => ANSWER`. Without a block `toml` before it, it is a run
 #            over the built-in profile; after one, over that profile and a new totals file;
@@ -13,9 +13,9 @@
 #   csharp   which isn't run.
 # A `python`, `c` or `rust` program also prints what is in the block `text` that follows. One whose first line is a
 # comment with a file's name is put into that file, for the commands that follow it.
-# In an indented block each line is a command. It ends well, and prints nothing, or what examples/sale.stdout has if it runs
-# a sale over a file *.disk; the last one what is in the block `text` that follows. A block with semicolons at the ends of its
-# lines is code in C, which isn't run.
+# In an indented block each line is a command. It ends well, and prints nothing, or what examples/sale.stdout has if it
+# runs a sale over a file *.disk; the last one what is in the block `text` that follows. A block with semicolons at the
+# ends of its lines is code in C, which isn't run.
 # The lists below say which commands it doesn't run, and why; it fails for a command that neither ran nor is on a
 # list, and for an entry that no command fits.
 # Usage: tests/readme.sh [PROGRAM [ARCHIVE]]. Without words it takes what was built in crates/pos_console/out and
@@ -97,11 +97,11 @@ fitted = set()
 
 
 def ends(words, said=None, folder=None):
-    """How a program ends, and what it prints on standard output and on standard error. One that takes too long is ended,
-    with all that it began: -9."""
+    """How a program ends, and what it prints on standard output and on standard error. One that takes too long is
+    ended, with all that it began: -9."""
     pipe = subprocess.PIPE
-    running = subprocess.Popen(words, stdin=None if said is None else pipe, stdout=pipe, stderr=pipe, cwd=folder, text=True,
-                               start_new_session=True)
+    running = subprocess.Popen(words, stdin=None if said is None else pipe, stdout=pipe, stderr=pipe, cwd=folder,
+                               text=True, start_new_session=True)
     try:
         printed = running.communicate(said, LIMIT)
     except subprocess.TimeoutExpired:

@@ -350,7 +350,8 @@ try_record() {
   local unnamed=(env -u EMAIL -u GIT_AUTHOR_EMAIL -u GIT_COMMITTER_EMAIL GIT_CONFIG_GLOBAL=/dev/null)
   local named=(-c user.name=tester -c user.email=tester@localhost)
   git clone -q --shared "$top" "$clone"
-  printf '#!/bin/sh\ntouch "%s/ran"\nprintf "0 skipped, 0 runs again\\n5 passed, 0 failed\\n"\n' "$work" > "$clone/.ci/run"
+  printf '#!/bin/sh\ntouch "%s/ran"\nprintf "0 skipped, 0 runs again\\n5 passed, 0 failed\\n"\n' "$work" \
+    > "$clone/.ci/run"
   git -C "$clone" "${named[@]}" commit -qam "A short gate"
   git -C "$clone" config user.useConfigOnly true
   refused "a record without a name" "set git's user.name and user.email" \
@@ -367,8 +368,8 @@ try_record() {
 
 # ---- installs
 
-# blocks FILE HEADING KIND: the blocks of a section: `sh` and `text` as they are named, `indented` those that are. Without
-# any it prints what is no command and no text of a block
+# blocks FILE HEADING KIND: the blocks of a section: `sh` and `text` as they are named, `indented` those that are.
+# Without any it prints what is no command and no text of a block
 blocks() {
   awk -v heading="## $2" -v kind="$3" '
     /^## / { inside = $0 == heading }

@@ -3,8 +3,9 @@
 # script NAME stands
 #   NAME.stdout   what it has to print;
 #   NAME.profile  the profile that it runs over, with a disk in a file. Without it the program is given no words;
-#   NAME.disk     the disks that it runs over in place of a formatted one, each a paragraph: places and the bytes that stand
-#                 from there on, in hex, among zero bytes. It has to print the same over each. HEX*N stands for HEX N times;
+#   NAME.disk     the disks that it runs over in place of a formatted one, each a paragraph: places and the bytes that
+#                 stand from there on, in hex, among zero bytes. It has to print the same over each. HEX*N stands for
+#                 HEX N times;
 #   NAME.before   a script that is run before over the same profile and disk, which is then moved to layout 2;
 #   NAME.left     places and the bytes that have to stand there in the end, written likewise.
 # Each runs four times: as a file, and through a pipe that gives the program pieces of 1, 2 and 7 bytes. One without a
@@ -32,7 +33,8 @@ tell_left() {
   done < "$1"
 }
 
-# run_script NAME SCRIPT STDOUT LEFT WORD ..: runs the program with these words over a script; an empty LEFT asks nothing
+# run_script NAME SCRIPT STDOUT LEFT WORD ..: runs the program with these words over a script; an empty LEFT asks
+# nothing
 run_script() {
   local name=$1 script=$2 wanted=$3 left=$4 status
   shift 4
@@ -100,8 +102,8 @@ write_line() {
   echo
 }
 
-# over_layout_2 NAME ANSWERS: runs the lines of standard input behind those that enable, over no files by layout 2; they have
-# to print ANSWERS, and the disk has the bytes in the file `left` in the end
+# over_layout_2 NAME ANSWERS: runs the lines of standard input behind those that enable, over no files by layout 2; they
+# have to print ANSWERS, and the disk has the bytes in the file `left` in the end
 over_layout_2() {
   format_disk
   "$program" migrate --disk disk
@@ -163,8 +165,8 @@ for pieces in whole 1 2 7; do
     fi
   done
 
-  # Lines at their greatest length and behind it, with each end of a line, and as many controls as there may be: too long to
-  # be kept.
+  # Lines at their greatest length and behind it, with each end of a line, and as many controls as there may be: too
+  # long to be kept.
   {
     printf 'show d1%139993s\n'
     printf 'show d1%139993s\r\n'
@@ -185,8 +187,8 @@ for pieces in whole 1 2 7; do
   } > stdout
   run_script 'as many controls as there may be' script stdout ''
 
-  # Limits of layout 2, in lines that are too long, or too many, to be kept: what fits its log and its transactions, and how
-  # many files it may have.
+  # Limits of layout 2, in lines that are too long, or too many, to be kept: what fits its log and its transactions, and
+  # how many files it may have.
   create='call a create 46 65536 false'
   begin="$create\ncall a beginTrans\n"
   printf '196608 00\n' > left

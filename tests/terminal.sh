@@ -1,7 +1,7 @@
 #!/usr/bin/env bash
 # Tries `kijolvar` at a terminal, by tmux: what is typed, completed and printed there.
-# Usage: tests/terminal.sh [TOOL]. Without a word it takes the program that was built in crates/pos_tool/out. Its last line is
-# 'N passed, M failed'; it ends with 0 where none failed.
+# Usage: tests/terminal.sh [TOOL]. Without a word it takes the program that was built in crates/pos_tool/out. Its last
+# line is 'N passed, M failed'; it ends with 0 where none failed.
 set -u
 top=$(cd "$(dirname "$0")/.." && pwd)
 tool=$(realpath "${1:-$top/crates/pos_tool/out/pos_tool}")
@@ -19,8 +19,8 @@ ln -s "$tool" "$work/bin/kijolvar"
 passed=0
 failed=0
 
-# A text that is waited for is in no command that is typed, and not yet on the screen: else what is typed next may come too
-# early, or what is found is old.
+# A text that is waited for is in no command that is typed, and not yet on the screen: else what is typed next may come
+# too early, or what is found is old.
 # shows NAME TEXT: whether the screen has a line with this text within two minutes
 shows() {
   local turn
@@ -155,7 +155,8 @@ shows 'scripts are tried' '1 passed, 1 failed'
 coloured 'a script that passes is green' $'\e[32mok one'
 coloured 'what is found is red' $'\e[31m  found:  ok'
 typed 'clear; kijolvar test one two --color never; echo "never $?"' Enter
-screen 'scripts are tried without colours' 'ok one' 'two:1: new d CashDrawer' '  wanted: no' '  found:  ok' 'failed two' \
+screen 'scripts are tried without colours' \
+  'ok one' 'two:1: new d CashDrawer' '  wanted: no' '  found:  ok' 'failed two' \
   '1 passed, 1 failed' 'never 1' 'ready>'
 told=$(tmux -S "$socket" capture-pane -e -p -t tool | grep -c $'\e\[3[12]m')
 if [ "$told" = 0 ]; then passed=$((passed + 1)); else failed=$((failed + 1)); echo 'failed: never has colours'; fi

@@ -1,9 +1,9 @@
 #!/usr/bin/env bash
 # Tries the tool `kijolvar` on real files: every command, each error, and each example of docs/reference/tool.md.
-# Usage: tests/tool.sh [TOOL PROGRAM], the tool and pos_console, which makes totals with records. Without words it builds
-# both, and needs rt. It needs python3, flock, strace, and setpriv of util-linux if root runs it. DAMAGES in the environment
-# is how many random damages it tries, 300 if it isn't set. Its last line is 'N passed, M failed'; it ends with 0 where none
-# failed.
+# Usage: tests/tool.sh [TOOL PROGRAM], the tool and pos_console, which makes totals with records. Without words it
+# builds both, and needs rt. It needs python3, flock, strace, and setpriv of util-linux if root runs it. DAMAGES in the
+# environment is how many random damages it tries, 300 if it isn't set. Its last line is 'N passed, M failed'; it ends
+# with 0 where none failed.
 set -u
 top=$(cd "$(dirname "$0")/.." && pwd)
 tool=$(realpath "${1:-$top/crates/pos_tool/out/pos_tool}")

@@ -1,8 +1,8 @@
 #!/usr/bin/env bash
-# Tears the writes of a change at each byte, in copies of a totals file, and opens each copy by the program: it has to hold
-# the file before the change up to the write of the last gate, and after it the one that the gate's byte says. What wasn't
-# written yet holds the old bytes, open gates or 0xFF. A change is torn that goes to the log, one that makes a new image, and
-# the move of the files to layout 2, which keeps them.
+# Tears the writes of a change at each byte, in copies of a totals file, and opens each copy by the program: it has to
+# hold the file before the change up to the write of the last gate, and after it the one that the gate's byte says. What
+# wasn't written yet holds the old bytes, open gates or 0xFF. A change is torn that goes to the log, one that makes a
+# new image, and the move of the files to layout 2, which keeps them.
 # Usage: tests/torn.sh [PROGRAM]. Without a program it builds it, and needs rt. Its last line is 'N passed, M failed'.
 set -eu
 top=$(cd "$(dirname "$0")/.." && pwd)
@@ -42,8 +42,8 @@ asked='call a read 1 0 4'
 early=00000000
 late=deadbeef
 
-# torn NAME AT COUNT STEP: the change from the file `before` to the file `after` writes COUNT bytes from AT + 1 on, and then
-# the gate at AT; each STEP bytes of the first write it is cut
+# torn NAME AT COUNT STEP: the change from the file `before` to the file `after` writes COUNT bytes from AT + 1 on, and
+# then the gate at AT; each STEP bytes of the first write it is cut
 torn() {
   local name=$1 at=$2 count=$3 step=$4 cut fill rest
   for ((cut = 0; cut <= count; cut += step)); do
@@ -80,7 +80,11 @@ long() { printf 'call a write 1 0 %s' "$1"; head -c $(($2 - 4)) /dev/zero | od -
 cp disk before
 long deadbeef 8142 | carry_out > said
 cp disk after
-if [ "$(bytes after 32768 1 | od -An -tx1 | tr -d ' ')" = a5 ]; then passed=$((passed + 1)); else failed=$((failed + 1)); fi
+if [ "$(bytes after 32768 1 | od -An -tx1 | tr -d ' ')" = a5 ]; then
+  passed=$((passed + 1))
+else
+  failed=$((failed + 1))
+fi
 torn 'a new image' 32768 $((12 + 8200 + 1)) 331
 
 # the move of these files to layout 2: they are found all along, and the layout goes by the gate

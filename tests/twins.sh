@@ -1,10 +1,11 @@
 #!/usr/bin/env bash
-# Tries the twins of the wrong bodies: for each edit of crates/CRATE/must-fail and of tests/edits/CRATE a right body of the
-# same shape, tests/twins/CRATE/NAME.edit. In a copy of the tree the twins stand in the place of the edits, and the prover
-# has to let each through: then it refuses the wrong body for what it means and not for its form. What was proved before
-# is used; what wasn't is proved first.
-# Usage: tests/twins.sh [CRATE ..]. Without a word it tries those of each crate. An edit without a twin, and a twin without
-# an edit, count as failed. Its last line is 'N passed, M failed'; it ends with 0 where some were tried and none failed.
+# Tries the twins of the wrong bodies: for each edit of crates/CRATE/must-fail and of tests/edits/CRATE a right body of
+# the same shape, tests/twins/CRATE/NAME.edit. In a copy of the tree the twins stand in the place of the edits, and the
+# prover has to let each through: then it refuses the wrong body for what it means and not for its form. What was proved
+# before is used; what wasn't is proved first.
+# Usage: tests/twins.sh [CRATE ..]. Without a word it tries those of each crate. An edit without a twin, and a twin
+# without an edit, count as failed. Its last line is 'N passed, M failed'; it ends with 0 where some were tried and none
+# failed.
 set -u
 top=$(cd "$(dirname "$0")/.." && pwd)
 edits=$top/tests/edits

@@ -5,8 +5,8 @@
 # - each script of tests/scripts gives the same answers by typed calls;
 # - want of memory at each allocation in turn, and what the layer refuses;
 # - examples/sale.* print the same, and the one in C refuses an unknown article and one too many;
-# - examples/TypedTill.java and examples/till.mjs, which drive the program over a pipe, print the same, if a JDK or Node is
-#   there. If not, it says that they are skipped;
+# - examples/TypedTill.java and examples/till.mjs, which drive the program over a pipe, print the same, if a JDK or Node
+#   is there. If not, it says that they are skipped;
 # - the tests of the crate and of its documentation, and clippy;
 # - what a typed call in C costs beside one by text (bench/typed.sh).
 # valgrind looks for misuse of the heap. It installs nothing, and a missing tool is a failure that names its package.
@@ -157,7 +157,8 @@ runs "the documentation" env RUSTDOCFLAGS="-D warnings" cargo doc -q --offline -
 # (those of its code take time: they run again if they fail while the machine stands still)
 cargo test --offline --no-run --manifest-path "$crate/Cargo.toml" > "$work/built" 2>&1
 {
-  python3 "$top/tests/checks.py" cargo test --offline --lib --tests --manifest-path "$crate/Cargo.toml" 2> "$work/before"
+  python3 "$top/tests/checks.py" cargo test --offline --lib --tests --manifest-path "$crate/Cargo.toml" \
+    2> "$work/before"
   cargo test --offline --doc --manifest-path "$crate/Cargo.toml" 2>&1
 } > "$work/said"
 cat "$work/before"

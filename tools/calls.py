@@ -17,8 +17,9 @@ PAGE = "docs/reference/calls.md"
 DESCRIPTION = "abi/description.json"
 HEAD = """# Every call, property, event and code
 
-Every method, property, event and code of the standard that is there, with arguments and refusals. `tools/calls.py` writes
-this page from [abi/description.json](../../abi/description.json). [model.md](model.md) says what the calls do together.
+Every method, property, event and code of the standard that is there, with arguments and refusals. `tools/calls.py`
+writes this page from [abi/description.json](../../abi/description.json). [model.md](model.md) says what the calls do
+together.
 
 - **Claim**: the call needs the control's own claim, or that no other control has one.
 - **Enabled**: the call needs an enabled device.
@@ -89,7 +90,8 @@ def of_property(it):
     values = "" if it["values"] is None else f", {it['values']}"
     is_set = f"set: {range_of(it)}".rstrip(": ") if it["writable"] else ""
     more = [f"{error['code']} ({low(cell(error['when']))})" for error in it["errors"] if error["code"] not in COMMON]
-    sets = [f"{error['code']} ({low(cell(error['when']))})" for error in it["set_errors"] if error["code"] != "E_CLOSED"]
+    sets = [f"{error['code']} ({low(cell(error['when']))})"
+            for error in it["set_errors"] if error["code"] != "E_CLOSED"]
     return [it["name"], kind + values, is_set, cell(" ".join(filter(None, [it["summary"], it["detail"]]))),
             CLAIMS[it["claim"]], "yes" if it["enabled"] else "", "; ".join(more + sets)]
 

@@ -15,8 +15,8 @@ import sources
 PAGE = "docs/proofs/contracts.md"
 HEAD = """# The contracts of all crates
 
-Every function with a contract that a crate's users can call. `tools/contracts.py` writes this page from the sources, and
-`tests/documents.sh` compares it. [What is proved](what-is-proved.md) is the short list.
+Every function with a contract that a crate's users can call. `tools/contracts.py` writes this page from the sources,
+and `tests/documents.sh` compares it. [What is proved](what-is-proved.md) is the short list.
 
 A heading is a crate, lowest first. A row is a function or a type:
 

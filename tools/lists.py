@@ -1,8 +1,8 @@
 #!/usr/bin/env python3
 """Writes the tables that documents have from the tree: crates, tests, benches, calls of the library and the like.
 
-A crate's row has the first sentence of its `//!` head and its line of crates.txt, that of a script or of a call the first
-sentence of the comment before it. A table is between two marks.
+A crate's row has the first sentence of its `//!` head and its line of crates.txt, that of a script or of a call the
+first sentence of the comment before it. A table is between two marks.
 
 Usage: tools/lists.py, or with --check to compare only. Its last line is 'N passed, M failed', a table each.
 """
@@ -78,12 +78,15 @@ def tests_crates():
 def parts():
     """The parts of the gate and those that run alone, with how many checks each makes."""
     listed = re.findall(r"^(gate|alone) +(\S+) +(.*?)(?: PROGRAM)?$", sources.read("tests/expected"), re.M)
+    known = {command.split(" ")[0] for _, _, command in listed}
     more = sorted(path for path in glob.glob("tests/*.sh", root_dir=sources.TOP)
-                  if os.access(os.path.join(sources.TOP, path), os.X_OK) and not any(path == command.split(" ")[0] for _, _, command in listed))
+                  if os.access(os.path.join(sources.TOP, path), os.X_OK) and path not in known)
     rows = []
     for where, number, command in [*listed, *(("alone", "", path) for path in more)]:
         path = command.split(" ")[0]
-        does = head_of_script(path) if "/" in path else "Every proof, the must-fail edits, the tests crates, each program on its `stdin`"
+        does = "Every proof, the must-fail edits, the tests crates, each program on its `stdin`"
+        if "/" in path:
+            does = head_of_script(path)
         rows.append([f"`{command}`", "" if where == "gate" else "by hand", number, does])
     return table(["Part", "Runs", "Checks", "What it does"], rows)
 
@@ -118,7 +121,8 @@ def files_with(pattern):
 
 def additions():
     rows = []
-    for median, kind, most, words in re.findall(r'^count(_median)? "([^"]+)" (\d+) (.*)$', sources.read("tests/adding.sh").replace("\\\n", ""), re.M):
+    counts = sources.read("tests/adding.sh").replace("\\\n", "")
+    for median, kind, most, words in re.findall(r'^count(_median)? "([^"]+)" (\d+) (.*)$', counts, re.M):
         pattern = rf"\b(?:{shlex.split(words)[2]})\b" if median else words.strip("'")
         name = re.findall(r"\w+", pattern.replace("\\b", "").replace("(?:", ""))[0]
         rows.append([kind, name, most, *files_with(rf"(?<!specs\.)(?<!proofs\.)(?:{pattern})")])
@@ -159,7 +163,8 @@ def documents():
     """The documents by reader, each with its first sentence."""
     rows = []
     for folder, reader in FOLDERS.items():
-        found = sorted(os.listdir(os.path.join(sources.TOP, "docs", folder)), key=lambda name: (name not in FIRST, name))
+        names = os.listdir(os.path.join(sources.TOP, "docs", folder))
+        found = sorted(names, key=lambda name: (name not in FIRST, name))
         for name in found:
             title, text = re.match(r"# (.*)\n\n((?:.+\n)+)", sources.read(f"docs/{folder}/{name}")).groups()
             text = re.sub(r"\[([^\]]*)\]\([^)]*\)", r"\1", text.replace("**", ""))
@@ -174,7 +179,8 @@ def count(pattern, root=sources.TOP):
 
 def scripts():
     paths = glob.glob("tests/scripts/*", root_dir=sources.TOP)
-    return f"There are {sum(not re.search(r'[.](stdout|profile|disk|left|before)$', path) for path in paths)} scripts.\n"
+    count = sum(not re.search(r"[.](stdout|profile|disk|left|before)$", path) for path in paths)
+    return f"There are {count} scripts.\n"
 
 
 def edits():

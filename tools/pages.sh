@@ -1,6 +1,6 @@
 #!/usr/bin/env bash
-# Writes what is made from the sources: the pages that tools/{contracts,calls,trust,lists,rules}.py write. Run it after a
-# change of a contract, a definition or a test. With --check it compares only.
+# Writes what is made from the sources: the pages that tools/{contracts,calls,trust,lists,rules}.py write. Run it after
+# a change of a contract, a definition or a test. With --check it compares only.
 # Usage: tools/pages.sh [--check]. Its last line is 'N passed, M failed'; it ends with 0 if none failed.
 set -u
 cd "$(dirname "$0")/.." || exit 1

@@ -16,9 +16,9 @@ the script's `.stdout`, as in
   [totals.claims: claimFile](..): "claim b 0" => `err 112`, "call a releaseFile 1" => `ok`
 Of two groups with the same front of a comment it takes the one that has the lines. A cell may have several tests, with
 `; ` between them. After the function `; body` may come, and the function whose body decides, or several, each after its
-own; it must if the first has no body. The contract of the first has to lead to the definition, by the names that it uses
-and those that their definitions use in turn. With --check it also plants a wrong cell of each kind in a row, which has
-to be found. Its last line is 'N passed, M failed', a row or a planted cell each.
+own; it must if the first has no body. The contract of the first has to lead to the definition, by the names that it
+uses and those that their definitions use in turn. With --check it also plants a wrong cell of each kind in a row, which
+has to be found. Its last line is 'N passed, M failed', a row or a planted cell each.
 """
 import ast
 import glob
@@ -97,7 +97,8 @@ def prose(cell):
     if path is None:
         raise Fault(f"there is no document {document}")
     number = line_of(path, rf"#+ {re.escape(heading)}$", f"heading {heading}")
-    return f"[{text}]({os.path.relpath(path, os.path.dirname(PAGE))}#{slug(heading)})" + quoted(words, under(path, number), text)
+    link = f"[{text}]({os.path.relpath(path, os.path.dirname(PAGE))}#{slug(heading)})"
+    return link + quoted(words, under(path, number), text)
 
 
 def definition(tree, text):

@@ -1,6 +1,7 @@
-/* Preloaded into a host. Records each call that locks, lengthens, writes, syncs or names a file, and what the host prints.
-   The environment says what else it does: CALLS names the file of the record, and of the call with this number, counted from
-   1, CALLS_KILL kills the host before it, CALLS_STOP stops the host before it, and CALLS_FAIL makes it fail with EIO. */
+/* Preloaded into a host. Records each call that locks, lengthens, writes, syncs or names a file, and what the host
+   prints. The environment says what else it does: CALLS names the file of the record, and of the call with this number,
+   counted from 1, CALLS_KILL kills the host before it, CALLS_STOP stops the host before it, and CALLS_FAIL makes it
+   fail with EIO. */
 #define _GNU_SOURCE
 #include <errno.h>
 #include <fcntl.h>
@@ -74,7 +75,9 @@ ssize_t pwrite(int descriptor, const void *bytes, size_t count, off_t at) {
     return is_done("write %zu at %ld", count, (long)at) ? syscall(SYS_pwrite64, descriptor, bytes, count, at) : -1;
 }
 
-ssize_t pwrite64(int descriptor, const void *bytes, size_t count, off64_t at) { return pwrite(descriptor, bytes, count, at); }
+ssize_t pwrite64(int descriptor, const void *bytes, size_t count, off64_t at) {
+    return pwrite(descriptor, bytes, count, at);
+}
 
 int fsync(int descriptor) { return sync_by(SYS_fsync, descriptor); }
 

@@ -10,7 +10,8 @@ static void refuses(void) {
                                   "[[spare]]\ncategory = \"CashDrawer\"\nflaky = [2, 1]\n";
     shop self;
     opens(&self);
-    for (size_t place = 0; place < sizeof none / sizeof none[0]; place++) drives(&self, none[place], KIJOLVAR_NO_DEVICE);
+    for (size_t place = 0; place < sizeof none / sizeof none[0]; place++)
+        drives(&self, none[place], KIJOLVAR_NO_DEVICE);
     done(&self, "", KIJOLVAR_NO_ORDER, NULL);
     kijolvar_close(self.till);
     wants("a profile", kijolvar_open((const uint8_t *)profile, strlen(profile), &self.till.at) == KIJOLVAR_OK);
@@ -48,7 +49,8 @@ static void waits(void) {
 static void goes_on(void) {
     shop self;
     opens(&self);
-    lines(&self, "call r printNormal 2 410a\ncall d openDrawer\nget d DrawerOpened\ncall r printNormal 2 420a\nshow r1\n",
+    lines(&self,
+          "call r printNormal 2 410a\ncall d openDrawer\nget d DrawerOpened\ncall r printNormal 2 420a\nshow r1\n",
           KIJOLVAR_WAITS, "");
     order(&self, "r1 print 410a");
     done(&self, "", KIJOLVAR_WAITS, "ok\n");

@@ -93,7 +93,8 @@ enum kij_code {
     KIJ_DISK_FAILED = 7,
     /** The file is shorter than a disk of totals. */
     KIJ_TOO_SMALL = 9,
-    /** The profile has no device of the name that has orders. */
+    /** The profile has no device of the name that has orders; or the device has no driver, or can't have one, as with
+     * `flaky` in the profile. */
     KIJ_NO_DEVICE = 13,
     /** The file isn't formatted: it has no totals. */
     KIJ_UNFORMATTED = 15,
@@ -114,7 +115,7 @@ enum kij_code {
     KIJ_BAD_ARGUMENT = 34,
     /** The property has another type, or the device another category. */
     KIJ_WRONG_TYPE = 35,
-    /** Another call of the same till is under way. */
+    /** Another call of the same till is under way, as when a driver calls its till. Nothing was done. */
     KIJ_IN_CALL = 36,
     /** The library answered something that this version doesn't know. The call was carried out. */
     KIJ_BAD_ANSWER = 37,
@@ -149,7 +150,9 @@ enum kij_code {
 const char *kij_strerror(kij_result result);
 
 /** Returns what the result of the till's last call means, in English: why that call was refused, if a control refused
- * it. Of any other result, and without a till, it is kij_strerror's text. The text is static. */
+ * it. Of KIJ_E_OFFLINE it says, too, why the port of the device isn't open, if it isn't: "The printer is off: No such
+ * file or directory." Such a text is lent; any other is static. Of any other result, and without a till, it is
+ * kij_strerror's text. */
 const char *kij_reason(const kij_till *till, kij_result result);
 
 /** Returns the name of a result's code, as "E_ILLEGAL" or "KIJ_BAD_PROFILE". KIJ_OK has "E_SUCCESS", and what is no
@@ -280,9 +283,9 @@ kij_result kij_files(const char *path, char *text, size_t room, size_t *needed, 
 
 /**
  * Copies a file of totals to a path where nothing is, also while a till has it open. The file is only read, and not
- * locked: again and again, until two readings in a row give the same bytes. They have to be sound. The copy appears whole
- * or not at all: it is written to a file beside it, with `.part` at its end, and synced before it gets its name. Its file
- * system must have hard links.
+ * locked: again and again, until two readings in a row give the same bytes. They have to be sound. The copy appears
+ * whole or not at all: it is written to a file beside it, with `.part` at its end, and synced before it gets its name.
+ * Its file system must have hard links.
  *
  * @param path the path of the file
  * @param to   the path of the copy, which is for its owner alone

@@ -960,6 +960,13 @@ kij_result kij_show_driver(kij_till *till, const char *device, kij_driver_view *
     return plain(drive == NULL ? KIJ_NO_DEVICE : KIJ_OK);
 }
 
+int kij_internal_port_error(const kij_till *till, const kij_control *control) {
+    if (till->has_opened || control->device.size == 0) return 0;
+    kij_drive *drive = drive_of(till->drives, control->device.text + 1, control->device.size - 1);
+    if (drive == NULL || kij_internal_port_is_open(port_of(drive))) return 0;
+    return port_of(drive)->error;
+}
+
 /* ---- Beginning and end ---- */
 
 /* What a device is, by what `show` prints of it. */

@@ -418,6 +418,10 @@ uint32_t kij_internal_kept_order(kij_till *till);
    hardware is. */
 void kij_internal_drive_again(kij_till *till, const char *name, size_t size);
 
+/* Why the port isn't open of the device on which a control was opened last (errno); 0 if it is open, if the device has
+   no driver with a port, or if that isn't known. */
+int kij_internal_port_error(const kij_till *till, const kij_control *control);
+
 /* Frees the drivers of a till, and closes their ports. */
 void kij_internal_end_drives(kij_till *till);
 

@@ -38,12 +38,13 @@ typedef enum kij_verb {
     KIJ_VERB_DETACH
 } kij_verb;
 
-/* A call that a control refused: its line, but for the name and the arguments, and what came of it. The method is that of
-   a call, or the property; or null. */
+/* A call that a control refused: its line, but for the name and the arguments, and what came of it. The method is that
+   of a call, or the property; or null. The text says why, if it isn't static; else it is empty. */
 typedef struct kij_refusal {
     kij_verb verb;
     const kij_word *method;
     kij_result result;
+    char text[200];
 } kij_refusal;
 
 /* A till: the library's, the file of its totals, the line that is written, and the answer that is read. */
@@ -72,7 +73,7 @@ struct kij_till {
     struct kij_drives *drives;
     /* Whether lines of an earlier call are held, since there was no memory to go on with them. */
     bool is_holding;
-    /* Whether orders are of output that waits: the line is one that works on it. */
+    /* Whether orders are of output that waits: the line is a `work` line. */
     bool is_working;
     /* Whether lines may have opened a control: on which device it is isn't known then. */
     bool has_opened;
@@ -224,10 +225,7 @@ static inline int kij_internal_carry(kij_till *till, const char *lines, size_t s
     }
     uint32_t code = kijolvar_carry_out(till->inner, &till->inner.at, (const uint8_t *)lines, size,
                                        (uint8_t *)till->text, till->text_room - 1, &needed);
-    if (code != KIJOLVAR_OK) {
-        till->is_working = size > 5 && memcmp(lines, "work ", 5) == 0 && memchr(lines, '\n', size - 1) == NULL;
-        found = kij_internal_settled(till, code, &needed);
-    }
+    if (code != KIJOLVAR_OK) found = kij_internal_settled(till, code, &needed);
     if (is_one && found == KIJ_OK && needed > 0) needed--;
     till->text_size = needed;
     till->text[needed] = 0;
@@ -254,6 +252,7 @@ static inline int kij_internal_run(kij_till *till, kij_verb verb, const kij_word
         int code = kij_internal_add_arguments(till, &at, arguments, count);
         if (code != KIJ_OK) return code;
     }
+    till->is_working = verb == KIJ_VERB_WORK;
     return kij_internal_carry(till, till->line, (size_t)(at - till->line), true);
 }
 
@@ -276,6 +275,10 @@ bool kij_internal_read_number(char **at, int64_t *number);
 
 /* Turns so many hex digits into bytes where they stand; `-` is none. */
 bool kij_internal_read_bytes(char *digits, size_t length, size_t *size);
+
+/* kij_properties.c: writes why the control refused the call that is noted, whose device has no open port for this
+   reason (errno). */
+void kij_internal_write_reason(kij_refusal *refusal, int why);
 
 /* Arguments. */
 static inline kij_argument kij_internal_number(int64_t number) {
@@ -324,8 +327,8 @@ int kij_internal_sync_first(int file);
 /* Reads a file, as many bytes as totals have: 0 or errno. */
 int kij_internal_read_file(int file, uint8_t *bytes, size_t *size);
 
-/* Makes a file with these bytes, for its owner alone, at a path where nothing is: 0, or errno, or a code of enum kij_code
-   with a minus. It appears whole or not at all. */
+/* Makes a file with these bytes, for its owner alone, at a path where nothing is: 0, or errno, or a code of enum
+   kij_code with a minus. It appears whole or not at all. */
 int kij_internal_put_file(const char *path, const uint8_t *bytes, size_t size);
 
 /* What the library's code means to who opens a file or a till. */

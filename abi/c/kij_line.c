@@ -299,10 +299,14 @@ static bool gives_up(const kij_control *control, kij_verb verb, const kij_word *
 }
 
 /* Keeps what a control refused. The device behind `open` is the caller's. */
-static void note_refusal(kij_till *till, kij_verb verb, const kij_word *method, kij_result result) {
-    till->refusal.verb = verb;
-    till->refusal.method = verb == KIJ_VERB_OPEN ? NULL : method;
-    till->refusal.result = result;
+static void note_refusal(const kij_control *control, kij_verb verb, const kij_word *method, kij_result result) {
+    kij_refusal *refusal = &control->till->refusal;
+    refusal->verb = verb;
+    refusal->method = verb == KIJ_VERB_OPEN ? NULL : method;
+    refusal->result = result;
+    refusal->text[0] = 0;
+    int why = result.code == KIJ_E_OFFLINE ? kij_internal_port_error(control->till, control) : 0;
+    if (why != 0) kij_internal_write_reason(refusal, why);
 }
 
 kij_result kij_internal_call(kij_control *control, kij_verb verb, const kij_word *method, const kij_argument *arguments,
@@ -329,7 +333,7 @@ kij_result kij_internal_call(kij_control *control, kij_verb verb, const kij_word
         control->is_open = true;
     }
     if (verb == KIJ_VERB_CLOSE && kij_internal_is_closed(result.code)) control->is_open = false;
-    if (result.code >= KIJ_E_CLOSED) note_refusal(till, verb, method, result);
+    if (result.code >= KIJ_E_CLOSED) note_refusal(control, verb, method, result);
     if (till->drives != NULL && is_done && gives_up(control, verb, method)) kij_internal_forget_orders(till, control);
     kij_internal_leave(till);
     return result;

@@ -153,8 +153,8 @@ static int set_up(int file, const kij_port *port) {
     return !is_serial || tcflush(file, TCIOFLUSH) == 0 ? 0 : errno;
 }
 
-/* Keeps a terminal line to this till: 0, EBUSY if another program has it, or errno. Nothing of the line is changed then,
-   since its bytes and settings are the other's. */
+/* Keeps a terminal line to this till: 0, EBUSY if another program has it, or errno. Nothing of the line is changed
+   then, since its bytes and settings are the other's. */
 static int take_line(int file) {
     if (flock(file, LOCK_EX | LOCK_NB) != 0) return errno == EWOULDBLOCK ? EBUSY : errno;
     /* That keeps out programs that lock nothing, unless they are root's. */
@@ -432,7 +432,8 @@ static void drop_unsent(int file) {
     (void)tcsetattr(file, TCSANOW, &found);
 }
 
-/* Drops what has come over a connection and nobody has read: with that the system would drop what it hasn't sent yet. */
+/* Drops what has come over a connection and nobody has read: with that the system would drop what it hasn't sent yet.
+   */
 static void drop_unread(int file) {
     char bytes[1024];
     for (int part = 0; part < KIJ_MOST_PARTS && recv(file, bytes, sizeof bytes, MSG_DONTWAIT) > 0; part++) continue;

@@ -4,6 +4,7 @@
 #endif
 #include "kij_internal.h"
 #include <errno.h>
+#include <stdio.h>
 #include <string.h>
 
 /* The row of a property if it has this shape, or null. */
@@ -81,10 +82,12 @@ static const kij_number_row own_codes[] = {
     {KIJ_NO_CATEGORY, KIJ_NO_ANSWER, "KIJ_NO_ANSWER",
      "The call was carried out, but there was no memory for its answer."},
     {KIJ_NO_CATEGORY, KIJ_DISK_FAILED, "KIJ_DISK_FAILED",
-     "The totals file failed: close the till; before you open the file again, read docs/reference/trouble.md, \"After a "
-     "failed sync\"."},
+     "The totals file failed: close the till; before you open the file again, read docs/reference/trouble.md, \"After "
+     "a failed sync\"."},
     {KIJ_NO_CATEGORY, KIJ_TOO_SMALL, "KIJ_TOO_SMALL", "The file is shorter than a disk of totals."},
-    {KIJ_NO_CATEGORY, KIJ_NO_DEVICE, "KIJ_NO_DEVICE", "The profile has no device of the name that has orders."},
+    {KIJ_NO_CATEGORY, KIJ_NO_DEVICE, "KIJ_NO_DEVICE",
+     "The profile has no device of the name that has orders; or the device has no driver, or can't have one, as with "
+     "`flaky` in the profile."},
     {KIJ_NO_CATEGORY, KIJ_UNFORMATTED, "KIJ_UNFORMATTED", "The file isn't formatted: it has no totals."},
     {KIJ_NO_CATEGORY, KIJ_DAMAGED, "KIJ_DAMAGED", "The totals in the file are damaged: keep it, and work on a copy."},
     {KIJ_NO_CATEGORY, KIJ_MOVED, "KIJ_MOVED", "The totals in the file have layout 2 already."},
@@ -95,7 +98,8 @@ static const kij_number_row own_codes[] = {
     {KIJ_NO_CATEGORY, KIJ_BAD_ARGUMENT, "KIJ_BAD_ARGUMENT", "An argument can't be passed on to the library."},
     {KIJ_NO_CATEGORY, KIJ_WRONG_TYPE, "KIJ_WRONG_TYPE",
      "The property has another type, or the device another category."},
-    {KIJ_NO_CATEGORY, KIJ_IN_CALL, "KIJ_IN_CALL", "Another call of the same till is under way."},
+    {KIJ_NO_CATEGORY, KIJ_IN_CALL, "KIJ_IN_CALL",
+     "Another call of the same till is under way: wait until it has returned. A driver can't call its till."},
     {KIJ_NO_CATEGORY, KIJ_BAD_ANSWER, "KIJ_BAD_ANSWER",
      "The library answered something that this version doesn't know."},
     {KIJ_NO_CATEGORY, KIJ_DISCARDED, "KIJ_DISCARDED", "The control was given back."},
@@ -175,11 +179,26 @@ static bool are_same(kij_result one, kij_result other) {
     return one.code == other.code && one.extended == other.extended && one.category == other.category;
 }
 
+/* Why a call was refused, by what the code means of it. */
+static const char *static_reason(const kij_refusal *refusal) {
+    for (size_t place = 0; place < kij_internal_reason_count; place++)
+        if (is_reason(&kij_internal_reasons[place], refusal)) return kij_internal_reasons[place].text;
+    return kij_strerror(refusal->result);
+}
+
+void kij_internal_write_reason(kij_refusal *refusal, int why) {
+    const char *said = static_reason(refusal), *words = own_words(why);
+    size_t size = strlen(said);
+    if (words == NULL) return;
+    if (size > 0 && said[size - 1] == '.') size--;
+    snprintf(refusal->text, sizeof refusal->text, "%.*s: %s.", (int)size, said, words);
+}
+
 const char *kij_reason(const kij_till *till, kij_result result) {
-    size_t count = till != NULL && are_same(till->refusal.result, result) ? kij_internal_reason_count : 0;
-    for (const kij_reason_row *row = kij_internal_reasons; row < kij_internal_reasons + count; row++)
-        if (is_reason(row, &till->refusal)) return row->text;
-    return kij_strerror(result);
+    if (till == NULL || !are_same(till->refusal.result, result)) return kij_strerror(result);
+    /* That of an earlier call is there still behind one that wasn't refused. */
+    bool has_text = result.code != KIJ_OK && till->refusal.text[0] != 0;
+    return has_text ? till->refusal.text : static_reason(&till->refusal);
 }
 
 const char *kij_code_name(int code) {

@@ -149,8 +149,8 @@ kij_result kij_files(const char *path, char *text, size_t room, size_t *needed, 
     return result;
 }
 
-/* Reads a file that a till may be writing: 0, or errno. It has had these bytes at a moment, since two readings gave them,
-   one right after the other. There is room for both. EWOULDBLOCK if it changes each time. */
+/* Reads a file that a till may be writing: 0, or errno. It has had these bytes at a moment, since two readings gave
+   them, one right after the other. There is room for both. EWOULDBLOCK if it changes each time. */
 static int read_steady(int file, uint8_t *bytes, size_t *size) {
     uint8_t *before = bytes + KIJOLVAR_DISK_LENGTH;
     size_t count = 0;

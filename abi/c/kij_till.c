@@ -75,9 +75,10 @@ void kij_close(kij_till *till) {
     free_till(till);
 }
 
-/* What a line is to the drivers, if it is carried out: it attaches something to a device, it gives up what a printer
-   hasn't printed, or it does that if it delivers the event of an output that failed. */
-typedef enum effect { NO_EFFECT, ATTACHES, GIVES_UP, MAY_GIVE_UP } effect;
+/* What a line is to the drivers: its orders are of output that waits. Or, if it is carried out: it attaches something
+   to a device, it gives up what a printer hasn't printed, or it does that if it delivers the event of an output that
+   failed. */
+typedef enum effect { NO_EFFECT, WORKS, ATTACHES, GIVES_UP, MAY_GIVE_UP } effect;
 
 /* A word in a line. */
 typedef struct line_word {
@@ -104,23 +105,30 @@ static effect effect_of(const char *line, const char *end, line_word *name) {
     line_word verb = next_word(&line, end);
     *name = next_word(&line, end);
     if (name->size == 0) return NO_EFFECT;
+    if (is_word(verb, "work")) return WORKS;
     if (is_word(verb, "attach")) return ATTACHES;
     if (is_word(verb, "call") && is_word(next_word(&line, end), "clearOutput")) return GIVES_UP;
     return is_word(verb, "deliver") && is_word(next_word(&line, end), "clear") ? MAY_GIVE_UP : NO_EFFECT;
 }
 
 /* How many bytes lines have up to the first one that is something to the drivers, and with it; all of them if there is
-   none. */
+   none. One that works on output that waits is alone. */
 static size_t effect_end(const char *lines, size_t size, effect *found, line_word *name) {
     const char *at = lines, *end = lines + size;
     *found = NO_EFFECT;
     while (at < end) {
+        const char *begin = at;
         const char *feed = (const char *)memchr(at, '\n', (size_t)(end - at));
         const char *last = feed == NULL ? end : feed;
         /* The library drops a carriage return before a line feed. */
         if (feed != NULL && last > at && last[-1] == '\r') last--;
         *found = effect_of(at, last, name);
         at = feed == NULL ? end : feed + 1;
+        if (*found == WORKS && begin > lines) {
+            *found = NO_EFFECT;
+            at = begin;
+            break;
+        }
         if (*found != NO_EFFECT) break;
     }
     return (size_t)(at - lines);
@@ -163,8 +171,9 @@ static const kij_control *control_named(const kij_till *till, line_word name) {
     return control;
 }
 
-/* Does what a line that was carried out is to the drivers. */
-static void apply_effect(kij_till *till, effect what, line_word name) {
+/* Does what a line is to the drivers, if it was carried out, by the code of the lines and their answer. */
+static void apply_effect(kij_till *till, int code, effect what, line_word name) {
+    if (what == NO_EFFECT || what == WORKS || !has_effect(till, code, what)) return;
     if (what == ATTACHES) kij_internal_drive_again(till, name.at, name.size);
     else kij_internal_forget_orders(till, control_named(till, name));
 }
@@ -175,17 +184,17 @@ static int carry_out(kij_till *till, const char *lines, size_t size) {
     kij_buffer front = {NULL, 0, 0};
     line_word name = {NULL, 0};
     effect what = NO_EFFECT;
-    size_t end = effect_end(lines, size, &what, &name);
-    int code = kij_internal_carry_out(till, lines, end);
-    while (what != NO_EFFECT) {
-        if (has_effect(till, code, what)) apply_effect(till, what, name);
+    int code = KIJ_OK;
+    for (;;) {
+        size_t end = effect_end(lines, size, &what, &name);
+        till->is_working = what == WORKS;
+        code = kij_internal_carry_out(till, lines, end);
+        apply_effect(till, code, what, name);
         lines += end;
         size -= end;
         if (size == 0 || code != KIJ_OK) break;
         if (!kij_internal_buffer_add(&front, till->text, till->text_size)) code = KIJ_NO_ANSWER;
         if (code != KIJ_OK) break;
-        end = effect_end(lines, size, &what, &name);
-        code = kij_internal_carry_out(till, lines, end);
     }
     return put_before(till, &front, code);
 }

@@ -1,8 +1,8 @@
-/* Refuses each allocation in turn, over a small day with totals in memory and one with totals in a file, and a drawer of the
-   host's. Each answer is a code or a line of docs/reference/console.md, the drawer's order comes if it was opened, and
-   nothing is left.
-   The file opens again: it has what was acknowledged, and nothing of what was refused. The same of what is said without a
-   till, and of the move to layout 2: the file is as it was, or is moved. */
+/* Refuses each allocation in turn, over a small day with totals in memory and one with totals in a file, and a drawer
+   of the host's. Each answer is a code or a line of docs/reference/console.md, the drawer's order comes if it was
+   opened, and nothing is left.
+   The file opens again: it has what was acknowledged, and nothing of what was refused. The same of what is said without
+   a till, and of the move to layout 2: the file is as it was, or is moved. */
 #include "kijolvar.h"
 #include <stdbool.h>
 #include <stdio.h>
@@ -60,8 +60,8 @@ static uint32_t settle(kijolvar_till *till) {
 /* What a line did. A line whose answer is missing may have done its work or not. */
 enum effect { NOTHING, ALL, UNKNOWN };
 
-/* What a line did, counted from 0, by an answer that is the whole or was cut. After the line where it was cut no line is
-   carried out. */
+/* What a line did, counted from 0, by an answer that is the whole or was cut. After the line where it was cut no line
+   is carried out. */
 static enum effect effect(const uint8_t *text, size_t count, int line, bool is_whole) {
     size_t at = 0, end;
     for (; at < count && line > 0; at++) line -= text[at] == '\n';
@@ -94,9 +94,10 @@ static long found[3];
 
 /* Whether the file opens, and has what the day's lines created and wrote. */
 static bool holds(enum effect created, enum effect written) {
-    static const char look[] = "new t HardTotals\nopen t t1\nset t DeviceEnabled true\nget t NumberOfFiles\ncall t find 61\n"
-                               "call t read 1 0 4\n";
-    static const char *const wanted[] = {"ok\nok\nok\nok 0\nerr 109\nerr 106\n", "ok\nok\nok\nok 1\nok 1 4\nok 00000000\n",
+    static const char look[] = "new t HardTotals\nopen t t1\nset t DeviceEnabled true\nget t NumberOfFiles\n"
+                               "call t find 61\ncall t read 1 0 4\n";
+    static const char *const wanted[] = {"ok\nok\nok\nok 0\nerr 109\nerr 106\n",
+                                         "ok\nok\nok\nok 1\nok 1 4\nok 00000000\n",
                                          "ok\nok\nok\nok 1\nok 1 4\nok 00000001\n"};
     kijolvar_till till = {NULL};
     uint8_t text[64];
@@ -111,7 +112,8 @@ static bool holds(enum effect created, enum effect written) {
     for (int place = 0; place < 3; place++) {
         if (needed != strlen(wanted[place]) || memcmp(text, wanted[place], needed) != 0) continue;
         found[place]++;
-        return (created == UNKNOWN || (place > 0) == (created == ALL)) && (written == UNKNOWN || (place == 2) == (written == ALL));
+        bool is_created = created == UNKNOWN || (place > 0) == (created == ALL);
+        return is_created && (written == UNKNOWN || (place == 2) == (written == ALL));
     }
     return false;
 }
@@ -132,7 +134,8 @@ static bool day(long count, bool in_file) {
         is_formatted = in_file && code == KIJOLVAR_OK;
         if (code == KIJOLVAR_OK) code = kijolvar_host(till, &till.at, (const uint8_t *)"d1", 2);
         if (code == KIJOLVAR_OK) {
-            code = kijolvar_carry_out(till, &till.at, (const uint8_t *)lines, strlen(lines), text, sizeof text, &needed);
+            code = kijolvar_carry_out(till, &till.at, (const uint8_t *)lines, strlen(lines), text, sizeof text,
+                                      &needed);
             if (code == KIJOLVAR_ERRANDS && (code = settle(&till)) == KIJOLVAR_OK)
                 code = kijolvar_answer(till, &till.at, text, sizeof text, &needed);
             bool is_known = code == KIJOLVAR_OK || code == KIJOLVAR_CUT;
@@ -235,7 +238,8 @@ int main(void) {
     long in_memory = whole(false), in_file = whole(true);
     printf("%ld and %ld allocations\n", in_memory, in_file);
     for (size_t place = 0; place < sizeof questions / sizeof questions[0]; place++)
-        printf("%ld%s", asks(&questions[place]), place + 1 < sizeof questions / sizeof questions[0] ? ", " : " without a till\n");
+        printf("%ld%s", asks(&questions[place]),
+               place + 1 < sizeof questions / sizeof questions[0] ? ", " : " without a till\n");
     while (!moves(count))
         if (++count == 10000) exit(printf("never moved\n"));
     printf("%ld for the move\n", count);

@@ -51,8 +51,8 @@ int main(void) {
     memset(text, 'x', sizeof text);
     wants("whole", kijolvar_answer(till, &till.at, text, whole, &needed) == KIJOLVAR_OK && needed == whole);
     wants("whole, and no byte more", memcmp(text, wanted, whole) == 0 && text[whole] == 'x');
-    wants("carried out once", kijolvar_carry_out(till, &till.at, (const uint8_t *)"deliver d", 9, text, 64, &needed) == KIJOLVAR_OK
-        && needed == 5 && memcmp(text, "none\n", 5) == 0);
+    uint32_t code = kijolvar_carry_out(till, &till.at, (const uint8_t *)"deliver d", 9, text, 64, &needed);
+    wants("carried out once", code == KIJOLVAR_OK && needed == 5 && memcmp(text, "none\n", 5) == 0);
     wants("nothing", kijolvar_carry_out(till, &till.at, NULL, 0, NULL, 0, &needed) == KIJOLVAR_OK && needed == 0);
     kijolvar_close(till);
     printf("as they should be\n");

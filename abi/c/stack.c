@@ -1,6 +1,6 @@
-/* Measures the stack that each export takes, and then runs the same calls on a thread whose stack has 128 KiB. Then it reads
-   a profile that is nested as deep as may be, on a thread with 4 MiB. Usage: stack SCRIPT .., with scripts for the
-   built-in profile. It prints the bytes of each, and ends with 'enough' if none takes more than README.md says. */
+/* Measures the stack that each export takes, and then runs the same calls on a thread whose stack has 128 KiB. Then it
+   reads a profile that is nested as deep as may be, on a thread with 4 MiB. Usage: stack SCRIPT .., with scripts for
+   the built-in profile. It prints the bytes of each, and ends with 'enough' if none takes more than README.md says. */
 #define _GNU_SOURCE
 #include "kijolvar.h"
 #include <pthread.h>
@@ -67,7 +67,8 @@ static void settles(kijolvar_till *till) {
 static void carries_out(kijolvar_till *till, const char *lines, size_t length) {
     size_t needed = 0;
     uint32_t code;
-    MEASURED(CARRY_OUT, kijolvar_carry_out(*till, &till->at, (const uint8_t *)lines, length, text, sizeof text, &needed));
+    MEASURED(CARRY_OUT,
+             kijolvar_carry_out(*till, &till->at, (const uint8_t *)lines, length, text, sizeof text, &needed));
     if (code == KIJOLVAR_ERRANDS) settles(till), code = KIJOLVAR_OK;
     if (code != KIJOLVAR_OK) fails("a line's code");
     MEASURED(ANSWER, kijolvar_answer(*till, &till->at, text, sizeof text, &needed));
@@ -120,7 +121,8 @@ static void sends(void) {
         const uint8_t *line = (const uint8_t *)orders[place];
         MEASURED(DRIVE, kijolvar_drive(till, &till.at, (const uint8_t *)devices[place], 2));
         if (code != KIJOLVAR_OK) fails("a driven device");
-        MEASURED(CARRY_OUT, kijolvar_carry_out(till, &till.at, line, strlen(orders[place]), text, sizeof text, &needed));
+        MEASURED(CARRY_OUT,
+                 kijolvar_carry_out(till, &till.at, line, strlen(orders[place]), text, sizeof text, &needed));
         if (code != KIJOLVAR_WAITS) fails("a line that waits");
         MEASURED(ORDER_BYTES, kijolvar_order_bytes(till, &till.at, &usual, 1, 5, text, sizeof text, &needed));
         if (code != KIJOLVAR_OK || needed == 0) fails("the bytes of an order");
@@ -156,13 +158,15 @@ static void begins(void) {
     size_t length = 0;
     for (int number = 0; number < 32; number++)
         length += (size_t)snprintf(profile + length, sizeof profile - length,
-                                   "[[device]]\nname = \"r%d\"\ncategory = \"POSPrinter\"\nchars = 32\nlines = 300\nnear = 20\n", number);
+                                   "[[device]]\nname = \"r%d\"\ncategory = \"POSPrinter\"\nchars = 32\nlines = 300\n"
+                                   "near = 20\n", number);
     opens("", KIJOLVAR_OK);
     opens(profile, KIJOLVAR_OK);
     opens("x = 1", KIJOLVAR_BAD_PROFILE);
 }
 
-/* A profile that is refused: tables within tables, each under a name of 80 parts, as deep as the reader of TOML goes. */
+/* A profile that is refused: tables within tables, each under a name of 80 parts, as deep as the reader of TOML goes.
+   */
 static void *nests(void *unused) {
     static char profile[32768];
     char *at = stpcpy(profile, "x = ");

@@ -1,7 +1,8 @@
 #!/usr/bin/env python3
 """Serves a counter to look at, on this machine alone. Usage: serve.py libkijolvar.so [PORT]; port 0 takes a free one.
 
-The page asks by POST /type (lines), /scan (a code) and /pay, each answered with the whole state as JSON, as GET /state is.
+The page asks by POST /type (lines), /scan (a code) and /pay, each answered with the whole state as JSON, as GET /state
+is.
 """
 import http.server
 import json

@@ -169,7 +169,8 @@ class Shop(Till):
         if shown is None:
             return None
         characters, attributes = shown.split()
-        return {"columns": self.columns, "characters": bytes.fromhex(characters).decode("ascii"), "attributes": attributes}
+        shown = bytes.fromhex(characters).decode("ascii")
+        return {"columns": self.columns, "characters": shown, "attributes": attributes}
 
     def printer(self):
         shown = self.peek("show printer")

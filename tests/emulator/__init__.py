@@ -10,5 +10,5 @@ from .display import Display
 from .printer import Cut, Feed, HearingPrinter, LatePrinter, Line, Printer, first_strange
 from .scanner import Scanner
 
-__all__ = ["Cut", "Display", "Feed", "HearingPrinter", "LatePrinter", "Line", "Printer", "PtyCable", "Scanner", "SilentHost",
-           "TcpCable", "first_strange", "take_unknown"]
+__all__ = ["Cut", "Display", "Feed", "HearingPrinter", "LatePrinter", "Line", "Printer", "PtyCable", "Scanner",
+           "SilentHost", "TcpCable", "first_strange", "take_unknown"]

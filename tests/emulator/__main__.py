@@ -10,8 +10,8 @@ It prints the port first, and each command that it doesn't know on standard erro
 `cover closed`, `paper LINES`, `drawer open`, `drawer closed`, `jam on`, `jam off`, `plug out`, `plug in`, `hang on`,
 `hang off`, `mute on`, `mute off` (its answers are lost), `slow SECONDS` (for each line), `garbage HEX`, `scan TEXT`,
 `after BYTES WORDS ..` (the same once so many more bytes are worked off), `wait` (until all is worked off, or for 5
-seconds), `show`, which prints what is on the paper or the display, and `pulses`, which prints the pulses of the drawer's
-connector: pin, on and off.
+seconds), `show`, which prints what is on the paper or the display, and `pulses`, which prints the pulses of the
+drawer's connector: pin, on and off.
 """
 import argparse
 import os

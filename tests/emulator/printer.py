@@ -32,8 +32,8 @@ class Feed:
 
 
 def first_strange(receipt, runs, wanted):
-    """The place of the first item of a receipt that isn't as it is wanted, or None. The runs are those of a printer: from
-    each on, all that was sent has to be there again."""
+    """The place of the first item of a receipt that isn't as it is wanted, or None. The runs are those of a printer:
+    from each on, all that was sent has to be there again."""
     # How many items are printed, and how many were before each run that isn't there again yet.
     states, doubts = {(0, ())}, {run.start for run in runs}
     for place, item in enumerate(receipt):

@@ -1,6 +1,7 @@
-/* What an order costs through the driver in C, beside a bare round trip of the same bytes over the same port: printNormal
-   of a line, against writing its bytes and reading the acknowledgement. They take turns, 20 rounds of 100 each, and the
-   medians of all count. Usage: cost PORT. It ends with 1 if an order costs more than 1.3 times as much. */
+/* What an order costs through the driver in C, beside a bare round trip of the same bytes over the same port:
+   printNormal of a line, against writing its bytes and reading the acknowledgement. They take turns, 20 rounds of 100
+   each, and the medians of all count. Usage: cost PORT. It ends with 1 if an order costs more than 1.3 times as much.
+   */
 #ifndef _GNU_SOURCE
 #define _GNU_SOURCE
 #endif
@@ -15,7 +16,8 @@
 
 enum { TIMES = 20 * 100 };
 
-static const char profile[] = "[[device]]\nname = \"r1\"\ncategory = \"POSPrinter\"\nchars = 42\nlines = 1000\nnear = 20\n";
+static const char profile[] = "[[device]]\nname = \"r1\"\ncategory = \"POSPrinter\"\nchars = 42\nlines = 1000\n"
+                              "near = 20\n";
 static const char line[] = "A line of the length that lines often have\n";
 
 static void wants(const char *what, bool holds) {

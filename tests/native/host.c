@@ -11,7 +11,7 @@
    says WORDS;WORDS  what happens there next
    there yes|no      whether the device is there
    reads TYPE HEX    a code that it reads next; or a failed scan, for `fault` in place of the type
-   calls             whether the till may be called from the driver's next order
+   calls             the driver calls its till with each order from now on: `did` is what that came to
    run TIMEOUT       kij_run_devices: `true` or `false`; without an end by -1
    state DEVICE      kij_show_driver: whether it is online, and how many orders were printed late
    why DEVICE        kij_show_driver: why its port couldn't be opened or was lost the last time, as errno

@@ -364,7 +364,8 @@ static void answered(shop *self, const char *name, const char *text, const char 
     printf("failed: %s\n  wanted: %s  found:  %s", name, wanted, self->answer);
 }
 
-/* How many bytes the device got since it was asked last. Those that are wanted may come late, as the system may be busy. */
+/* How many bytes the device got since it was asked last. Those that are wanted may come late, as the system may be
+   busy. */
 static long got(const shop *self, long wanted) {
     char bytes[100];
     struct pollfd waiting = {self->other, POLLIN, 0};

@@ -1026,10 +1026,20 @@ static void says(const char *name, const char *wanted, kij_result result) {
     printf("failed: %s\n  wanted: %s\n  found:  %s\n", name, wanted, kij_strerror(result));
 }
 
+static bool is_refused(void *context, const kij_order *order) {
+    (void)context, (void)order;
+    return false;
+}
+
 /* A text is true of each call that gives its result. */
 static void try_texts(const char *folder) {
     const char *missing = "The file of the totals isn't there. If it was to be created, its folder isn't, or /proc.";
     const char *another = "The property has another type, or the device another category.";
+    const char *undriven = "The profile has no device of the name that has orders; or the device has no driver, or "
+                           "can't have one, as with `flaky` in the profile.";
+    const char *flaky = "[[device]]\nname = \"d1\"\ncategory = \"CashDrawer\"\nflaky = [1, 1]\n";
+    kij_driver driver;
+    kij_driver_view view;
     char path[4096];
     kij_till *till = NULL;
     kij_control *drawer = NULL;
@@ -1046,6 +1056,14 @@ static void try_texts(const char *folder) {
     says("a printer is no drawer", another, kij_show_drawer(till, "r1", &is_open));
     told("a control", KIJ_OK, kij_start(till, KIJ_CASH_DRAWER, "d1", KIJ_UNCLAIMED, &drawer).code);
     says("a number is no flag", another, kij_get_bool(drawer, KIJ_PROP_STATE, &is_open));
+    says("a simulated device has no driver", undriven, kij_show_driver(till, "p1", &view));
+    says("no device to host", undriven, kij_host(till, "p9"));
+    kij_close(till);
+    memset(&driver, 0, sizeof driver);
+    driver.category = KIJ_CASH_DRAWER;
+    driver.carry_out = is_refused;
+    told("a till with a flaky drawer", KIJ_OK, kij_open(flaky, NULL, KIJ_EXISTING, &till).code);
+    says("a flaky drawer has no driver", undriven, kij_driver_open(till, "d1", &driver, NULL));
     kij_close(till);
 }
 
@@ -1104,8 +1122,50 @@ static void try_reasons(void) {
     kij_close(till);
 }
 
-/* A null path stands for memory with KIJ_EXISTING alone. With another flag it is a mistake, as getenv of a variable that
-   isn't set. */
+/* Whether a display's text is refused, and for which reason; if it isn't, the reason is that of no refusal. */
+static void shows(const char *name, int code, const char *wanted, kij_till *till, kij_control *display) {
+    kij_result result = kij_display_text(display, "4.50", KIJ_ZERO_ENDED, KIJ_DISP_DT_NORMAL);
+    told(name, code, result.code);
+    gives_reason(name, wanted, till, result);
+}
+
+/* A call that is refused since its device is off says why the port isn't open. Of one that is open, or may be another
+   device's, it says nothing. */
+static void try_offline_reasons(const char *folder) {
+    static const kij_result done = {KIJ_OK, 0, KIJ_LINE_DISPLAY};
+    kij_display_settings settings = KIJ_DISPLAY_SETTINGS;
+    kij_till *till = NULL;
+    kij_control *display = NULL;
+    const char *answer = NULL;
+    char path[4096];
+    settings.pause = 0;
+    snprintf(path, sizeof path, "%s/display-that-comes", folder);
+    told("a till", KIJ_OK, kij_open(NULL, NULL, KIJ_EXISTING, &till).code);
+    told("a display that isn't there", KIJ_OK, kij_serial_display_open(till, "p1", path, &settings).code);
+    told("its control", KIJ_OK, kij_start(till, KIJ_LINE_DISPLAY, "p1", KIJ_CLAIMED, &display).code);
+    shows("a display that isn't there", KIJ_E_OFFLINE, "The display is off: No such file or directory.", till, display);
+    told("a folder in its place", 0, mkdir(path, 0700));
+    told("the folder is no device", KIJ_OK, kij_run_devices(till, 0, NULL).code);
+    shows("a folder in its place", KIJ_E_OFFLINE, "The display is off: Is a directory.", till, display);
+    told("the folder goes", 0, rmdir(path));
+    told("a device in its place", 0, symlink("/dev/null", path));
+    told("the device is found", KIJ_OK, kij_run_devices(till, 0, NULL).code);
+    shows("a device", KIJ_OK, kij_strerror(done), till, display);
+    told("it is switched off", KIJ_OK, kij_input_power(till, "p1", false).code);
+    shows("a device that is off", KIJ_E_OFFLINE, "The display is off.", till, display);
+    kij_close(till);
+    told("no device", 0, unlink(path));
+    told("another till", KIJ_OK, kij_open(NULL, NULL, KIJ_EXISTING, &till).code);
+    told("its display", KIJ_OK, kij_serial_display_open(till, "p1", path, &settings).code);
+    told("its control", KIJ_OK, kij_start(till, KIJ_LINE_DISPLAY, "p1", KIJ_CLAIMED, &display).code);
+    shows("it is missing", KIJ_E_OFFLINE, "The display is off: No such file or directory.", till, display);
+    told("a line that may open a control", KIJ_OK, kij_carry_out(till, "# open k1", 9, &answer).code);
+    shows("nobody knows which display it is", KIJ_E_OFFLINE, "The display is off.", till, display);
+    kij_close(till);
+}
+
+/* A null path stands for memory with KIJ_EXISTING alone. With another flag it is a mistake, as getenv of a variable
+   that isn't set. */
 static void try_lost_path(void) {
     kij_till *const none = (kij_till *)&failed;
     kij_till *till = none;
@@ -1367,6 +1427,7 @@ int main(int count, char **words) {
     try_lost_path();
     try_texts(words[1]);
     try_reasons();
+    try_offline_reasons(words[1]);
     try_totals(path);
     try_link(words[1]);
     snprintf(forked, sizeof forked, "%s/totals-without-room", words[1]);

@@ -50,8 +50,8 @@ class Shop:
         self.step(f"call a rename {file[0]} {file[1].hex()}")
 
     def edit(self, most, pending):
-        """Adds a write or a setAll that changes something to the bytes of files that are pending. Its line, or nothing where
-        there is no byte to change."""
+        """Adds a write or a setAll that changes something to the bytes of files that are pending. Its line, or nothing
+        where there is no byte to change."""
         file = self.chance.choice(self.files)
         handle, kept = file[0], pending.get(file[0], file[2])
         if not kept:

@@ -1,18 +1,21 @@
 """What a power cut may leave of a file, by a record of what a program did to it.
 
-A cut comes after any entry of the record. What was written or lengthened before the last sync of the file is there. Each later
-write is there or not, or a front or a back of it is, or some of its sectors or bytes. Each later length is the old one, the new
-one or one between. A file that was created is there for sure once its folder was synced. No order of writes is kept."""
+A cut comes after any entry of the record. What was written or lengthened before the last sync of the file is there.
+Each later write is there or not, or a front or a back of it is, or some of its sectors or bytes. Each later length is
+the old one, the new one or one between. A file that was created is there for sure once its folder was synced. No order
+of writes is kept."""
 import collections
 import random
 import struct
 
 SECTOR, PAGE = 512, 4096
-# Entries of a record: C creates the file, N creates one without a name, L gives it its name, T sets its length, W writes, S syncs
-# it, D syncs its folder, A writes to standard output, X ends the program well (the driver adds it); ? can't be replayed.
+# Entries of a record: C creates the file, N creates one without a name, L gives it its name, T sets its length, W
+# writes, S syncs it, D syncs its folder, A writes to standard output, X ends the program well (the driver adds it); ?
+# can't be replayed.
 Entry = collections.namedtuple("Entry", "kind at text")
-# A moment at which the power may be cut: the number of entries before it, the bytes that are synced (None: no file), the writes
-# and lengths since, whether the file has its name, whether it may be missing, and the bytes that a reader without a cut sees.
+# A moment at which the power may be cut: the number of entries before it, the bytes that are synced (None: no file),
+# the writes and lengths since, whether the file has its name, whether it may be missing, and the bytes that a reader
+# without a cut sees.
 Moment = collections.namedtuple("Moment", "number kept loose has_name may_miss seen")
 
 
@@ -118,8 +121,8 @@ ANY = OLD_OR_NEW + ("gates", "any", "noise", "fill")
 
 
 def plans(chance, moment, ways, budget):
-    """Ways to cut each loose entry (None: it is not there), first of all each subset of whole ones, and each of the last eight
-    cut alone."""
+    """Ways to cut each loose entry (None: it is not there), first of all each subset of whole ones, and each of the
+    last eight cut alone."""
     count = len(moment.loose)
     for subset in range(1 << count) if count <= 7 else ():
         yield ["whole" if subset >> place & 1 else None for place in range(count)]
@@ -164,18 +167,20 @@ class Marks:
         if len(image) != len(moment.kept):
             return hash(bytes(image))
         if self.kept is not moment.kept:
-            self.kept, self.pages = moment.kept, [self.page(moment.kept, page) for page in range(-(-len(moment.kept) // PAGE))]
+            self.kept = moment.kept
+            self.pages = [self.page(moment.kept, page) for page in range(-(-len(moment.kept) // PAGE))]
             self.total = sum(self.pages)
         touched = set()
         for entry in moment.loose:
             if entry.kind == "W":
                 touched.update(range(entry.at // PAGE, (entry.at + len(entry.text) - 1) // PAGE + 1))
-        return hash(self.total + sum(self.page(image, page) - self.pages[page] for page in touched if page < len(self.pages)))
+        changed = sum(self.page(image, page) - self.pages[page] for page in touched if page < len(self.pages))
+        return hash(self.total + changed)
 
 
 def states(chance, moment, ways, budget, marks, share=1.0):
-    """The files that a cut at a moment may leave, each once, with its number and the ways of its entries; of them a share, by
-    chance."""
+    """The files that a cut at a moment may leave, each once, with its number and the ways of its entries; of them a
+    share, by chance."""
     found = set()
     if moment.may_miss and chance.random() < share:
         yield None, 0, "no file"

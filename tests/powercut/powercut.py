@@ -1,6 +1,7 @@
 #!/usr/bin/env python3
 """Cuts the power at every moment of what the program and a wrapper do to a totals file. tests/powercut.sh says more.
-Usage: powercut.py FOLDER STEP SEED PROGRAM LIBRARY, where FOLDER has recorder.so. Its last line is 'N passed, M failed'."""
+Usage: powercut.py FOLDER STEP SEED PROGRAM LIBRARY, where FOLDER has recorder.so. Its last line is 'N passed, M
+failed'."""
 import collections
 import os
 import pathlib
@@ -23,15 +24,15 @@ UNMADE = [reader.ABSENT, reader.SHORT, reader.UNFORMATTED, NO_FILES]
 RECORD, RECORD_GATE, CLOSED_GATE, IMAGE, OPEN_GATE = ("a record", "a record's open gate", "a slot's closed gate", "an image",
                                                       "a slot's open gate")
 FIRST_IMAGE, FOLDER, OPENING = "the first image", "the folder", "an opening after a kill"
-# Without one of these none does. Before the first gate opens, nothing counts yet, and a later sync settles their writes too.
-# A program sets the length, or writes so many zero bytes.
+# Without one of these none does. Before the first gate opens, nothing counts yet, and a later sync settles their writes
+# too. A program sets the length, or writes so many zero bytes.
 LENGTH, ALL_GATES = "the length", "all closed gates"
 # Before this one nothing is loose.
 NOTHING = "nothing"
 
-# A record of a program, and what has to be found: `allowed` gives the outcomes by the number of entries before a moment, `syncs` the
-# numbers of the syncs to leave out, by what they are of, and `harmless` those kinds of which no cut shows it. Moments before
-# `first` are another scenario's.
+# A record of a program, and what has to be found: `allowed` gives the outcomes by the number of entries before a
+# moment, `syncs` the numbers of the syncs to leave out, by what they are of, and `harmless` those kinds of which no cut
+# shows it. Moments before `first` are another scenario's.
 Scenario = collections.namedtuple("Scenario", "name start entries allowed ways syncs harmless first")
 
 # The lines by which a run goes on after a fault, how often, and the last one.
@@ -97,8 +98,8 @@ class Bench:
         return [sys.executable, "-B", str(HERE / "wrapper.py"), self.library, str(self.file)]
 
     def talk(self, words, batches=(), stop=0, fault=(0, 0)):
-        """Runs words, recorded, with batches of lines, each written once the one before is answered: the answers and the status.
-        A fault is the number of the first write or sync that fails, and how many do."""
+        """Runs words, recorded, with batches of lines, each written once the one before is answered: the answers and
+        the status. A fault is the number of the first write or sync that fails, and how many do."""
         env = dict(os.environ, LD_PRELOAD=str(self.folder / "recorder.so"), POWERCUT_FILE=str(self.file),
                    POWERCUT_LOG=str(self.log), POWERCUT_STOP=str(stop), POWERCUT_FAIL=" ".join(map(str, fault)))
         running = subprocess.Popen(words, stdin=subprocess.PIPE, stdout=subprocess.PIPE, stderr=subprocess.PIPE, env=env)
@@ -226,7 +227,8 @@ class Judge:
         return image is None or self.bench.is_read_alike(bytes(image), found)
 
     def try_all(self, scenario, budget, looks):
-        """Cuts the power at each moment of a scenario, and leaves out some of its syncs. What cuts left in some moments."""
+        """Cuts the power at each moment of a scenario, and leaves out some of its syncs. What cuts left in some
+        moments."""
         chance, before, wanted = self.chance(scenario.name), {}, {number for some in scenario.syncs.values() for number in some}
         amiss, unlike, sample = [], 0, Sample(self.chance(scenario.name, "sample"), 12)
         moment, loose, states = cuts.begun(scenario.start), 0, 0
@@ -270,8 +272,9 @@ class Judge:
             print(f"{scenario.name}: without one sync of {kind}, {len(shown)} tried, at the latest file {max(filter(None, shown))} is amiss")
 
     def first_amiss(self, scenario, number, moment):
-        """How many files it takes until one is amiss without this sync; nothing if none is before the next sync. Those that follow
-        before anything is written are left out with it: opening a file syncs it, and recovering what it has does so again."""
+        """How many files it takes until one is amiss without this sync; nothing if none is before the next sync. Those
+        that follow before anything is written are left out with it: opening a file syncs it, and recovering what it has
+        does so again."""
         chance, kind, count, is_written = self.chance(scenario.name, number), scenario.entries[number].kind, 0, False
         moment = cuts.after(moment, None)
         for entry in [*scenario.entries[number + 1:], None]:
@@ -301,7 +304,8 @@ class Talk:
         self.sent.append(len(lines))
 
     def allowed(self, answered):
-        """What may be found once so many lines are answered: the files behind them, or behind a line more that was sent."""
+        """What may be found once so many lines are answered: the files behind them, or behind a line more that was
+        sent."""
         if answered not in self.known:
             self.known[answered] = [(self.layout, files) for files in self.after[answered:self.sent[answered] + 1]]
         return self.known[answered]
@@ -365,8 +369,8 @@ class Recorder:
                         cuts.ANY, syncs, {LENGTH, FIRST_IMAGE}, 0)
 
     def killed(self, name, words, start, layout, stop, script, count):
-        """A till with the changes of a script that is killed after a write, and another one over what it finds then. Its opening
-        makes stay what it finds."""
+        """A till with the changes of a script that is killed after a write, and another one over what it finds then.
+        Its opening makes stay what it finds."""
         files = self.reader.read(start).files if start is not None else ()
         one = Talk(layout, files, self.changes(script, layout, files, count))
         self.bench.lay(start)
@@ -393,9 +397,9 @@ class Recorder:
         return Scenario(name, start, entries, allowed, cuts.ANY, syncs, set(), begun)
 
     def faulted(self, name, start, layout, fault, script, count):
-        """A run with the changes of a script in which the disk fails, and another one over what it finds then. The change in
-        which it fails is in the file whole or not at all. No later one is done, and the disk is asked nothing more until the
-        totals are enabled anew. That syncs the file, and is in vain for good once a sync has failed."""
+        """A run with the changes of a script in which the disk fails, and another one over what it finds then. The
+        change in which it fails is in the file whole or not at all. No later one is done, and the disk is asked nothing
+        more until the totals are enabled anew. That syncs the file, and is in vain for good once a sync has failed."""
         at, is_sync, times = fault
         files = self.reader.read(start).files
         one = Talk(layout, files, self.changes(script, layout, files, count))
@@ -490,8 +494,8 @@ def gate_writes(entries):
 
 
 def faults(chance, entries):
-    """Faults of the disk at what a change does in turn: for each kind of sync, the sync fails; the write before it does; and that
-    write with one or two acts behind it, or all."""
+    """Faults of the disk at what a change does in turn: for each kind of sync, the sync fails; the write before it
+    does; and that write with one or two acts behind it, or all."""
     acts, places, moment = 0, collections.defaultdict(list), cuts.begun(b"")
     for entry in entries:
         if entry.kind in "WS":

@@ -5,7 +5,8 @@ import collections
 
 LENGTH = 327680
 OPEN = 0xA5
-# layout: where its slots begin, how long a slot is, its longest body, where its log begins, most files, most bytes of files
+# layout: where its slots begin, how long a slot is, its longest body, where its log begins, most files, most bytes of
+# files
 LAYOUTS = {2: ((65536, 196608), 131072, 81907, 81920, 250, 65536), 1: ((0, 32768), 32768, 16371, 16384, 64, 8192)}
 
 # What a file holds: `files` is a tuple of pairs of a name and its bytes.
@@ -172,7 +173,8 @@ def survey(found):
     lines = [f"layout {found.layout}", f"slot {found.slot}", f"sequence {found.sequence}", f"records {found.records}",
              f"room {found.room if found.room >= 0 else 'none'}", f"files {len(found.files)}"]
     for name, kept in found.files:
-        lines += [f"file {name.hex()}", f"name {reads(name)}", f"size {len(kept)}", f"hex {kept.hex() or '-'}", f"text {reads(kept)}"]
+        lines += [f"file {name.hex()}", f"name {reads(name)}", f"size {len(kept)}", f"hex {kept.hex() or '-'}",
+                  f"text {reads(kept)}"]
     return "".join(line + "\n" for line in lines)
 
 

@@ -1,12 +1,12 @@
-/* Records what a program does to one file, in order. These are its creation, also without a name at first, its lengths, its
-   writes and its syncs. The syncs of its folder are recorded too, and what the program writes to standard output. The loader
-   puts it before the C library.
+/* Records what a program does to one file, in order. These are its creation, also without a name at first, its lengths,
+   its writes and its syncs. The syncs of its folder are recorded too, and what the program writes to standard output.
+   The loader puts it before the C library.
    POWERCUT_FILE is the path of the file, POWERCUT_LOG that of the record, which is appended to. With POWERCUT_STOP the
    program is killed after the write to the file with this number, or, if it is -1, once the file has its name. With
-   POWERCUT_FAIL, two numbers, so many writes and syncs of the file fail from the one with the first number on, all if the
-   second is -1: of a write half is done, of a sync nothing.
-   An entry is a kind, a place and a count, and for a write or an output so many bytes. An act enters the record once it is
-   done, but an output before it is made: only what was synced by then makes it true. */
+   POWERCUT_FAIL, two numbers, so many writes and syncs of the file fail from the one with the first number on, all if
+   the second is -1: of a write half is done, of a sync nothing.
+   An entry is a kind, a place and a count, and for a write or an output so many bytes. An act enters the record once it
+   is done, but an output before it is made: only what was synced by then makes it true. */
 #define _GNU_SOURCE
 #include <dlfcn.h>
 #include <errno.h>
@@ -157,7 +157,8 @@ ssize_t write(int file, const void *bytes, size_t count) {
 }
 
 ssize_t writev(int file, const struct iovec *parts, int count) {
-    for (int part = 0; record >= 0 && file == 1 && part < count; part++) enter('A', 0, parts[part].iov_len, parts[part].iov_base);
+    for (int part = 0; record >= 0 && file == 1 && part < count; part++)
+        enter('A', 0, parts[part].iov_len, parts[part].iov_base);
     if (is_at(file, path)) enter('?', 0, 0, NULL);
     return REAL(ssize_t, "writev", int, const struct iovec *, int)(file, parts, count);
 }
@@ -192,7 +193,8 @@ int linkat(int from_base, const char *from, int to_base, const char *to, int fla
     return done;
 }
 
-/* A file that gets a name in another way can't be replayed, and neither can one that loses its own: the record says so. */
+/* A file that gets a name in another way can't be replayed, and neither can one that loses its own: the record says so.
+   */
 #define TWO_NAMES(name)                                                \
     int name(const char *from, const char *to) {                       \
         if (record >= 0) enter('?', 0, 0, NULL);                       \

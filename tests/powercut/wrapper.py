@@ -1,5 +1,5 @@
-"""A till of abi/python over totals in a file, which it creates if it is missing. It answers each line of its input before it
-reads the next. Usage: wrapper.py libkijolvar.so FILE."""
+"""A till of abi/python over totals in a file, which it creates if it is missing. It answers each line of its input
+before it reads the next. Usage: wrapper.py libkijolvar.so FILE."""
 import pathlib
 import sys
 

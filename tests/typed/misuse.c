@@ -52,7 +52,8 @@ static void said_by_system(void) {
         wants(refusals[place].text, strcmp(kij_strerror(result), refusals[place].text) == 0);
     }
     kij_result failed = {KIJ_DISK_FAILED, 0, KIJ_NO_CATEGORY};
-    wants("what to do after a failed sync", strstr(kij_strerror(failed), "trouble.md, \"After a failed sync\"") != NULL);
+    const char *said = kij_strerror(failed);
+    wants("what to do after a failed sync", strstr(said, "trouble.md, \"After a failed sync\"") != NULL);
 }
 
 /* Each code has a name and a text, which no other has. */

@@ -91,7 +91,7 @@ impl Actor {
         let end = end_after(timeout);
         loop {
             let (is_any, files) =
-                self.run(|till| Ok((till.run_devices(Duration::ZERO)?, till.inner.borrow().device_files())))?;
+                self.run(|till| Ok((till.run_devices(Duration::ZERO)?, till.enter("run_devices")?.device_files())))?;
             if is_any {
                 return Ok(true);
             }

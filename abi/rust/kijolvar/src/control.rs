@@ -235,7 +235,7 @@ impl<'till> Control<'till> {
         // A control that was closed or released meanwhile has nothing left to clear. What its printer didn't print is
         // given up all the same.
         if error.locus == ErrorLocus::Output {
-            self.till.inner.borrow_mut().give_output_up(self.name.as_bytes());
+            self.till.enter("reply_to")?.give_output_up(self.name.as_bytes());
         }
         Ok(())
     }
@@ -283,7 +283,8 @@ impl<T> Key<T> {
     }
 
     /// Closes the control if it is open, and gives it back to its till, which may use it again for another one. Clones
-    /// of the key, and controls that were found by it, are refused from then on.
+    /// of the key, and controls that were found by it, are refused from then on. If a driver does this while its till
+    /// is in a call, the control is closed once that has returned.
     ///
     /// # Errors
     ///

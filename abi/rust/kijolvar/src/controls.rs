@@ -669,8 +669,19 @@ impl<'till> LineDisplay<'till> {
     /// - [`E_FAILURE`](ResultCode::Failure): the display didn't answer.
     /// - [`E_OFFLINE`](ResultCode::Offline): the display is off.
     /// - [`Cause::NoMemory`]: there was no memory.
-    pub fn display_text_at(&self, row: u64, column: u64, text: impl AsRef<[u8]>, attribute: DisplayAttribute) -> Result<(), Error> {
-        let line = self.line("call").word("displayTextAt").number(row).number(column).bytes(text.as_ref()).number(attribute.number());
+    pub fn display_text_at(
+        &self,
+        row: u64,
+        column: u64,
+        text: impl AsRef<[u8]>,
+        attribute: DisplayAttribute,
+    ) -> Result<(), Error> {
+        let line = self.line("call")
+            .word("displayTextAt")
+            .number(row)
+            .number(column)
+            .bytes(text.as_ref())
+            .number(attribute.number());
         self.ask("displayTextAt", &line)?.nothing()
     }
 

@@ -5,6 +5,7 @@ use crate::standard::{Category, ExtendedCode, ResultCode};
 
 /// What [`Till::work`](crate::Till::work) did.
 #[derive(Debug, Clone, Copy, PartialEq, Eq)]
+#[non_exhaustive]
 pub enum Work {
     /// There was nothing to do.
     Idle,

@@ -34,6 +34,7 @@ const MOST_TYPED: usize = 16_384;
 
 /// What a printer is asked behind the bytes of an order.
 #[derive(Debug, Clone, Copy, PartialEq, Eq)]
+#[non_exhaustive]
 pub enum OrderEnd {
     /// Nothing.
     Nothing,
@@ -114,8 +115,8 @@ impl fmt::Debug for DriverTill<'_> {
     }
 }
 
-/// A code that a scanner has read.
-#[derive(Debug, Clone, PartialEq, Eq)]
+/// A code that a scanner has read. Later versions may have more fields, so end with `..Scan::default()`.
+#[derive(Debug, Clone, PartialEq, Eq, Default)]
 pub struct Scan {
     /// Its type, 0 if it isn't known. [`ScanDataType`] has names of many types.
     pub kind: u64,
@@ -126,6 +127,9 @@ pub struct Scan {
 }
 
 /// What a till asks of a driver ([`Till::drive`](crate::Till::drive)).
+///
+/// The till is in a call meanwhile. So a driver asks what it needs of its [`DriverTill`]. A call of the till itself is
+/// refused with [`Cause::InCall`], in whatever way the driver has come by it.
 ///
 /// ```
 /// use kijolvar::standard::{Category, DisplayAttribute};
@@ -230,6 +234,12 @@ pub trait Driver: Send {
         None
     }
 
+    /// Returns whether the port is open. While it isn't, `port_error` is in the error of a call that is refused with
+    /// E_OFFLINE. Write it if the device may be away though its port is open.
+    fn is_port_open(&self) -> bool {
+        self.is_online()
+    }
+
     /// A spare serves the device from now on ([`Till::attach`](crate::Till::attach)), and this driver goes on. The
     /// spare knows nothing of what `happened` said before, or of what a display shows.
     fn attached(&mut self) {}
@@ -243,6 +253,7 @@ impl<D: Driver + 'static> From<D> for Box<dyn Driver> {
 
 /// What a printer's cutter does.
 #[derive(Debug, Clone, Copy, PartialEq, Eq, Default)]
+#[non_exhaustive]
 pub enum Cutter {
     /// Full cuts and partial ones.
     #[default]
@@ -255,7 +266,8 @@ pub enum Cutter {
     Absent = 3,
 }
 
-/// A receipt printer with ESC/POS, and the drawer on its connector.
+/// A receipt printer with ESC/POS, and the drawer on its connector. Later versions may have more fields, so end with
+/// `..EscPosSettings::default()`.
 #[derive(Debug, Clone, PartialEq, Eq)]
 pub struct EscPosSettings {
     /// How many characters the printer prints on a line; as many as the device's lines have if it is None.
@@ -502,6 +514,10 @@ impl Driver for EscPosPrinter {
         lock(&self.link).cable.fault
     }
 
+    fn is_port_open(&self) -> bool {
+        lock(&self.link).cable.is_open()
+    }
+
     fn attached(&mut self) {
         self.counted_from = None;
     }
@@ -571,10 +587,15 @@ impl Driver for EscPosDrawer {
     fn port_error(&self) -> Option<i32> {
         lock(&self.link).cable.fault
     }
+
+    fn is_port_open(&self) -> bool {
+        lock(&self.link).cable.is_open()
+    }
 }
 
 /// What a display understands.
 #[derive(Debug, Clone, Copy, PartialEq, Eq, Default)]
+#[non_exhaustive]
 #[allow(missing_docs)]
 pub enum Protocol {
     #[default]
@@ -582,7 +603,7 @@ pub enum Protocol {
     EscPos = 1,
 }
 
-/// A customer display.
+/// A customer display. Later versions may have more fields, so end with `..DisplaySettings::default()`.
 #[derive(Debug, Clone, PartialEq, Eq)]
 pub struct DisplaySettings {
     /// What it understands.
@@ -758,6 +779,10 @@ impl Driver for SerialDisplay {
         self.port.cable.fault
     }
 
+    fn is_port_open(&self) -> bool {
+        self.port.cable.is_open()
+    }
+
     fn attached(&mut self) {
         self.is_new = true;
     }
@@ -797,8 +822,8 @@ pub struct WedgeScanner {
 }
 
 impl WedgeScanner {
-    /// Returns a driver for the scanner at a port, /dev/input/.., or a link to it, for a keyboard wedge. It opens it once
-    /// it drives a device, and looks for it each second after it was lost.
+    /// Returns a driver for the scanner at a port, /dev/input/.., or a link to it, for a keyboard wedge. It opens it
+    /// once it drives a device, and looks for it each second after it was lost.
     pub fn open(device: impl Into<Port>) -> WedgeScanner {
         let port = Reopened::new(Cable::of_scanner(device.into()), Duration::from_secs(1));
         WedgeScanner {
@@ -873,8 +898,8 @@ impl WedgeScanner {
         }
     }
 
-    /// Marks that nothing has come for a time behind what was typed, if a code may have begun: what comes then is another
-    /// one.
+    /// Marks that nothing has come for a time behind what was typed, if a code may have begun: what comes then is
+    /// another one.
     fn mark_lull(&mut self) {
         let has_begun = !self.events.is_empty() || !self.begun.is_empty() || self.has_gap;
         let is_whole = self.events.len().is_multiple_of(LULL_EVENT.len());
@@ -1054,6 +1079,10 @@ impl Driver for WedgeScanner {
 
     fn port_error(&self) -> Option<i32> {
         self.port.cable.fault
+    }
+
+    fn is_port_open(&self) -> bool {
+        self.port.cable.is_open()
     }
 }
 

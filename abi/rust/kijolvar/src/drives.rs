@@ -84,13 +84,15 @@ pub(crate) struct Drives {
     fault: Option<Cause>,
     has_served: bool,
     is_handing_in: bool,
-    /// Whether orders are of output that waits: the line is one that works on it.
+    /// Whether orders are of output that waits: the line is a `work` line.
     pub(crate) is_working: bool,
 }
 
-/// What a line does to drivers, once it is done.
+/// What a line is to drivers.
 #[derive(Clone, Copy)]
 pub(crate) enum Effect<'line> {
+    /// Its orders are of output that waits.
+    Works,
     /// The device of the drive at this place has another peripheral.
     Attached(usize),
     /// The printer's control of this name has given its output up.
@@ -112,15 +114,19 @@ impl Drives {
         self.list.is_empty()
     }
 
-    /// The lines up to the first one that does something to drivers: how many bytes they have, and what that is.
+    /// The lines up to the first one that is something to drivers, how many bytes they have, and what that is. A line
+    /// that works on output that waits is alone.
     pub(crate) fn first_effect<'line>(&self, lines: &'line [u8]) -> (usize, Option<Effect<'line>>) {
         if self.is_empty() {
             return (lines.len(), None);
         }
         let mut count = 0;
         for line in lines.split_inclusive(|byte| *byte == b'\n') {
-            count += line.len();
             let effect = self.effect_of(line);
+            if count > 0 && matches!(effect, Some(Effect::Works)) {
+                break;
+            }
+            count += line.len();
             if effect.is_some() {
                 return (count, effect);
             }
@@ -132,6 +138,7 @@ impl Drives {
         let mut words = line.split(|byte| b" \r\n".contains(byte)).filter(|word| !word.is_empty());
         let (verb, name) = (words.next()?, words.next()?);
         match (verb, words.next()) {
+            (b"work", _) => Some(Effect::Works),
             (b"attach", _) => self.list.iter().position(|drive| drive.name.as_bytes() == name).map(Effect::Attached),
             (b"call", Some(b"clearOutput")) | (b"deliver", Some(b"clear")) => Some(Effect::GaveUp(name)),
             _ => None,
@@ -536,7 +543,7 @@ impl Inner {
         self.hand_in_behind();
     }
 
-    /// Does what the last one of lines does to drivers, unless it failed. Without memory for its answer it may be done.
+    /// Does what the last one of lines is to drivers, unless it failed. Without memory for its answer it may be done.
     pub(crate) fn apply_effect(&mut self, effect: Effect<'_>, found: &Result<String, Cause>) {
         let is_done = match found {
             Ok(answers) => effect.is_done(answers),
@@ -544,6 +551,7 @@ impl Inner {
         };
         match effect {
             _ if !is_done => {}
+            Effect::Works => {}
             Effect::Attached(place) => self.drive_again(place),
             Effect::GaveUp(control) => self.give_output_up(control),
         }
@@ -565,6 +573,13 @@ impl Inner {
         let driver = &drive.driver;
         let (is_online, port_error, late_orders) = (driver.is_online(), driver.port_error(), driver.late_orders());
         Ok(DriverState { is_online, port_error, late_orders })
+    }
+
+    /// Why the port isn't open of the device on which the control of a name is.
+    pub(crate) fn port_error_of(&self, control: &str) -> Option<i32> {
+        let device = self.device_of(control.as_bytes())?;
+        let driver = &self.drives.list.iter().find(|drive| drive.name == device)?.driver;
+        driver.port_error().filter(|_| !driver.is_port_open())
     }
 
     /// Does what the devices need, and waits for something to do as long as it may. Returns whether anything was done.

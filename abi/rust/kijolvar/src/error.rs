@@ -11,6 +11,7 @@ pub struct Error {
     call: &'static str,
     cause: Cause,
     reason: Option<&'static str>,
+    port_error: Option<io::Error>,
 }
 
 /// Why a call failed.
@@ -87,6 +88,9 @@ pub enum Cause {
     ActorEnded,
     /// Work of the actor gave the actor work, for which it would wait for ever.
     InsideActor,
+    /// A driver made a call of its till, of which a call is under way. What it may ask is in
+    /// [`DriverTill`](crate::DriverTill).
+    InCall,
 }
 
 impl Cause {
@@ -110,13 +114,18 @@ impl Cause {
 
 impl Error {
     pub(crate) fn new(call: &'static str, cause: Cause) -> Error {
-        Error { call, cause, reason: None }
+        Error { call, cause, reason: None, port_error: None }
     }
 
     /// A control of this category has refused a line of this verb.
     pub(crate) fn refused(call: &'static str, cause: Cause, category: Category, verb: &str) -> Error {
         let reason = cause.code_name().and_then(|code| reason_of(category, verb, call, code));
-        Error { call, cause, reason }
+        Error { call, cause, reason, port_error: None }
+    }
+
+    /// The port of the device isn't open, for this reason.
+    pub(crate) fn with_port_error(self, number: Option<i32>) -> Error {
+        Error { port_error: number.map(io::Error::from_raw_os_error), ..self }
     }
 
     /// Returns the call that failed, by the standard's name (`"openDrawer"`, `"DeviceEnabled"`) or this crate's
@@ -135,9 +144,15 @@ impl Error {
     }
 
     /// Returns why the control refused this call, in English, if the code means more of it than of any other call. It
-    /// is what the error displays then.
+    /// is in what the error displays then.
     pub fn reason(&self) -> Option<&'static str> {
         self.reason
+    }
+
+    /// Returns why the port of the device isn't open, if the control refused the call with E_OFFLINE for that. It is in
+    /// what the error displays.
+    pub fn port_error(&self) -> Option<&io::Error> {
+        self.port_error.as_ref()
     }
 
     /// Returns the result code of the standard, if the control refused the call.
@@ -215,6 +230,9 @@ impl fmt::Display for Cause {
             Cause::Vacant => "no peripheral is attached to the device",
             Cause::ActorEnded => "the thread of the actor has ended",
             Cause::InsideActor => "work of an actor can't wait for other work of it",
+            Cause::InCall => {
+                "a call of the till is under way: a driver can't call its till, so make this one once that has returned"
+            }
         };
         out.write_str(text)
     }
@@ -253,8 +271,15 @@ fn said_of_call(call: &str, cause: &Cause) -> Option<&'static str> {
     }
 }
 
-impl fmt::Display for Error {
-    fn fmt(&self, out: &mut fmt::Formatter<'_>) -> fmt::Result {
+/// The system's words for a fault, without its number.
+fn words_of(fault: &io::Error) -> String {
+    let said = fault.to_string();
+    said.split(" (os error").next().unwrap_or("").to_string()
+}
+
+impl Error {
+    /// Writes what it displays, but for why the port isn't open.
+    fn write(&self, out: &mut impl fmt::Write) -> fmt::Result {
         let call = self.call;
         match (&self.cause, self.reason.or_else(|| said_of_call(call, &self.cause))) {
             (Cause::Code(code), Some(reason)) => write!(out, "{call}: {}: {reason}", code.name()),
@@ -265,11 +290,20 @@ impl fmt::Display for Error {
     }
 }
 
+impl fmt::Display for Error {
+    fn fmt(&self, out: &mut fmt::Formatter<'_>) -> fmt::Result {
+        let Some(fault) = &self.port_error else { return self.write(out) };
+        let mut said = String::new();
+        self.write(&mut said)?;
+        write!(out, "{}: {}.", said.trim_end_matches('.'), words_of(fault))
+    }
+}
+
 impl std::error::Error for Error {
     fn source(&self) -> Option<&(dyn std::error::Error + 'static)> {
         match &self.cause {
             Cause::System(cause) | Cause::DiskFailed(Some(cause)) => Some(cause),
-            _ => None,
+            _ => self.port_error().map(|fault| fault as _),
         }
     }
 }

@@ -29,8 +29,9 @@
 //! Each call returns a [`Result`] with an [`Error`], which names the call, and has the result code and the extended
 //! code of the standard if the control refused it, and often the reason. A call that fails changed nothing, unless its
 //! [`Cause`] says otherwise. Any call may fail for [`Cause::BadArgument`] (as a device's name with a space),
-//! [`Cause::NoMemory`], [`Cause::NoAnswer`], [`Cause::DiskFailed`] or [`Cause::BadAnswer`]. Its documentation lists the
-//! others.
+//! [`Cause::NoMemory`], [`Cause::NoAnswer`], [`Cause::DiskFailed`] or [`Cause::BadAnswer`], and for [`Cause::InCall`]
+//! if a driver makes it. Its documentation lists the others. Of a call that is refused with E_OFFLINE the error says,
+//! too, why the device's port isn't open ([`Error::port_error`]).
 //!
 //! ```
 //! use kijolvar::standard::{ExtendedCode, PrinterStation, ResultCode};
@@ -57,6 +58,12 @@
 //! threads, of which one serves the drivers by [`Actor::run_devices`]. A call takes up to 128 KiB of the thread's
 //! stack. A profile is read on a thread of its own, which has as much as any profile takes, and a TCP port is opened by
 //! one.
+//!
+//! # Later versions
+//!
+//! What may have more variants or fields in a later version is `#[non_exhaustive]`: match it with a `_`. Exhaustive is
+//! what the standard fixes, as [`ErrorReply`](standard::ErrorReply). Settings and a [`Scan`] are made of their
+//! defaults: `EscPosSettings { timeout, ..EscPosSettings::default() }`.
 
 mod actor;
 mod control;

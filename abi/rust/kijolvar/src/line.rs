@@ -24,6 +24,11 @@ impl Line {
         self.text.split(' ').next().unwrap_or("")
     }
 
+    /// The name behind the verb, if there is one.
+    pub(crate) fn first_name(&self) -> Option<&str> {
+        self.text.split(' ').nth(1)
+    }
+
     /// Adds a word of the language.
     pub(crate) fn word(mut self, word: &str) -> Line {
         self.text.push(' ');

@@ -114,8 +114,8 @@ struct Parcel {
     place: u64,
 }
 
-/// What an order is: one for the paper, output that waits (AsyncMode), or a pulse for the drawer. Others may come before
-/// output that has failed is tried again, so that its next order is one of its own.
+/// What an order is: one for the paper, output that waits (AsyncMode), or a pulse for the drawer. Others may come
+/// before output that has failed is tried again, so that its next order is one of its own.
 #[derive(Debug, Clone, Copy, PartialEq, Eq)]
 pub(crate) enum Kind {
     Paper,
@@ -783,8 +783,8 @@ impl Link {
         is_over(self.heard_at.max(Some(self.began_at)), time)
     }
 
-    /// Whether a line may hold back a part of what is due for a printer that should say something. One that is asked may
-    /// also be off and on again after it has told why it is offline, and then doesn't say so.
+    /// Whether a line may hold back a part of what is due for a printer that should say something. One that is asked
+    /// may also be off and on again after it has told why it is offline, and then doesn't say so.
     fn is_held(&self) -> bool {
         self.is_any_due() && self.cable.holds_back() && (self.is_asked || !self.may_be_silent())
     }

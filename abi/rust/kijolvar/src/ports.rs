@@ -13,6 +13,7 @@ use std::time::{Duration, Instant};
 
 /// The parity of a serial line.
 #[derive(Debug, Clone, Copy, PartialEq, Eq, Default)]
+#[non_exhaustive]
 #[allow(missing_docs)]
 pub enum Parity {
     #[default]
@@ -23,6 +24,7 @@ pub enum Parity {
 
 /// How a device on a serial line says that it can take no more.
 #[derive(Debug, Clone, Copy, PartialEq, Eq, Default)]
+#[non_exhaustive]
 pub enum Flow {
     /// It says nothing.
     None,
@@ -33,7 +35,8 @@ pub enum Flow {
     XonXoff,
 }
 
-/// How a serial line is set up. The default is 9,600 bits per second, 8 bits, 1 stop bit, no parity, RTS/CTS.
+/// How a serial line is set up. The default is 9,600 bits per second, 8 bits, 1 stop bit, no parity, RTS/CTS. Later
+/// versions may have more fields, so end with `..SerialSettings::default()`.
 #[derive(Debug, Clone, Copy, PartialEq, Eq)]
 pub struct SerialSettings {
     /// Bits per second, as the device is set up: a speed that Linux knows, 50 to 4,000,000.
@@ -62,8 +65,8 @@ pub enum Port {
     /// keyboard when it is opened, it is a [`Port::Line`] or [`Port::Keys`] from then on.
     File(PathBuf),
     /// A serial line by the usual settings of its device: those of [`SerialSettings::default`], but [`Flow::None`] for
-    /// a display, which answers nothing and whose cable often has no CTS. No other program gets a serial line meanwhile,
-    /// and one that another till or program has isn't opened (EBUSY).
+    /// a display, which answers nothing and whose cable often has no CTS. No other program gets a serial line
+    /// meanwhile, and one that another till or program has isn't opened (EBUSY).
     Line(PathBuf),
     /// A serial line by these settings, such as /dev/ttyUSB0.
     Serial(PathBuf, SerialSettings),
@@ -401,8 +404,8 @@ fn set_up(file: RawFd, settings: Option<&SerialSettings>, keeps_faults: bool) ->
     Ok(())
 }
 
-/// Keeps a terminal line to this till. If another program has it, it is busy. Nothing of the line is changed then, since
-/// its bytes and settings are the other's.
+/// Keeps a terminal line to this till. If another program has it, it is busy. Nothing of the line is changed then,
+/// since its bytes and settings are the other's.
 fn take_line(file: &File) -> io::Result<()> {
     match file.try_lock() {
         Err(TryLockError::WouldBlock) => return Err(io::Error::from_raw_os_error(EBUSY)),

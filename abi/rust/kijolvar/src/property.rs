@@ -78,6 +78,7 @@ pub enum Property {
 
 /// The type of a property.
 #[derive(Debug, Clone, Copy, PartialEq, Eq, Hash)]
+#[non_exhaustive]
 pub enum PropertyType {
     /// A number that isn't negative.
     Number,
@@ -89,6 +90,7 @@ pub enum PropertyType {
 
 /// A property's value.
 #[derive(Debug, Clone, PartialEq, Eq, Hash)]
+#[non_exhaustive]
 pub enum Value {
     /// A number.
     Number(u64),

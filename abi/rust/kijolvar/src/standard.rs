@@ -206,7 +206,9 @@ impl ExtendedCode {
 impl fmt::Display for ExtendedCode {
     fn fmt(&self, out: &mut fmt::Formatter<'_>) -> fmt::Result {
         let text = match self {
-            ExtendedCode::TotalsNoRoom => "The totals have no room for the file, or the transaction has none for the change.",
+            ExtendedCode::TotalsNoRoom => {
+                "The totals have no room for the file, or the transaction has none for the change."
+            }
             ExtendedCode::PrinterCoverOpen => "The printer's cover is open.",
             ExtendedCode::PrinterRecEmpty => "The receipt doesn't have enough paper.",
         };
@@ -216,6 +218,7 @@ impl fmt::Display for ExtendedCode {
 
 /// A category of devices.
 #[derive(Debug, Clone, Copy, PartialEq, Eq, Hash)]
+#[non_exhaustive]
 pub enum Category {
     /// A cash drawer. Several controls may share a drawer. A claim only keeps the others from opening it.
     CashDrawer,

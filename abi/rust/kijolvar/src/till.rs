@@ -1,7 +1,7 @@
 //! A till: the library's, its totals, and its controls.
 use crate::devices::{Order, Work};
 use crate::drivers::Driver;
-use crate::drives::{DriverState, Drives};
+use crate::drives::{DriverState, Drives, Effect};
 use crate::error::{Cause, Error};
 use crate::event::{Event, Events};
 use crate::line::{is_name, value_of, Answer, Line};
@@ -12,7 +12,7 @@ use crate::standard::{library, Category, ResultCode};
 use crate::totals_file::{read_whole, LockedFile, Totals};
 use crate::views::{self, DisplayView, PrinterView};
 use crate::wire::{Asked, PrinterReply, WireSettings};
-use std::cell::RefCell;
+use std::cell::{RefCell, RefMut};
 use std::ffi::c_void;
 use std::fmt;
 use std::io;
@@ -70,15 +70,10 @@ struct Entry {
     is_chosen: bool,
     category: Category,
     number: usize,
-    /// The device on which it was opened last, but for lines, and whether it is open there.
+    /// The device on which it was opened last, but for lines.
     device: Option<String>,
-    is_open: bool,
     /// Whether it may be handed out again.
     is_free: bool,
-    /// Whether a transaction of it is to be rolled back, for which there was no memory.
-    is_rollback_due: bool,
-    /// How often it was given back.
-    turn: u64,
 }
 
 impl Entry {
@@ -86,6 +81,17 @@ impl Entry {
     fn fits(&self, category: Category, name: Option<&str>) -> bool {
         self.is_free && self.category == category && name.map_or(!self.is_chosen, |name| name == self.name)
     }
+}
+
+/// What a till notes of a control, also while a call is under way.
+#[derive(Default)]
+struct Note {
+    /// How often it was given back.
+    turn: u64,
+    /// The device on which it is open, but for lines.
+    device: Option<String>,
+    /// Whether a transaction of it is to be rolled back, which couldn't be done yet.
+    is_rollback_due: bool,
 }
 
 /// What a till has.
@@ -218,6 +224,7 @@ impl Inner {
         let (mut answers, mut rest) = (String::new(), lines);
         loop {
             let (count, effect) = self.drives.first_effect(rest);
+            self.drives.is_working = matches!(effect, Some(Effect::Works));
             let found = self.carry_out_lines(&rest[..count]);
             if let Some(effect) = effect {
                 self.apply_effect(effect, &found);
@@ -245,7 +252,6 @@ impl Inner {
             kijolvar_carry_out(till, out, lines.as_ptr(), lines.len(), text, room, &mut needed)
         };
         if code != library::OK && !self.drives.is_empty() {
-            self.drives.is_working = lines.starts_with(b"work ") && !lines.trim_ascii_end().contains(&b'\n');
             let text = self.served(code, needed)?;
             return String::from_utf8(text).map_err(|fault| Cause::BadAnswer(fault.to_string()));
         }
@@ -293,17 +299,7 @@ impl Inner {
                 Err(cause) => return Err(cause),
             }
             let number = self.number_of(&made)?;
-            self.controls.push(Entry {
-                name: made,
-                is_chosen,
-                category,
-                number,
-                device: None,
-                is_open: false,
-                is_free: false,
-                is_rollback_due: false,
-                turn: 0,
-            });
+            self.controls.push(Entry { name: made, is_chosen, category, number, device: None, is_free: false });
             return Ok(self.controls.len() - 1);
         }
     }
@@ -328,8 +324,7 @@ impl Inner {
             if !self.is_closed(place) {
                 return;
             }
-            let entry = &mut self.controls[place];
-            (entry.is_free, entry.is_open) = (true, false);
+            self.controls[place].is_free = true;
             self.unclosed.pop();
         }
     }
@@ -484,6 +479,9 @@ impl Drop for Inner {
 /// ```
 pub struct Till {
     pub(crate) inner: RefCell<Inner>,
+    /// Of each control by its place, and the places of those that were given back since a call began.
+    notes: RefCell<Vec<Note>>,
+    given_back: RefCell<Vec<usize>>,
     number: u64,
 }
 
@@ -509,7 +507,8 @@ impl Till {
     pub fn open(profile: &str, totals: Totals) -> Result<Till, Error> {
         static NUMBERS: AtomicU64 = AtomicU64::new(1);
         let inner = Till::begin(profile, &totals).map_err(|cause| Error::new("Till::open", cause))?;
-        Ok(Till { inner: RefCell::new(inner), number: NUMBERS.fetch_add(1, Ordering::Relaxed) })
+        let (notes, given_back) = (RefCell::default(), RefCell::default());
+        Ok(Till { inner: RefCell::new(inner), notes, given_back, number: NUMBERS.fetch_add(1, Ordering::Relaxed) })
     }
 
     fn begin(profile: &str, totals: &Totals) -> Result<Inner, Cause> {
@@ -524,6 +523,13 @@ impl Till {
     /// A number that no other till of the process has.
     pub(crate) fn number(&self) -> u64 {
         self.number
+    }
+
+    /// Begins a call, unless one is under way: then a driver calls its till.
+    pub(crate) fn enter(&self, call: &'static str) -> Result<RefMut<'_, Inner>, Error> {
+        let mut inner = self.inner.try_borrow_mut().map_err(|_| Error::new(call, Cause::InCall))?;
+        inner.unclosed.append(&mut self.given_back.borrow_mut());
+        Ok(inner)
     }
 
     /// Carries out lines of the text interface (docs/reference/console.md) one after the other, and returns their
@@ -541,14 +547,14 @@ impl Till {
     /// # Ok::<(), kijolvar::Error>(())
     /// ```
     pub fn carry_out(&self, lines: impl AsRef<[u8]>) -> Result<String, Error> {
-        let (mut inner, lines) = (self.inner.borrow_mut(), lines.as_ref());
+        let (mut inner, lines) = (self.enter("Till::carry_out")?, lines.as_ref());
         inner.has_opened = inner.has_opened || lines.windows(5).any(|words| words == b"open ");
         inner.carry_out(lines).map_err(|cause| Error::new("Till::carry_out", cause))
     }
 
     /// Carries out one line: its whole answer.
     pub(crate) fn answer(&self, call: &'static str, line: &Line) -> Result<String, Error> {
-        let mut inner = self.inner.borrow_mut();
+        let mut inner = self.enter(call)?;
         inner.close_given_back();
         inner.ask(line).map_err(|cause| Error::new(call, cause))
     }
@@ -557,11 +563,21 @@ impl Till {
     pub(crate) fn ask(&self, call: &'static str, category: Option<Category>, line: &Line) -> Result<Answer, Error> {
         let mut text = self.answer(call, line)?;
         let failed = |cause| match category {
-            Some(category) => Error::refused(call, cause, category, line.verb()),
+            Some(category) => self.refused(call, cause, category, line),
             None => Error::new(call, cause),
         };
         let value = value_of(&text, category).map_err(failed)?.len();
         Ok(Answer::new(call, text.split_off(text.len() - value)))
+    }
+
+    /// A control of this category has refused a line.
+    fn refused(&self, call: &'static str, cause: Cause, category: Category, line: &Line) -> Error {
+        let is_offline = matches!(cause, Cause::Code(ResultCode::Offline));
+        let error = Error::refused(call, cause, category, line.verb());
+        match (is_offline, line.first_name(), self.inner.try_borrow()) {
+            (true, Some(name), Ok(inner)) => error.with_port_error(inner.port_error_of(name)),
+            _ => error,
+        }
     }
 
     /// Makes a control: its name, its place, and its turn.
@@ -570,47 +586,48 @@ impl Till {
         if name.is_some_and(|name| !is_name(name)) {
             return Err(failed(Cause::BadArgument));
         }
-        let mut inner = self.inner.borrow_mut();
+        let mut inner = self.enter("new control")?;
         let place = inner.control(category, name).map_err(failed)?;
-        let entry = &inner.controls[place];
-        Ok((entry.name.clone(), place, entry.turn))
+        let mut notes = self.notes.borrow_mut();
+        notes.resize_with(inner.controls.len(), Note::default);
+        Ok((inner.controls[place].name.clone(), place, notes[place].turn))
     }
 
     /// A control was opened on a device.
     pub(crate) fn opened_on(&self, place: usize, device: &str) {
-        let entry = &mut self.inner.borrow_mut().controls[place];
-        (entry.device, entry.is_open) = (Some(device.to_string()), true);
+        self.inner.borrow_mut().controls[place].device = Some(device.to_string());
+        self.notes.borrow_mut()[place].device = Some(device.to_string());
     }
 
     /// A control was closed.
     pub(crate) fn closed(&self, place: usize) {
-        self.inner.borrow_mut().controls[place].is_open = false;
+        self.notes.borrow_mut()[place].device = None;
     }
 
     /// The device on which a control is open.
     pub(crate) fn open_device(&self, place: usize) -> Option<String> {
-        let entry = &self.inner.borrow().controls[place];
-        entry.device.clone().filter(|_| entry.is_open)
+        self.notes.borrow()[place].device.clone()
     }
 
     /// Whether a control wasn't given back since its turn began.
     pub(crate) fn has_turn(&self, place: usize, turn: u64) -> bool {
-        self.inner.borrow().controls[place].turn == turn
+        self.notes.borrow()[place].turn == turn
     }
 
     /// Notes whether a control's transaction is to be rolled back, and returns whether one was.
     pub(crate) fn set_rollback_due(&self, place: usize, is_due: bool) -> bool {
-        std::mem::replace(&mut self.inner.borrow_mut().controls[place].is_rollback_due, is_due)
+        std::mem::replace(&mut self.notes.borrow_mut()[place].is_rollback_due, is_due)
     }
 
-    /// Closes a control, and hands it out again from then on.
+    /// Closes a control, and hands it out again from then on; once the call that is under way returns, if one is.
     pub(crate) fn give_back(&self, place: usize) {
-        let mut inner = self.inner.borrow_mut();
-        inner.controls[place].turn += 1;
+        let turn = self.notes.borrow()[place].turn + 1;
         // Closing it ends its transaction.
-        inner.controls[place].is_rollback_due = false;
-        inner.unclosed.push(place);
-        inner.close_given_back();
+        self.notes.borrow_mut()[place] = Note { turn, ..Note::default() };
+        self.given_back.borrow_mut().push(place);
+        if let Ok(mut inner) = self.enter("discard") {
+            inner.close_given_back();
+        }
     }
 
     /// Delivers the next event of any control: the control's name, and the event. Of several controls with an event it
@@ -626,7 +643,7 @@ impl Till {
 
     /// Delivers the next event of the controls from a number on, which is the one behind its control then.
     fn next_event_from(&self, from: &mut usize) -> Result<Option<(String, Event)>, Error> {
-        let found = self.inner.borrow_mut().control_with_event(*from);
+        let found = self.enter("next_event")?.control_with_event(*from);
         let found = found.map_err(|cause| Error::new("next_event", cause))?;
         let Some((number, name, category)) = found else { return Ok(None) };
         *from = number + 1;
@@ -817,7 +834,7 @@ impl Till {
     /// [`Cause::BadArgument`] if it can't be a device's name, [`Cause::NoDevice`], [`Cause::NoMemory`].
     pub fn host(&self, device: &str) -> Result<(), Error> {
         checked("host", device)?;
-        let mut inner = self.inner.borrow_mut();
+        let mut inner = self.enter("host")?;
         let till = inner.at;
         // SAFETY: the pointer is the one that was written last, and the name is lent for the call.
         match unsafe { kijolvar_host(till, &mut inner.at.0, device.as_ptr(), device.len()) } {
@@ -836,7 +853,7 @@ impl Till {
     /// [`Cause::BadArgument`] if it can't be a device's name, [`Cause::NoDevice`], [`Cause::NoMemory`].
     pub fn tear_off(&self, device: &str) -> Result<(), Error> {
         checked("tear_off", device)?;
-        let done = self.inner.borrow_mut().tear_off(device);
+        let done = self.enter("tear_off")?.tear_off(device);
         done.map_err(|cause| Error::new("tear_off", cause))
     }
 
@@ -857,7 +874,7 @@ impl Till {
     /// ```
     pub fn next_order(&self) -> Result<Option<Order>, Error> {
         let failed = |cause| Error::new("next_order", cause);
-        let Some(line) = self.inner.borrow_mut().next_order().map_err(failed)? else { return Ok(None) };
+        let Some(line) = self.enter("next_order")?.next_order().map_err(failed)? else { return Ok(None) };
         Order::read(&line).map(Some).ok_or_else(|| failed(Cause::BadAnswer(line)))
     }
 
@@ -875,7 +892,7 @@ impl Till {
     /// [`Cause::Driven`], [`Cause::BadSettings`]; [`Cause::NoDevice`] if it can't be driven, as one with `flaky`;
     /// [`Cause::NoMemory`].
     pub fn drive(&self, device: &str, driver: impl Into<Box<dyn Driver>>) -> Result<(), Error> {
-        let done = self.inner.borrow_mut().drive(device, driver.into());
+        let done = self.enter("drive")?.drive(device, driver.into());
         done.map_err(|cause| Error::new("drive", cause))
     }
 
@@ -898,7 +915,7 @@ impl Till {
     /// [`Cause::BadInput`] and [`Cause::BadArgument`] if a driver says what can't be of its device, or has read what no
     /// code can be; [`Cause::NoMemory`], [`Cause::NoAnswer`], [`Cause::BadAnswer`], [`Cause::DiskFailed`].
     pub fn run_devices(&self, timeout: Duration) -> Result<bool, Error> {
-        let done = self.inner.borrow_mut().run_devices(timeout);
+        let done = self.enter("run_devices")?.run_devices(timeout);
         done.map_err(|cause| Error::new("run_devices", cause))
     }
 
@@ -909,7 +926,8 @@ impl Till {
     /// [`Cause::BadArgument`] if it can't be a device's name, [`Cause::NoDevice`] if the device isn't driven.
     pub fn driver_state(&self, device: &str) -> Result<DriverState, Error> {
         checked("driver_state", device)?;
-        self.inner.borrow().driver_state(device).map_err(|cause| Error::new("driver_state", cause))
+        let found = self.enter("driver_state")?.driver_state(device);
+        found.map_err(|cause| Error::new("driver_state", cause))
     }
 
     /// Reads bytes that a printer sent, up to the end of its first reply, for its device or the drawer on its
@@ -934,7 +952,7 @@ impl Till {
         asked: Asked,
         bytes: &[u8],
     ) -> Result<PrinterReply, Error> {
-        let found = self.inner.borrow_mut().reply(device.as_bytes(), settings, asked, bytes);
+        let found = self.enter("reply")?.reply(device.as_bytes(), settings, asked, bytes);
         found.map_err(|cause| Error::new("reply", cause))
     }
 }

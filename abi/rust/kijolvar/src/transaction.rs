@@ -31,16 +31,18 @@ fn roll_back(control: &Control<'_>) -> Result<(), Error> {
     done
 }
 
-/// Ends a control's transaction, if it is in one. Without memory this is due before the control's next call.
+/// Ends a control's transaction, if it is in one. Without memory, or while its till is in a call, this is due before
+/// the control's next call.
 pub(crate) fn end_transaction(control: &Control<'_>) -> Result<(), Cause> {
-    match roll_back(control) {
-        Err(error) if matches!(error.cause(), Cause::NoMemory | Cause::NoAnswer) => {
-            control.set_rollback_due(true);
-            Err(Cause::NoMemory)
-        }
+    let Err(error) = roll_back(control) else { return Ok(()) };
+    let cause = match error.into_cause() {
+        Cause::InCall => Cause::InCall,
+        Cause::NoMemory | Cause::NoAnswer => Cause::NoMemory,
         // It is refused if there is none: the control was closed or discarded. A till whose disk failed is over.
-        _ => Ok(()),
-    }
+        _ => return Ok(()),
+    };
+    control.set_rollback_due(true);
+    Err(cause)
 }
 
 impl HardTotals<'_> {

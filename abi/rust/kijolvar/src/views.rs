@@ -3,6 +3,7 @@ use crate::line::bytes_of;
 
 /// What a line display shows.
 #[derive(Debug, Clone, PartialEq, Eq)]
+#[non_exhaustive]
 pub struct DisplayView {
     /// All characters, row by row.
     pub characters: Vec<u8>,
@@ -22,6 +23,7 @@ pub enum Alignment {
 
 /// Characters of a receipt, and whether each is bold.
 #[derive(Debug, Clone, PartialEq, Eq, Default)]
+#[non_exhaustive]
 pub struct PrintedText {
     /// The characters.
     pub characters: Vec<u8>,
@@ -31,6 +33,7 @@ pub struct PrintedText {
 
 /// What a printer has printed.
 #[derive(Debug, Clone, PartialEq, Eq)]
+#[non_exhaustive]
 pub enum Printed {
     /// A line.
     Line(Alignment, PrintedText),
@@ -40,6 +43,7 @@ pub enum Printed {
 
 /// What a receipt printer is physically.
 #[derive(Debug, Clone, PartialEq, Eq)]
+#[non_exhaustive]
 pub struct PrinterView {
     /// Whether its cover is open.
     pub is_cover_open: bool,

@@ -1,6 +1,7 @@
 //! What a printer sends, as what it means for a device.
 
-/// What the hardware of a device is, as numbers. Only those of the device's kind count.
+/// What the hardware of a device is, as numbers. Only those of the device's kind count. Later versions may have more,
+/// so end with `..WireSettings::default()`.
 #[repr(C)]
 #[derive(Debug, Clone, Copy, PartialEq, Eq)]
 pub struct WireSettings {
@@ -43,6 +44,7 @@ impl Default for WireSettings {
 
 /// What a printer was asked before. The first four are answered at once (DLE EOT), the others in order (GS r).
 #[derive(Debug, Clone, Copy, PartialEq, Eq)]
+#[non_exhaustive]
 pub enum Asked {
     /// Nothing.
     Nothing = 0,
@@ -62,6 +64,7 @@ pub enum Asked {
 
 /// What was read of a printer's bytes, up to the end of its first reply ([`Till::reply`](crate::Till::reply)).
 #[derive(Debug, Clone, PartialEq, Eq)]
+#[non_exhaustive]
 pub struct PrinterReply {
     /// How many bytes were read. Pass the others again, with what comes after them.
     pub used: usize,

@@ -3,9 +3,11 @@ use kijolvar::standard::{Category, DrawerStatus, ScrollDirection, State, PTR_CP_
 use kijolvar::standard::{DisplayAttribute, ErrorLocus, ErrorReply, ExtendedCode, PrinterStation, ResultCode};
 use kijolvar::standard::{PowerNotify, PowerStatus};
 use kijolvar::{backup, check, devices, files, migrate, StatusUpdate, Till, Totals, Value, Work, BUILT_PROFILE};
-use kijolvar::{Actor, Asked, CashDrawer, Cause, Error, Event, Events, HardTotals, Order, PosPrinter, PrinterReply};
+use kijolvar::{Actor, Asked, CashDrawer, Cause, Error, Event, Events, HardTotals, Order, PosPrinter};
 use kijolvar::{DisplaySettings, Driver, DriverTill, EscPosPrinter, EscPosSettings, Port, Scan, SerialDisplay};
+use kijolvar::{ErrorEvent, Key};
 use kijolvar::{Property, Scanner, SerialSettings, WedgeScanner, WireSettings};
+use std::cell::RefCell;
 use std::fs::File;
 use std::io::{ErrorKind, Read, Write};
 use std::net::TcpListener;
@@ -516,7 +518,7 @@ fn replies_are_lines() {
     assert_eq!((reply.used, reply.skipped), (5, 1));
     assert_eq!(reply.lines[0], "input r1 cover open");
     let begun = till.reply("r1", &settings, Asked::Nothing, &open[5..]).unwrap();
-    assert_eq!(begun, PrinterReply { used: 0, skipped: 0, lines: Vec::new() });
+    assert_eq!((begun.used, begun.skipped, begun.lines), (0, 0, Vec::new()));
     let job = till.reply("d1", &settings, Asked::Nothing, b"7\"@@@E\0").unwrap();
     assert_eq!(job.lines, ["job 5"]);
     let pin = till.reply("d1", &settings, Asked::DrawerInOrder, &[1]).unwrap();
@@ -1105,6 +1107,210 @@ fn a_display_that_takes_too_long_is_lost() {
     assert_eq!(offline.code(), Some(ResultCode::Offline));
     let state = till.driver_state("p1").unwrap();
     assert_eq!((state.is_online, state.port_error), (false, Some(110)));
+}
+
+/// A drawer that isn't there, whose port had this error, and is open or not.
+struct Away(Option<bool>);
+
+impl Driver for Away {
+    fn category(&self) -> Category {
+        Category::CashDrawer
+    }
+
+    fn is_online(&self) -> bool {
+        false
+    }
+
+    fn port_error(&self) -> Option<i32> {
+        Some(19)
+    }
+
+    fn is_port_open(&self) -> bool {
+        self.0.unwrap_or_else(|| self.is_online())
+    }
+}
+
+#[test]
+fn a_device_that_is_off_says_why_its_port_is_not_open() {
+    let (till, place) = (till(), Place::new("offline"));
+    let settings = DisplaySettings { pause: Duration::ZERO, ..DisplaySettings::default() };
+    till.drive("p1", SerialDisplay::open(place.file().as_path(), settings)).unwrap();
+    let display = till.line_display("p1").unwrap().enabled().unwrap();
+    let refused = || {
+        let error = display.display_text("4.50", DisplayAttribute::Normal).unwrap_err();
+        assert_eq!((error.code(), error.reason()), (Some(ResultCode::Offline), Some("The display is off.")));
+        let number = error.port_error().and_then(|fault| fault.raw_os_error());
+        assert_eq!(std::error::Error::source(&error).is_some(), number.is_some());
+        (error.to_string(), number)
+    };
+    let said = |why: &str| format!("displayText: E_OFFLINE: The display is off{why}.");
+    assert_eq!(refused(), (said(": No such file or directory"), Some(2)));
+    std::fs::create_dir(place.file()).unwrap();
+    till.run_devices(Duration::ZERO).unwrap();
+    assert_eq!(refused(), (said(": Is a directory"), Some(21)));
+    std::fs::remove_dir(place.file()).unwrap();
+    std::os::unix::fs::symlink("/dev/null", place.file()).unwrap();
+    assert!(till.run_devices(Duration::ZERO).unwrap());
+    display.display_text("4.50", DisplayAttribute::Normal).unwrap();
+    // What the port had before is no reason any more.
+    till.input_power("p1", false).unwrap();
+    assert_eq!(refused(), (said(""), None));
+    assert_eq!(till.driver_state("p1").unwrap().port_error, Some(21));
+}
+
+#[test]
+fn a_driver_says_whether_its_port_is_open() {
+    for (is_port_open, has_reason, lines) in [
+        (None, true, "show d1"),
+        (Some(false), true, "show d1"),
+        (Some(true), false, "show d1"),
+        (None, false, "# open d1"),
+    ] {
+        let till = till();
+        till.drive("d1", Away(is_port_open)).unwrap();
+        let drawer = till.cash_drawer("d1").unwrap().enabled().unwrap();
+        // A line may have opened the control on another device.
+        till.carry_out(lines).unwrap();
+        let said = drawer.open_drawer().unwrap_err().to_string();
+        let reason = if has_reason { ": No such device" } else { "" };
+        assert_eq!(said, format!("openDrawer: E_OFFLINE: The drawer is off{reason}."), "{is_port_open:?} {lines}");
+    }
+}
+
+/// What a driver has come by: its till, and controls of it. It drops one and discards the key of another within its
+/// next order.
+struct Met {
+    till: &'static Till,
+    drawer: CashDrawer<'static>,
+    totals: HardTotals<'static>,
+    event: ErrorEvent,
+    given_back: Option<(Scanner<'static>, Key<PosPrinter<'static>>)>,
+    count: u32,
+}
+
+thread_local! {
+    static MET: RefCell<Option<Met>> = const { RefCell::new(None) };
+}
+
+impl Met {
+    /// Makes each call that a till and its controls have, which has to be refused.
+    fn calls(&mut self) {
+        let (till, drawer, totals) = (self.till, &self.drawer, &self.totals);
+        let (settings, key) = (WireSettings::default(), CashDrawer::named(till, "new"));
+        let refused = [
+            key.err(),
+            till.carry_out("show d1").err(),
+            till.next_event().err(),
+            till.events().next().unwrap().err(),
+            till.cash_drawer("d1").err(),
+            till.input_drawer("d1", true).err(),
+            till.work("r1").err(),
+            till.show_drawer("d1").err(),
+            till.attach("d1", 1).err(),
+            till.detach("d1").err(),
+            till.host("d1").err(),
+            till.tear_off("r1").err(),
+            till.next_order().err(),
+            till.drive("s1", Codes::of(&[])).err(),
+            till.run_devices(Duration::ZERO).err(),
+            till.driver_state("d1").err(),
+            till.reply("r1", &settings, Asked::Nothing, &[]).err(),
+            drawer.open_drawer().err(),
+            drawer.next_event().err(),
+            drawer.close().err(),
+            drawer.open("d1").err(),
+            drawer.reply_to(self.event, ErrorReply::Clear).err(),
+            drawer.pump(|_| None).err(),
+            totals.transaction(|_| Ok::<_, Error>(())).err(),
+        ];
+        for (place, error) in refused.into_iter().enumerate() {
+            let error = error.unwrap_or_else(|| panic!("{place}"));
+            assert!(matches!(error.cause(), Cause::InCall), "{error}");
+            assert!(error
+                .to_string()
+                .ends_with(": a driver can't call its till, so make this one once that has returned"));
+        }
+        assert_eq!((drawer.device().as_deref(), totals.device().as_deref()), (Some("d1"), Some("t1")));
+        if let Some((scanner, key)) = self.given_back.take() {
+            drop(scanner);
+            key.clone().discard(till).unwrap();
+            assert!(matches!(PosPrinter::of(till, &key).unwrap_err().cause(), Cause::Discarded));
+        }
+        self.count += 1;
+    }
+}
+
+/// A drawer whose driver calls its till whenever that asks something.
+struct Calling;
+
+impl Calling {
+    fn calls() {
+        MET.with_borrow_mut(|met| met.iter_mut().for_each(Met::calls));
+    }
+}
+
+impl Driver for Calling {
+    fn category(&self) -> Category {
+        Category::CashDrawer
+    }
+
+    fn is_online(&self) -> bool {
+        Calling::calls();
+        true
+    }
+
+    fn carry_out(&mut self, _: &mut DriverTill<'_>, _: &Order) -> bool {
+        Calling::calls();
+        true
+    }
+
+    fn happened(&mut self, _: &mut DriverTill<'_>) -> Vec<String> {
+        Calling::calls();
+        Vec::new()
+    }
+
+    fn poll(&mut self, _: &mut DriverTill<'_>) {
+        Calling::calls();
+    }
+}
+
+/// An ErrorEvent of a printer of the till.
+fn error_event(till: &Till) -> ErrorEvent {
+    let printer = till.pos_printer("r1").unwrap().enabled().unwrap();
+    printer.set_async_mode(true).unwrap();
+    printer.print_normal(PrinterStation::Receipt, "Bread\n").unwrap();
+    till.input_cover("r1", true).unwrap();
+    till.work("r1").unwrap();
+    let found = printer.events().find_map(|event| match event {
+        Ok(Event::Error(error)) => Some(error),
+        _ => None,
+    });
+    till.input_cover("r1", false).unwrap();
+    printer.clear_output().unwrap();
+    found.unwrap()
+}
+
+#[test]
+fn a_driver_can_not_call_its_till() {
+    let till: &'static Till = Box::leak(Box::new(till()));
+    let event = error_event(till);
+    till.drive("d1", Calling).unwrap();
+    let (drawer, totals) = (till.cash_drawer("d1").unwrap(), till.hard_totals("t1").unwrap().enabled().unwrap());
+    let scanner = till.scanner("s1").unwrap().enabled().unwrap();
+    let key = till.pos_printer("r1").unwrap().enabled().unwrap().into_key();
+    let own = till.cash_drawer("d1").unwrap().enabled().unwrap();
+    MET.set(Some(Met { till, drawer, totals, event, given_back: Some((scanner, key)), count: 0 }));
+    // The order is done, and so is what was given back within it.
+    own.open_drawer().unwrap();
+    assert!(own.drawer_opened().unwrap());
+    till.run_devices(Duration::ZERO).unwrap();
+    assert!(till.driver_state("d1").unwrap().is_online);
+    let Met { drawer, totals, count, .. } = MET.take().unwrap();
+    assert!(count >= 5, "{count}");
+    drop((till.scanner("s1").unwrap().enabled().unwrap(), till.pos_printer("r1").unwrap().enabled().unwrap()));
+    // The controls that were refused work on.
+    drawer.enabled().unwrap().open_drawer().unwrap();
+    assert_eq!(totals.number_of_files().unwrap(), 0);
 }
 
 #[test]
@@ -2170,7 +2376,8 @@ mod system {
         }
     }
 
-    /// Does something, and returns what was synced. Each sync fails with the system's number of a fault, if that isn't 0.
+    /// Does something, and returns what was synced. Each sync fails with the system's number of a fault, if that isn't
+    /// 0.
     pub fn with_sync_fault<R>(fault: c_int, does: impl FnOnce() -> R) -> (R, Vec<PathBuf>) {
         SYNCED.take();
         SYNC_FAULT.set(fault);

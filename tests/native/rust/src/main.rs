@@ -6,7 +6,9 @@ use kijolvar::{
     EscPosSettings, Event, Flow, Order, Port, PosPrinter, Protocol, Scan, SerialDisplay, SerialSettings, Till, Totals,
     WedgeScanner, BUILT_PROFILE,
 };
+use std::cell::RefCell;
 use std::io::{BufRead, Write};
+use std::rc::Rc;
 use std::sync::{Mutex, MutexGuard};
 use std::time::Duration;
 
@@ -86,17 +88,30 @@ fn open_scanner(till: &Till, words: &Words) -> Result<String, Error> {
 
 /// What becomes of the device of a driver of the host's own.
 struct Fate {
-    /// How many orders it takes, and the last one.
+    /// How many orders it takes, and the last one. Whether it calls its till with each, and what that came to.
     left: u32,
     did: String,
+    calls: bool,
     says: Vec<String>,
     is_away: bool,
     codes: Vec<Scan>,
     given_up: u32,
 }
 
-static FATE: Mutex<Fate> =
-    Mutex::new(Fate { left: 0, did: String::new(), says: Vec::new(), is_away: false, codes: Vec::new(), given_up: 0 });
+static FATE: Mutex<Fate> = Mutex::new(Fate {
+    left: 0,
+    did: String::new(),
+    calls: false,
+    says: Vec::new(),
+    is_away: false,
+    codes: Vec::new(),
+    given_up: 0,
+});
+
+thread_local! {
+    /// The host's till, as its driver may have it.
+    static TILL: RefCell<Option<Rc<Till>>> = const { RefCell::new(None) };
+}
 
 fn fate() -> MutexGuard<'static, Fate> {
     FATE.lock().unwrap()
@@ -113,6 +128,10 @@ impl Driver for Own {
     fn carry_out(&mut self, _: &mut DriverTill<'_>, order: &Order) -> bool {
         let mut fate = fate();
         fate.did = words_of(order);
+        if fate.calls {
+            let till = TILL.with_borrow(|till| till.clone().unwrap());
+            fate.did = till.run_devices(Duration::ZERO).map_or_else(|error| refusal(&error), |_| "ok".to_string());
+        }
         let is_done = fate.left > 0;
         fate.left = fate.left.saturating_sub(1);
         is_done
@@ -242,8 +261,10 @@ fn print(printer: &PosPrinter<'_>, digits: &str, is_later: bool) -> Result<Strin
 
 /// Why printing bytes is refused; nothing if it isn't.
 fn reason(printer: &PosPrinter<'_>, digits: &str) -> String {
-    let refused = print(printer, digits, false).err();
-    refused.map_or(String::new(), |error| error.reason().map_or_else(|| error.to_string(), str::to_string))
+    let Err(error) = print(printer, digits, false) else { return String::new() };
+    let said = error.to_string();
+    let behind = error.reason().and_then(|reason| said.find(reason.trim_end_matches('.')));
+    said[behind.unwrap_or(0)..].to_string()
 }
 
 /// Delivers all events of a control, each with the reply ER_CLEAR: how many were ErrorEvents.
@@ -279,6 +300,10 @@ fn obey<'till>(till: &'till Till, typed: &mut Typed<'till>, line: &str) -> Resul
         "scanner" => open_scanner(till, &words),
         "own" => open_own(till, &words),
         "did" => Ok(fate().did.clone()),
+        "calls" => {
+            fate().calls = true;
+            Ok("ok".to_string())
+        }
         "says" => {
             fate().says = rest.split(';').map(str::to_string).collect();
             Ok("ok".to_string())
@@ -335,6 +360,7 @@ fn refusal(error: &Error) -> String {
         Cause::NoMemory => "KIJ_NO_MEMORY".to_string(),
         Cause::NoAnswer => "KIJ_NO_ANSWER".to_string(),
         Cause::WrongVersion => "KIJ_WRONG_VERSION".to_string(),
+        Cause::InCall => "KIJ_IN_CALL".to_string(),
         _ => error.to_string(),
     }
 }
@@ -363,11 +389,13 @@ fn main() {
     }
     let profile = std::fs::read_to_string(&words[1]).expect("a profile");
     let totals = words.get(2).map_or(Totals::Memory, Totals::create);
-    let till = Till::open(&profile, totals).expect("a till");
+    let till = Rc::new(Till::open(&profile, totals).expect("a till"));
+    TILL.set(Some(Rc::clone(&till)));
     let mut typed = Typed::default();
     let mut out = std::io::stdout().lock();
     for line in std::io::stdin().lock().lines() {
         let answer = obey(&till, &mut typed, &line.expect("a line")).unwrap_or_else(|error| refusal(&error));
         writeln!(out, "{answer}").and_then(|()| out.flush()).expect("somebody who listens");
     }
+    TILL.take();
 }

@@ -91,10 +91,21 @@ pub fn scanner_set(control: &Scanner, name: &str, word: &str) -> Option<Shown> {
 /// Calls a method of LineDisplay: what is printed, or nothing if there is no typed call.
 pub fn display_method(control: &LineDisplay, word: &str, words: &[&str]) -> Option<Shown> {
     Some(match (word, words.len()) {
-        ("displayText", 2) => nothing(control.display_text(bytes(words[0])?, DisplayAttribute::from_number(number(words[1])?)?)),
-        ("displayTextAt", 4) => nothing(control.display_text_at(number(words[0])?, number(words[1])?, bytes(words[2])?, DisplayAttribute::from_number(number(words[3])?)?)),
+        ("displayText", 2) => {
+            nothing(control.display_text(bytes(words[0])?, DisplayAttribute::from_number(number(words[1])?)?))
+        }
+        ("displayTextAt", 4) => {
+            nothing(control.display_text_at(
+                number(words[0])?,
+                number(words[1])?,
+                bytes(words[2])?,
+                DisplayAttribute::from_number(number(words[3])?)?,
+            ))
+        }
         ("clearText", 0) => nothing(control.clear_text()),
-        ("scrollText", 2) => nothing(control.scroll_text(ScrollDirection::from_number(number(words[0])?)?, number(words[1])?)),
+        ("scrollText", 2) => {
+            nothing(control.scroll_text(ScrollDirection::from_number(number(words[0])?)?, number(words[1])?))
+        }
         _ => return None,
     })
 }
@@ -124,8 +135,12 @@ pub fn display_set(control: &LineDisplay, name: &str, word: &str) -> Option<Show
 /// Calls a method of POSPrinter: what is printed, or nothing if there is no typed call.
 pub fn printer_method(control: &PosPrinter, word: &str, words: &[&str]) -> Option<Shown> {
     Some(match (word, words.len()) {
-        ("printNormal", 2) => nothing(control.print_normal(PrinterStation::from_number(number(words[0])?)?, bytes(words[1])?)),
-        ("printImmediate", 2) => nothing(control.print_immediate(PrinterStation::from_number(number(words[0])?)?, bytes(words[1])?)),
+        ("printNormal", 2) => {
+            nothing(control.print_normal(PrinterStation::from_number(number(words[0])?)?, bytes(words[1])?))
+        }
+        ("printImmediate", 2) => {
+            nothing(control.print_immediate(PrinterStation::from_number(number(words[0])?)?, bytes(words[1])?))
+        }
         ("cutPaper", 1) => nothing(control.cut_paper(number(words[0])?)),
         ("clearOutput", 0) => nothing(control.clear_output()),
         _ => return None,

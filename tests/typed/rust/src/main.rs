@@ -59,6 +59,7 @@ impl<'till> Any<'till> {
                 Value::Number(number) => number.to_string(),
                 Value::Truth(is_true) => is_true.to_string(),
                 Value::Bytes(bytes) => hex(&bytes),
+                other => format!("{other:?}"),
             }))
         })
     }
@@ -150,6 +151,7 @@ impl Run<'_> {
             Ok(Work::Failed { code, extended }) => {
                 format!("failed {} {}", code.number(), extended.map_or(0, |code| code.number()))
             }
+            Ok(other) => format!("{other:?}"),
             Err(error) => answer(Err(error)),
         }
     }
