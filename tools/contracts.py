@@ -20,8 +20,8 @@ and `tests/documents.sh` compares it. [What is proved](what-is-proved.md) is the
 
 A heading is a crate, lowest first. A row is a function or a type:
 
-- **What it says** is the front of its docstring. Only the clauses are proved: how many writes and syncs a call makes, for
-  one, is said there, and isn't.
+- **What it says** is the front of its docstring. Only the clauses are proved: how many writes and syncs a call makes,
+  for one, is said there, and isn't.
 - **Requires** names the premises that a caller has to meet, **Ensures** what the caller gets. Both are names of
   clauses. A clause without a name counts as 1.
 - A trait's functions are contracts that each type with the trait meets. "`MemDisk` as `Disk`" is such a type, with the
