@@ -386,6 +386,7 @@ module _ {D P : Type 0} (bound : DiskGhosts D) (peripherals : Ghosts P) where
       → c.tally ≡ forgets far b.tally → done ≡ progress.Ready
       → (tells : RunsAndWrites bound peripherals a s (line ∷ []) before after c left)
       × LeavesReady a.tally c.tally done tells.text
+  unfolding tells_stay
   tells_settled far (h, leaves) stays alone tally ready =
       (tells_stay h stays alone, (ready, keeps_order far leaves tally))
 
@@ -394,21 +395,25 @@ module _ {D P : Type 0} (bound : DiskGhosts D) (peripherals : Ghosts P) where
       × LeavesOrder a.tally b.tally far cuts.text → Stays peripherals b c → LeavesHostAlone b.tally c.tally
       → c.tally ≡ forgets far b.tally → done ≡ progress.Ready
       → (cuts : Cuts bound peripherals a s line before after c left) × LeavesReady a.tally c.tally done cuts.text
+  unfolding cuts_stay
   cuts_settled far (h, leaves) stays alone tally ready =
       (cuts_stay h stays alone, (ready, keeps_order far leaves tally))
 
   -- no line yet, one after another
   each_none : ((disk : D) → OnlyNow bound disk) → (c : Counter D P) (s : Session) (given : Given)
       → CarriesEach bound peripherals c s [] given given c s
+  unfolding tells_none
   each_none only c s given = (tells_none only c s given, refl, refl)
 
   -- one line more
-  each_line : ((disk : D) → OnlyNow bound disk) → (lines : List (List ℕ)) {a b c : Counter D P} {s mid left : Session}
-      {line : List ℕ} {before between after : Given} → CarriesEach bound peripherals a s lines before between b mid
+  each_line : ((disk : D) → OnlyNow bound disk) → (lines : List (List ℕ)) (a : Counter D P) (s : Session) (before : Given)
+      {b c : Counter D P} {mid left : Session} {line : List ℕ} {between after : Given}
+      → CarriesEach bound peripherals a s lines before between b mid
       → (tells : RunsAndWrites bound peripherals b mid (line ∷ []) between after c left)
       → (tells.text ≡ codes "memory\n" → c.tally ≡ b.tally)
       → CarriesEach bound peripherals a s (lines ++ line ∷ []) before after c left
-  each_line only [] {c} {left} {after} (none, nothing, same) tells quiet = (
+  unfolding tells_join
+  each_line only [] a s before {c} {left} {after} (none, nothing, same) tells quiet = (
     c,
     left,
     after,
@@ -416,18 +421,19 @@ module _ {D P : Type 0} (bound : DiskGhosts D) (peripherals : Ghosts P) where
     (λ memory. quiet (sym (ap (λ t. t ++ tells.text) nothing) ∙ memory) ∙ same),
     each_none only c left after,
   )
-  each_line only (x ∷ xs) (mid, between, given, first, is_quiet, rest) tells quiet =
-      (mid, between, given, first, is_quiet, each_line only xs rest tells quiet)
+  each_line only (x ∷ xs) a s before (mid, between, given, first, is_quiet, rest) tells quiet =
+      (mid, between, given, first, is_quiet, each_line only xs mid between given rest tells quiet)
 
   -- no line more
-  each_then : (lines : List (List ℕ)) {a b c : Counter D P} {s mid left : Session} {before between after : Given}
-      → CarriesEach bound peripherals a s lines before between b mid
+  each_then : (lines : List (List ℕ)) (a : Counter D P) (s : Session) (before : Given) {b c : Counter D P}
+      {mid left : Session} {between after : Given} → CarriesEach bound peripherals a s lines before between b mid
       → (tells : RunsAndWrites bound peripherals b mid [] between after c left) → tells.text ≡ []
       → c.tally ≡ b.tally → CarriesEach bound peripherals a s lines before after c left
-  each_then [] (none, nothing, same) tells empty tally =
+  unfolding tells_join
+  each_then [] a s before (none, nothing, same) tells empty tally =
       (tells_join none tells, ap (λ t. t ++ tells.text) nothing ∙ empty, tally ∙ same)
-  each_then (x ∷ xs) (mid, between, given, first, is_quiet, rest) tells empty tally =
-      (mid, between, given, first, is_quiet, each_then xs rest tells empty tally)
+  each_then (x ∷ xs) a s before (mid, between, given, first, is_quiet, rest) tells empty tally =
+      (mid, between, given, first, is_quiet, each_then xs mid between given rest tells empty tally)
 
   module _ {A : Type 0} where
     -- no line yet
@@ -452,6 +458,7 @@ module _ {D P : Type 0} (bound : DiskGhosts D) (peripherals : Ghosts P) where
 
     pub carries_begin : ((disk : D) → OnlyNow bound disk) → (course_of : P → Course) (c : Counter D P) (s : Session)
         (texts : List (Vec ℕ A)) (given : Given) → CarriesSo course_of c s texts texts given given c s
+    unfolding carries_none
     carries_begin only course_of c s texts given =
         (carries_none only c s texts given, each_none only c s given, λ some. absurd (some refl))
 
@@ -465,7 +472,7 @@ module _ {D P : Type 0} (bound : DiskGhosts D) (peripherals : Ghosts P) where
           × LeavesReady b.tally c.tally (progress_in course_of c) tells.text
           → CarriesSo course_of a s texts rest before after c left
       carries_line only {rest} {line} is (h, each, ready) (tells, (now_ready, quiet)) =
-          let more = each_line only h.carried each tells quiet in (
+          let more = each_line only h.carried a s before each tells quiet in (
             record {
               carried = h.carried ++ line ∷ [];
               split = h.split ∙ ap (λ (ls : List (List ℕ)). h.carried ++ (ls ++ lines_in rest)) is
@@ -483,12 +490,13 @@ module _ {D P : Type 0} (bound : DiskGhosts D) (peripherals : Ghosts P) where
           → CarriesSo course_of a s texts left_texts before between b mid
           → Holds bound peripherals b mid between after c left
           → CarriesOn bound peripherals a s texts left_texts before after c left
+      unfolding tells_held
       carries_held (h, each, ready) held = record {
         carried = h.carried;
         split = h.split;
         tells = subst (λ ls. RunsAndWrites bound peripherals a s ls before after c left) (append-nil h.carried)
             (tells_join h.tells (tells_held held));
-        each = λ some. each_then h.carried each (tells_held held) refl held.tally;
+        each = λ some. each_then h.carried a s before each (tells_held held) refl held.tally;
         unforgotten = λ none some. held.tally ∙ h.unforgotten none some;
       }
 
@@ -515,11 +523,12 @@ module _ {D P : Type 0} (bound : DiskGhosts D) (peripherals : Ghosts P) where
         → CarriesSo course_of a s texts left_texts before after b left → Stays peripherals b c
         → LeavesHostAlone b.tally c.tally → c.tally ≡ forgets (progress_in course_of b) b.tally → left_texts ≡ []
         → CarriesOn bound peripherals a s texts left_texts before after c left
-    carries_stay only course_of {b} {left} {after} (h, each, ready) stays alone tally none = record {
+    unfolding tells_stay tells_none
+    carries_stay only course_of {a} {b} {s} {left} {before} {after} (h, each, ready) stays alone tally none = record {
       carried = h.carried;
       split = h.split;
       tells = tells_stay h.tells stays alone;
-      each = λ some. each_then h.carried each (tells_stay (tells_none only b left after) stays alone) refl
+      each = λ some. each_then h.carried a s before each (tells_stay (tells_none only b left after) stays alone) refl
           (tally ∙ ap (λ far. forgets far b.tally) (ready some));
       unforgotten = λ idle some. absurd (some none);
     }
