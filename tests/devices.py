@@ -2745,7 +2745,7 @@ def fails_to_set(*_):
 
 def try_lines_in_use():
     """A serial line is open for one port at a time. A port that is refused changes nothing of it."""
-    for made in (SerialPort, kijolvar.FilePort):
+    for made in (SerialPort, kijolvar.FilePort, kijolvar.drivers._KeyPort):
         with contextlib.ExitStack() as stack:
             device, name = stack.enter_context(Scanner(cable())), made.__name__
             path = os.path.realpath(device.path)
@@ -3271,19 +3271,45 @@ def try_typed_within_the_loop():
         told("the codes", [b"1", b"2", b"3"], shop.told(3))
 
 
+def try_raw_keys():
+    """The bytes of a terminal that types key events pass as they are, also if a program has left it otherwise."""
+    with Scanner(cable()) as device, contextlib.ExitStack() as stack:
+        line = os.open(device.path, os.O_RDWR | os.O_NOCTTY)
+        stack.callback(os.close, line)
+        settings = termios.tcgetattr(line)
+        settings[0] |= termios.ICRNL
+        settings[3] |= termios.ICANON | termios.ECHO
+        termios.tcsetattr(line, termios.TCSANOW, settings)
+        port = kijolvar.drivers._KeyPort(device.path)
+        stack.callback(port.close)
+        port.open()
+        found = termios.tcgetattr(line)
+        told("a terminal of keys is set up", (0, 0, termios.CS8),
+             (found[0] & termios.ICRNL, found[3] & (termios.ICANON | termios.ECHO), found[2] & termios.CSIZE))
+        events, got = typed("4006381"), []
+        device.garbage(events)
+        told("its bytes are as they were sent", (True, events),
+             (until(lambda: got.append(port.read(0.01)) or len(b"".join(got)) >= len(events)), b"".join(got)))
+
+
 def try_scan_codes():
-    """The scan code of each key is left out of a keyboard's events. One that refuses that opens too."""
+    """The scan code of each key is left out of a keyboard's events. One that refuses that opens too. Its keys are given
+    back as it is closed, though a process that was forked may have it still."""
     asked, number = [], errno.EINVAL
 
     def refuses(file, *words):
         asked.append(words)
         raise OSError(number, "refused")
-    with Scanner(cable()) as device, mock.patch("fcntl.ioctl", refuses):
+    # A keyboard is no terminal.
+    with (Scanner(cable()) as device, mock.patch("fcntl.ioctl", refuses),
+          mock.patch("os.isatty", return_value=False)):
         port = kijolvar.drivers._KeyPort(device.path)
         port.open()
         told("what is asked of a keyboard", [(0x40044590, 1), (0x40104593, struct.pack("=IIQ", 4, 0, 0))], asked)
         told("it is open", True, port.is_open)
+        asked.clear()
         port.close()
+        told("what is asked as it is closed", [(0x40044590, 0)], asked)
         number = errno.EBUSY
         told("one that another program has", (number, f"{device.path} is in use"), refusal(port))
 
@@ -3712,7 +3738,8 @@ def try_handlers_at_openings():
         if what == number:
             signal.raise_signal(signal.SIGUSR1)
         return ioctl(file, what, *words)
-    with Scanner(cable()) as device, mock.patch("fcntl.ioctl", rings_then):
+    with (Scanner(cable()) as device, mock.patch("fcntl.ioctl", rings_then),
+          mock.patch("os.isatty", return_value=False)):
         for number in (0x40044590, 0x40104593):
             told(f"a handler in {number:#x} as a keyboard opens", "InterruptedError", name_of(
                 kijolvar.drivers._KeyPort(device.path).open))
@@ -3762,10 +3789,12 @@ def try_handlers_at_connections():
 def try_interrupted_openings():
     """An interrupt as a port is opened leaves no file open."""
     for name, call, kind in (("a keyboard", "fcntl.ioctl", kijolvar.drivers._KeyPort),
+                             ("a terminal of keys", "termios.tcsetattr", kijolvar.drivers._KeyPort),
                              ("a line", "termios.tcsetattr", kijolvar.FilePort),
                              ("a line that is locked", "fcntl.ioctl", kijolvar.FilePort),
                              ("a line that is ready", "os.getpid", kijolvar.FilePort)):
-        with Scanner(cable()) as device, mock.patch(call, side_effect=KeyboardInterrupt):
+        with (Scanner(cable()) as device, mock.patch(call, side_effect=KeyboardInterrupt),
+              mock.patch("os.isatty", return_value=name != "a keyboard")):
             port, files, found = kind(device.path), len(os.listdir("/proc/self/fd")), "no interrupt"
             try:
                 port.open()

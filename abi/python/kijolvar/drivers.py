@@ -26,8 +26,9 @@ from ._devices import Order
 from ._library import Path
 from ._links import AskedLink, PrinterLink, Wire
 from ._questions import ProfileDevice
+from ._unique import Unique
 from ._wire import WireSettings
-from .ports import FilePort, MinorFaults, Port, PortError, check_choice, port_of
+from .ports import FilePort, MinorFaults, Port, PortError, check_choice, port_of, unlock
 
 if TYPE_CHECKING:
     from .till import Till
@@ -645,19 +646,32 @@ def _is_keyboard(device: Union[Port, Path]) -> bool:
 
 
 class _KeyPort(FilePort):
-    """A device of Linux input events, which other programs don't see meanwhile."""
+    """A device of Linux input events, which other programs don't see meanwhile. A terminal line is in use for any other
+    port, as with FilePort."""
 
     _way = os.O_RDONLY
 
     def _prepare(self, file: int) -> None:
-        # A pipe has no keys to keep from other programs.
         kind = stat.S_IFMT(os.fstat(file).st_mode)
-        if kind != stat.S_IFIFO:
-            self._check_kind(kind)
-            with MinorFaults(errno.ENOTTY, errno.EINVAL):
-                fcntl.ioctl(file, _GRAB, 1)
+        if kind == stat.S_IFIFO:
+            # A pipe has no keys to keep from other programs.
+            return
+        self._check_kind(kind)
+        if os.isatty(file):
+            self._set_up_own(file)
+            return
+        with MinorFaults(errno.ENOTTY, errno.EINVAL):
+            fcntl.ioctl(file, _GRAB, 1)
+        with MinorFaults():
+            fcntl.ioctl(file, _SET_MASK, _NO_SCAN_CODES)
+
+    def _let_go(self, file: int) -> None:
+        """Gives the keys or the line back, also if a process that was forked has the file still. Nothing was sent."""
+        if os.isatty(file):
+            unlock(file)
+        else:
             with MinorFaults():
-                fcntl.ioctl(file, _SET_MASK, _NO_SCAN_CODES)
+                fcntl.ioctl(file, _GRAB, 0)
 
 
 class WedgeScanner(Driver):
