@@ -126,7 +126,7 @@ class Session(Unique):
 
     def __init__(self, library: ctypes.CDLL, profile: bytes, totals: BinaryIO | None = None, *,
                  begin: str = "kijolvar_open_file", owns_totals: bool = False) -> None:
-        self._thread = _identity()
+        self._thread, self._process = _identity(), os.getpid()
         self._library, self._totals, self._owns_totals = library, totals, owns_totals
         self._raw = Raw()
         self._mark, self._is_closed = _Mark(), False
@@ -265,6 +265,19 @@ class Session(Unique):
             self._is_closed = self._mark.is_ending = True
         if not (self._mark.doing and is_called(self, "carry_out", "as_call")):
             self._end()
+
+    @property
+    def may_end(self) -> bool:
+        """Whether the till is open and this is its process. One that was forked from it may collect the till before
+        `forked` is called."""
+        return not self._is_closed and self._process == os.getpid()
+
+    def collect(self) -> None:
+        """Ends the till, to which nothing refers any more, in any thread: the library asks for one call at a time, and
+        one that is under way refers to the till."""
+        self._refuse_calls()
+        self._is_closed = True
+        self._end()
 
     def _end(self) -> None:
         """Ends the library's till."""

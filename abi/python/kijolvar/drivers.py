@@ -4,7 +4,7 @@
     till.drive("p1", SerialDisplay(SerialPort("/dev/ttyUSB0", 9600)))
     till.drive("s1", WedgeScanner("/dev/input/by-id/usb-scanner-event-kbd"))
 
-What the bytes of orders and replies are says the library. A driver waits for the device's acknowledgement, with a
+The library says what the bytes of orders and replies are. A driver waits for the device's acknowledgement, with a
 timeout, and opens a port that was lost again. It is used in the till's thread alone. For other hardware make a class of
 your own from `Driver`.
 """
@@ -62,14 +62,16 @@ def _check_pause(name: str, seconds: float) -> None:
         raise ValueError(f"{name} is 0 to {_MOST_SECONDS:,} seconds, such as 1.0: not {seconds!r}")
 
 
-class Driver:
-    """What a till asks of a driver. Make a class of your own from it for your hardware.
+class Driver(Unique):
+    """What a till asks of a driver. Make a class of your own from it for your hardware. A driver can't be copied: both
+    would have the same port.
 
     Attributes:
         category: The category of the devices that it is for, such as "POSPrinter". Without one it is for any.
         reads_orders: Whether `carry_out` looks at the order. If not, it gets one without a name and arguments.
     """
 
+    _noun = "a driver"
     category = ""
     reads_orders = True
 
