@@ -1285,6 +1285,30 @@ def try_immediate_between():
             told(f"{name}: what was late", int(is_given_up), shop.driver.late_orders)
 
 
+def try_waiting_output_among_lines():
+    """A line that works on output that waits does so in any text of lines: what is printed at once before it is tried
+    again doesn't come between."""
+    for lines in ("work r1\n", " work r1\n", "show d1\nwork r1\n", "work r1\r\nshow d1"):
+        name = f"output that waits, by {lines!r}"
+        with contextlib.ExitStack() as stack:
+            shop = Shop(stack)
+            control, device = shop.control, shop.device
+            control.async_mode = True
+            device.after_characters(3, lambda device=device: device.cover(True))
+            told(f"{name}: accepted", None, raised(control.print, TEXT))
+            told(f"{name}: it fails", True, "failed 114 201" in shop.till.carry_out(lines).splitlines())
+            device.cover(False)
+            told(f"{name}: it comes out later", True, until(
+                lambda: shop.till.run_devices(0.01) is not None and len(device.receipt()) == 3))
+            told(f"{name}: that is heard", True, until(
+                lambda: shop.till.run_devices(0.01) is not None and not shop.driver.link._due))
+            told(f"{name}: another order", None, raised(control.print_immediate, 2, b"At once\n"))
+            list(control.events())
+            told(f"{name}: again", True, "done 1" in shop.till.carry_out(lines).splitlines())
+            told(f"{name}: the paper", [b"First line", b"Second line", b"Third line", b"At once"],
+                 characters_of(device))
+
+
 def try_another_between():
     """An order fails and comes out later, and another one is printed before it is tried again: it is a new order then.
     No driver can know whether it is meant once more. What puts nothing on the paper doesn't come between."""

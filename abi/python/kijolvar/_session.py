@@ -158,7 +158,8 @@ class Session(Unique):
         # The devices that are driven, and the orders of hosted devices that came before one of these.
         self._driven: set[bytes] = set()
         self._hosted: deque[bytes] = deque()
-        #: Whether orders are of output that waits: the line is one that works on it.
+        #: Whether orders are of output that waits: the line is one that works on it. A till carries such lines out one
+        #: by one, since nobody can see of which of several lines an order is.
         self.is_working = False
         #: Carries out an order of a driven device: whether it is done, and what happened at the device if it isn't.
         self.serve: Callable[[bytes], tuple[bool, bytes]] | None = None
@@ -451,7 +452,7 @@ class Session(Unique):
             else:
                 break
             code = self._call_again(lines)
-        self.is_working = lines.startswith(b"work ") and lines.count(b"\n", 0, -1) == 0
+        self.is_working = lines.lstrip(b" ").startswith(b"work ") and lines.count(b"\n", 0, -1) == 0
         text = self._told(code)
         if self._has_served and self.served is not None:
             self._has_served = False

@@ -36,8 +36,10 @@ from .ports import check_wait
 from .totals import Totals
 
 C = TypeVar("C", bound=Control)
-# Lines that give up output: an order behind one is a new one.
-_CLEARS = re.compile(r" clear(Output)? *\r?$", re.M)
+# Lines for which a text is carried out line by line, and what each of them has: those that attach a peripheral, those
+# that work on output that waits, and those that give up output, since an order after one is a new one.
+_APART = re.compile(r"^ *(?:attach|work) | clear(?:Output)? *\r?$", re.M)
+_WORDS_APART = "attach ", "work ", " clear"
 
 
 class Printer(POSPrinter):
@@ -492,7 +494,7 @@ class Till(Unique):
         # A text that can't be encoded is refused as a whole.
         text = lines.encode()
         self._drives.has_opened = self._drives.has_opened or "open " in lines
-        if "attach" not in lines and not (" clear" in lines and _CLEARS.search(lines)):
+        if not (any(word in lines for word in _WORDS_APART) and _APART.search(lines)):
             return self._carry_out(text).decode()
         answers: list[str] = []
         try:
