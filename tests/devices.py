@@ -4011,11 +4011,27 @@ def try_refusals():
         control = stack.enter_context(till.printer("r1").in_use())
         told("prints each of two orders that are the same", ([None] * 2, [b"Tea"] * 2),
              ([raised(control.print, b"Tea\n") for _ in range(2)], characters_of(device)))
+    seconds = "".join(f'[[device]]\nname = "{name}"\ncategory = "{category}"\n{more}' for name, category, more in (
+        ("d2", "CashDrawer", ""), ("p2", "LineDisplay", "rows = 2\ncolumns = 20\n"), ("s2", "Scanner", "")))
+    with contextlib.ExitStack() as stack:
+        till, device = stack.enter_context(opened(PROFILE + seconds)), stack.enter_context(Printer(cable()))
+        printer = EscPosPrinter(device.path, timeout=TIMEOUT, pause=PAUSE)
+        for name, driver in (("d", EscPosDrawer(printer)), ("p", SerialDisplay("/dev/null")),
+                             ("s", WedgeScanner("/dev/null"))):
+            till.drive(f"{name}1", driver)
+            told(f"one driver for two devices: {name}",
+                 f"DriverError(\"the driver for '{name}2' has another device: make one for each\")",
+                 repr(fault_of(till.drive, f"{name}2", driver)))
+        told("the first one goes on", (None, 1), (raised(till.drawer("d1").open_drawer), len(device.pulses)))
+        till.close()
+        told("its port is closed with the till", False, printer.link.port.is_open)
     with opened(PROFILE.replace("near = 20", f"near = {MOST_LINES}")) as till:
         told("near its end for ever", "ValueError", name_of(till.drive, "r1", EscPosPrinter("/dev/null")))
     told("no such cutter", "cutter is 'both', 'full', 'partial' or 'absent': not 'none'",
          text_of(EscPosPrinter, "/dev/null", cutter="none"))
     told("no such pin", "ValueError", name_of(EscPosPrinter, "/dev/null", pin=3))
+    told("no such pulse", ["feed and the two times of the pulse are 0 to 255, and the pin is 2 or 5"] * 2,
+         [text_of(EscPosPrinter, "/dev/null", pulse=pulse) for pulse in ((25,), (25, 250, 25))])
     told("no such roll", "ValueError", name_of(EscPosPrinter, "/dev/null", lines=MOST_LINES + 1))
     told("no such protocol", "protocol is 'cd5220' or 'escpos': not 'morse'",
          text_of(SerialDisplay, "/dev/null", "morse"))

@@ -199,8 +199,8 @@ class EscPosPrinter(Driver):
                  is_open_high: bool = True, lines: int = _MOST_LINES, is_asked: bool = False, timeout: float = 5.0,
                  pause: float = 1.0) -> None:
         check_choice("cutter", cutter, _CUTTERS)
-        if not (0 <= feed <= 255 and pin in (2, 5) and all(0 <= time <= 255 for time in pulse)):
-            raise ValueError("feed and the times of the pulse are 0 to 255, and the pin is 2 or 5")
+        if not (0 <= feed <= 255 and pin in (2, 5) and len(pulse) == 2 and all(0 <= time <= 255 for time in pulse)):
+            raise ValueError("feed and the two times of the pulse are 0 to 255, and the pin is 2 or 5")
         if not 1 <= lines <= _MOST_LINES:
             raise ValueError(f"a roll has 1 to {_MOST_LINES} lines")
         _check_timeout(timeout)

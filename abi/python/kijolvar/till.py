@@ -400,8 +400,9 @@ class Till(Unique):
 
         Raises:
             NoDeviceError: The profile has no device of the name, or it can't be driven, as one with `flaky`.
-            DriverError: The driver is for another category, or the device has one already, or an EscPosPrinter is to
-                drive two printers.
+            DriverError: The driver is for another category, or the device has one already, or a driver of this package
+                is to drive two devices.
+            ValueError: The printer has another width than the device, or its rolls have too few lines.
 
         If it raises something, the device has no driver, and neither has the drawer that is on a printer.
         """
