@@ -121,7 +121,9 @@ def _reason(fault: Error) -> str:
     if not isinstance(fault, UposError):
         return str(fault)
     numbers = f"{fault.code} {fault.extended}" if fault.extended else f"{fault.code}"
-    return f"{fault.reason.rstrip('.')} ({fault.name}, {numbers})"
+    # The command prints at once: no OutputID is used up.
+    reason = fault.reason.rstrip(".").removesuffix(", or no OutputID is left")
+    return f"{reason} ({fault.name}, {numbers})"
 
 
 def _advice(fault: Error, given: argparse.Namespace) -> str:
