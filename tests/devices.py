@@ -16,6 +16,7 @@ import io
 import math
 import os
 import pathlib
+import pwd
 import random
 import re
 import select
@@ -1283,6 +1284,30 @@ def try_immediate_between():
             text = [b"First line", b"Second line", b"Third line"]
             told(f"{name}: the paper", [*text, b"At once", *(text * is_given_up)], characters_of(device))
             told(f"{name}: what was late", int(is_given_up), shop.driver.late_orders)
+
+
+def try_waiting_output_among_lines():
+    """A line that works on output that waits does so in any text of lines: what is printed at once before it is tried
+    again doesn't come between."""
+    for lines in ("work r1\n", " work r1\n", "show d1\nwork r1\n", "work r1\r\nshow d1"):
+        name = f"output that waits, by {lines!r}"
+        with contextlib.ExitStack() as stack:
+            shop = Shop(stack)
+            control, device = shop.control, shop.device
+            control.async_mode = True
+            device.after_characters(3, lambda device=device: device.cover(True))
+            told(f"{name}: accepted", None, raised(control.print, TEXT))
+            told(f"{name}: it fails", True, "failed 114 201" in shop.till.carry_out(lines).splitlines())
+            device.cover(False)
+            told(f"{name}: it comes out later", True, until(
+                lambda: shop.till.run_devices(0.01) is not None and len(device.receipt()) == 3))
+            told(f"{name}: that is heard", True, until(
+                lambda: shop.till.run_devices(0.01) is not None and not shop.driver.link._due))
+            told(f"{name}: another order", None, raised(control.print_immediate, 2, b"At once\n"))
+            list(control.events())
+            told(f"{name}: again", True, "done 1" in shop.till.carry_out(lines).splitlines())
+            told(f"{name}: the paper", [b"First line", b"Second line", b"Third line", b"At once"],
+                 characters_of(device))
 
 
 def try_another_between():
@@ -2745,7 +2770,7 @@ def fails_to_set(*_):
 
 def try_lines_in_use():
     """A serial line is open for one port at a time. A port that is refused changes nothing of it."""
-    for made in (SerialPort, kijolvar.FilePort):
+    for made in (SerialPort, kijolvar.FilePort, kijolvar.drivers._KeyPort):
         with contextlib.ExitStack() as stack:
             device, name = stack.enter_context(Scanner(cable())), made.__name__
             path = os.path.realpath(device.path)
@@ -2854,10 +2879,11 @@ def try_scanner():
             told("a scanner is back", [(b"7", 0, b"7")], found)
 
 
-def commanded(*words, meanwhile=lambda: None):
+def commanded(*words, meanwhile=lambda: None, library=None):
     """What `python3 -m kijolvar` prints, without its times, and its status. Something may be done once it has begun."""
+    variables = {**os.environ, "KIJOLVAR_LIBRARY": os.fspath(library or LIBRARY)}
     started = subprocess.Popen([sys.executable, "-m", "kijolvar", *map(str, words)], stdout=subprocess.PIPE,
-                               stderr=subprocess.STDOUT, text=True, cwd=TOP / "abi/python")
+                               stderr=subprocess.STDOUT, text=True, cwd=TOP / "abi/python", env=variables)
     meanwhile()
     said, _ = started.communicate()
     return re.sub(r"after \d+\.\d\d s", "after a time", said).splitlines(), started.returncode
@@ -2874,9 +2900,6 @@ def try_command_with_a_printer():
         told("its page", [b"Kijolvar", b"in the centre", b"at the right", b"x" * 42,
                           b"right below the full line"], characters_of(device))
         told("its cut", True, any(isinstance(item, Cut) for item in device.receipt()))
-        device.cover(True)
-        said, status = commanded("printer", device.path)
-        told("an open cover", (1, True), (status, said[-1].startswith("printer: FAILED:") and "201" in said[-1]))
     with Printer(cable("asked"), is_simple=True) as device:
         said, status = commanded("printer", device.path, "--asked", "--columns", 20, "--cutter", "absent")
         told("a simple printer", (0, "page: done after a time", b"x" * 20),
@@ -2887,6 +2910,55 @@ def try_command_with_a_printer():
     told("a simple printer knows other commands", True, take_unknown() != [])
 
 
+IS_SILENT = "what to do: is it on, and is its cable plugged in at both ends?"
+IS_SIMPLE = " A simple printer says nothing by itself: try --asked."
+AT_LINE = " On a serial line: is --speed right? Try --flow none"
+
+
+def try_command_with_a_printer_in_trouble():
+    """What the command says of a printer that can't print: what is wrong, in plain words, and what to do."""
+    well, silent = "printer: it answers; its cover is closed, its paper there", ["printer: FAILED: it doesn't answer"]
+    simpler = "what to do: if it printed all the same, it doesn't acknowledge what it prints: try --asked."
+    shut = "If not: close its cover, and put paper in; is a light on, as of a jam?"
+    troubles = (
+        ("an open cover", "usb", lambda device: device.cover(True),
+         ["printer: it answers; its cover is open, its paper there",
+          "printer: FAILED: The cover is open (EPTR_COVER_OPEN, 114 201)",
+          "what to do: close the cover, and try again"]),
+        ("no paper", "usb", lambda device: device.load(0),
+         ["printer: it answers; its cover is closed, its paper at its end",
+          "printer: FAILED: There isn't enough paper (EPTR_REC_EMPTY, 114 203)",
+          "what to do: put paper in, close the cover, and try again"]),
+        ("it says nothing", "usb", Printer.hang, [*silent, IS_SILENT + IS_SIMPLE + AT_LINE]),
+        ("it is off", "usb stays", Printer.pull_plug, [*silent, IS_SILENT + IS_SIMPLE + AT_LINE]),
+        ("another speed", "usb", lambda device: (device.hang(), device.garbage(b"\xfe\x80\x00\xfe")),
+         [*silent, IS_SILENT + IS_SIMPLE + AT_LINE]),
+        ("the plug is pulled", "usb", lambda device: device.after_characters(12, device.pull_plug),
+         [well, "printer: FAILED: The printer is off (E_OFFLINE, 108)", IS_SILENT + IS_SIMPLE + AT_LINE]),
+        ("it falls silent", "usb", lambda device: device.after_characters(12, device.hang),
+         [well, "printer: FAILED: The printer didn't answer (E_FAILURE, 111)", f"{simpler} {shut}"]))
+    for name, kind, happens, wanted in troubles:
+        with Printer(cable(kind)) as device:
+            happens(device)
+            told(f"{name}: what is said", ([f"port: {device.path} is open", *wanted], 1),
+                 commanded("printer", device.path))
+    with Printer(cable()) as device:
+        device.load(19)
+        said, status = commanded("printer", device.path)
+        told("paper near its end", (0, "printer: it answers; its cover is closed, its paper near its end"),
+             (status, said[1]))
+    with socket.create_server(("127.0.0.1", 0)) as server:
+        port = f"tcp:127.0.0.1:{server.getsockname()[1]}"
+        other = f"{IS_SILENT} Is another program printing on it?"
+        told("a host that says nothing", ([f"port: {port} is open", *silent, other], 1),
+             commanded("printer", port, "--asked"))
+
+
+def is_read(device):
+    """Whether somebody reads what a device sends."""
+    return until(lambda: is_exclusive(device.cable._slave), 60)
+
+
 def try_command_with_other_devices():
     """The command that tries a display or a scanner."""
     for protocol in ("cd5220", "escpos"):
@@ -2895,10 +2967,18 @@ def try_command_with_other_devices():
             told(f"a display with {protocol}", (0, 4), (status, len(said)))
             told(f"its rows with {protocol}", b"row 1".ljust(20) + b"row 2".ljust(20), device.shows())
     with Scanner(cable()) as device:
-        said, status = commanded("scanner", device.path, meanwhile=lambda: device.scan(b"4006381333931"))
-        told("a scanner", (0, True), (status, "4006381333931" in said[-1]))
+        said, status = commanded("scanner", device.path, meanwhile=lambda: device.scan(b"]E04006381333931"))
+        told("a scanner", (0, "scanner: it has read ']E04006381333931', of the type SCAN_SDT_EAN13 (104)"),
+             (status, said[-1]))
         said, status = commanded("scanner", device.path, "--seconds", 0.1)
-        told("a scanner without a code", (1, True), (status, said[-1].startswith("scanner: FAILED: no code came")))
+        told("a scanner without a code", (1, "scanner: FAILED: no code came", True),
+             (status, said[-2], said[-1].startswith("what to do: does the scanner beep")))
+        said, status = commanded("scanner", device.path, meanwhile=lambda: device.garbage(b"4" * 5000 + b"\r"))
+        told("a code that is too long", (1, "scanner: FAILED: a code came that isn't whole, or was disturbed", True),
+             (status, said[-2], said[-1].startswith("what to do: scan it again.")))
+        said, status = commanded("scanner", device.path, meanwhile=lambda: is_read(device) and device.pull_plug())
+        told("a scanner that is unplugged", (1, "scanner: FAILED: it is gone", True),
+             (status, said[-2], said[-1].startswith("what to do: was it unplugged")))
 
 
 def try_command_without_a_device():
@@ -2906,19 +2986,73 @@ def try_command_without_a_device():
     there = CHECKS.work / "lp0"
     there.touch()
     cases = {("printer", "/dev/no/lp0"): "plugged in", ("printer", "tcp:127.0.0.1:9"): "address",
-             ("scanner", "/dev/no/event0"): "plugged in"}
+             ("scanner", "/dev/no/event0"): "plugged in", ("display", "tcp:127.0.0.1:9"): "is the display on",
+             ("printer", "/dev/usb/lp99"): "modprobe usblp", ("printer", os.fspath(there)): "name a device file",
+             ("printer", "127.0.0.1:9100"): "tcp:HOST:PORT", ("display", "/dev"): "name a device file"}
     for words, wanted in cases.items():
         said, status = commanded(*words)
-        told(f"{words}: why", (1, True), (status, said[0].startswith("port: FAILED:")))
-        told(f"{words}: what to do", True, said[-1].startswith("what to do: ") and wanted in said[-1])
-    advice = kijolvar.__main__._advice_on_port
-    for number, wanted in ((errno.EACCES, grp.getgrgid(there.stat().st_gid).gr_name), (errno.EBUSY, "fuser")):
-        told(f"what to do at {errno.errorcode[number]}", True,
-             wanted in advice(kijolvar.PortError(number, os.strerror(number)), os.fspath(there)))
-    for words in (["printer", "tcp:127.0.0.1", "--speed", 9600], ["printer", "tcp:a:b"], ["printer"], ["till", "/dev/x"],
-                  ["printer", "/dev/ttyS9", "--speed", 7]):
+        port = words[1].replace("tcp:", "tcp://")
+        told(f"{words}: why", (1, True), (status, said[0].startswith(f"port: FAILED: {port} ")))
+        told(f"{words}: what to do", (2, True), (len(said), said[-1].startswith("what to do: ") and wanted in said[-1]))
+    refused = {("printer", "tcp:127.0.0.1", "--speed", 9600): "--speed and --flow are for serial lines",
+               ("scanner", "/dev/input/event0", "--flow", "none"): "--speed and --flow are for serial lines",
+               ("printer", "/dev/usb/lp0", "--speed", 9600): "--speed and --flow are for serial lines",
+               ("printer", "tcp:a:b"): "not a host and a TCP port: 'tcp:a:b'",
+               ("printer",): "arguments are required: port", ("till", "/dev/x"): "invalid choice: 'till'",
+               ("printer", "/dev/ttyS9", "--speed", 7): "no serial line has 7 bits per second",
+               ("printer", "/dev/no/lp0", "--columns", 0): "--columns must be 1 to 255",
+               ("display", "/dev/no/tty", "--rows", 9): "--rows must be 1 to 8",
+               ("display", "/dev/no/tty", "--columns", 81): "--columns must be 1 to 80",
+               ("scanner", "/dev/no/event0", "--seconds", 0): "a number above 0, such as 30: not '0'",
+               ("scanner", "/dev/no/event0", "--seconds", "nan"): "a number above 0, such as 30: not 'nan'"}
+    for words, wanted in refused.items():
         said, status = commanded(*words)
-        told(f"{words}: it is refused", (2, True), (status, "error:" in said[-1]))
+        told(f"{words}: it is refused", (2, True), (status, "error: " in said[-1] and wanted in said[-1]))
+    said, status = commanded("printer", "/dev/no/lp0", library=there)
+    sets = "what to do: set KIJOLVAR_LIBRARY to the path of the libkijolvar.so of this release"
+    told("without a library", (1, True, sets),
+         (status, said[0].startswith(f"library: FAILED: {there} can't be loaded"), said[1]))
+
+
+def said_without_rights(*words):
+    """What the command prints in a process that isn't root's, and its status."""
+    def says():
+        with contextlib.redirect_stdout(io.StringIO()) as said:
+            status = kijolvar.__main__.main(words)
+        return said.getvalue().splitlines(), status
+    return without_rights(says)
+
+
+def try_command_without_rights():
+    """The command at a port that its user may not open, or that another program has."""
+    with Scanner(cable()) as device:
+        path = os.path.realpath(device.path)
+        os.chmod(path, 0)
+        told("a port of root's", repr(([f"port: FAILED: {path} can't be opened: Permission denied",
+                                        "what to do: run this as root"], 1)), said_without_rights("display", path))
+    closed = CHECKS.work / "closed"
+    closed.mkdir(0)
+    told("one in a folder of root's", repr(([f"port: FAILED: {closed}/lp0 can't be opened: Permission denied",
+                                             "what to do: run this as root"], 1)),
+         said_without_rights("printer", os.fspath(closed / "lp0")))
+    advice, denied = kijolvar.__main__._advice_on_port, kijolvar.PortError(errno.EACCES, "Permission denied")
+    group = next(one for one in grp.getgrall() if one.gr_gid != 0)
+    for mode, path, helps in ((0o660, "/dev/usb/lp0", True), (0o640, "/dev/usb/lp0", False),
+                              (0o640, "/dev/input/event0", True), (0o600, "/dev/input/event0", False)):
+        found = types.SimpleNamespace(st_mode=stat.S_IFCHR | mode, st_gid=group.gr_gid)
+        with mock.patch("os.stat", return_value=found), mock.patch("os.geteuid", return_value=65534):
+            joins = f"`usermod -aG {group.gr_name} {pwd.getpwuid(os.getuid()).pw_name}` as root, and log in again; or "
+            told(f"{path} with {mode:o}", joins * helps + "run this as root", advice(denied, path))
+    with mock.patch("os.geteuid", return_value=0):
+        told("what to do as root", "the system forbids it, also to root: in a container, the device has to be passed "
+             "on to that", advice(denied, "/dev/usb/lp0"))
+    told("at a host that the system forbids", True, "is that its address?" in advice(denied, "tcp:255.255.255.255"))
+    with Printer(cable()) as device, contextlib.closing(SerialPort(device.path)) as port:
+        port.open()
+        told("a port that another program has", (
+            [f"port: FAILED: {device.path} is in use",
+             f"what to do: another program has it: `fuser -v {device.path}`, as root, says which"], 1),
+             commanded("printer", device.path))
 
 
 def try_keyboard_links():
@@ -3271,19 +3405,45 @@ def try_typed_within_the_loop():
         told("the codes", [b"1", b"2", b"3"], shop.told(3))
 
 
+def try_raw_keys():
+    """The bytes of a terminal that types key events pass as they are, also if a program has left it otherwise."""
+    with Scanner(cable()) as device, contextlib.ExitStack() as stack:
+        line = os.open(device.path, os.O_RDWR | os.O_NOCTTY)
+        stack.callback(os.close, line)
+        settings = termios.tcgetattr(line)
+        settings[0] |= termios.ICRNL
+        settings[3] |= termios.ICANON | termios.ECHO
+        termios.tcsetattr(line, termios.TCSANOW, settings)
+        port = kijolvar.drivers._KeyPort(device.path)
+        stack.callback(port.close)
+        port.open()
+        found = termios.tcgetattr(line)
+        told("a terminal of keys is set up", (0, 0, termios.CS8),
+             (found[0] & termios.ICRNL, found[3] & (termios.ICANON | termios.ECHO), found[2] & termios.CSIZE))
+        events, got = typed("4006381"), []
+        device.garbage(events)
+        told("its bytes are as they were sent", (True, events),
+             (until(lambda: got.append(port.read(0.01)) or len(b"".join(got)) >= len(events)), b"".join(got)))
+
+
 def try_scan_codes():
-    """The scan code of each key is left out of a keyboard's events. One that refuses that opens too."""
+    """The scan code of each key is left out of a keyboard's events. One that refuses that opens too. Its keys are given
+    back as it is closed, though a process that was forked may have it still."""
     asked, number = [], errno.EINVAL
 
     def refuses(file, *words):
         asked.append(words)
         raise OSError(number, "refused")
-    with Scanner(cable()) as device, mock.patch("fcntl.ioctl", refuses):
+    # A keyboard is no terminal.
+    with (Scanner(cable()) as device, mock.patch("fcntl.ioctl", refuses),
+          mock.patch("os.isatty", return_value=False)):
         port = kijolvar.drivers._KeyPort(device.path)
         port.open()
         told("what is asked of a keyboard", [(0x40044590, 1), (0x40104593, struct.pack("=IIQ", 4, 0, 0))], asked)
         told("it is open", True, port.is_open)
+        asked.clear()
         port.close()
+        told("what is asked as it is closed", [(0x40044590, 0)], asked)
         number = errno.EBUSY
         told("one that another program has", (number, f"{device.path} is in use"), refusal(port))
 
@@ -3712,7 +3872,8 @@ def try_handlers_at_openings():
         if what == number:
             signal.raise_signal(signal.SIGUSR1)
         return ioctl(file, what, *words)
-    with Scanner(cable()) as device, mock.patch("fcntl.ioctl", rings_then):
+    with (Scanner(cable()) as device, mock.patch("fcntl.ioctl", rings_then),
+          mock.patch("os.isatty", return_value=False)):
         for number in (0x40044590, 0x40104593):
             told(f"a handler in {number:#x} as a keyboard opens", "InterruptedError", name_of(
                 kijolvar.drivers._KeyPort(device.path).open))
@@ -3762,10 +3923,12 @@ def try_handlers_at_connections():
 def try_interrupted_openings():
     """An interrupt as a port is opened leaves no file open."""
     for name, call, kind in (("a keyboard", "fcntl.ioctl", kijolvar.drivers._KeyPort),
+                             ("a terminal of keys", "termios.tcsetattr", kijolvar.drivers._KeyPort),
                              ("a line", "termios.tcsetattr", kijolvar.FilePort),
                              ("a line that is locked", "fcntl.ioctl", kijolvar.FilePort),
                              ("a line that is ready", "os.getpid", kijolvar.FilePort)):
-        with Scanner(cable()) as device, mock.patch(call, side_effect=KeyboardInterrupt):
+        with (Scanner(cable()) as device, mock.patch(call, side_effect=KeyboardInterrupt),
+              mock.patch("os.isatty", return_value=name != "a keyboard")):
             port, files, found = kind(device.path), len(os.listdir("/proc/self/fd")), "no interrupt"
             try:
                 port.open()
@@ -3958,11 +4121,27 @@ def try_refusals():
         control = stack.enter_context(till.printer("r1").in_use())
         told("prints each of two orders that are the same", ([None] * 2, [b"Tea"] * 2),
              ([raised(control.print, b"Tea\n") for _ in range(2)], characters_of(device)))
+    seconds = "".join(f'[[device]]\nname = "{name}"\ncategory = "{category}"\n{more}' for name, category, more in (
+        ("d2", "CashDrawer", ""), ("p2", "LineDisplay", "rows = 2\ncolumns = 20\n"), ("s2", "Scanner", "")))
+    with contextlib.ExitStack() as stack:
+        till, device = stack.enter_context(opened(PROFILE + seconds)), stack.enter_context(Printer(cable()))
+        printer = EscPosPrinter(device.path, timeout=TIMEOUT, pause=PAUSE)
+        for name, driver in (("d", EscPosDrawer(printer)), ("p", SerialDisplay("/dev/null")),
+                             ("s", WedgeScanner("/dev/null"))):
+            till.drive(f"{name}1", driver)
+            told(f"one driver for two devices: {name}",
+                 f"DriverError(\"the driver for '{name}2' has another device: make one for each\")",
+                 repr(fault_of(till.drive, f"{name}2", driver)))
+        told("the first one goes on", (None, 1), (raised(till.drawer("d1").open_drawer), len(device.pulses)))
+        till.close()
+        told("its port is closed with the till", False, printer.link.port.is_open)
     with opened(PROFILE.replace("near = 20", f"near = {MOST_LINES}")) as till:
         told("near its end for ever", "ValueError", name_of(till.drive, "r1", EscPosPrinter("/dev/null")))
     told("no such cutter", "cutter is 'both', 'full', 'partial' or 'absent': not 'none'",
          text_of(EscPosPrinter, "/dev/null", cutter="none"))
     told("no such pin", "ValueError", name_of(EscPosPrinter, "/dev/null", pin=3))
+    told("no such pulse", ["feed and the two times of the pulse are 0 to 255, and the pin is 2 or 5"] * 2,
+         [text_of(EscPosPrinter, "/dev/null", pulse=pulse) for pulse in ((25,), (25, 250, 25))])
     told("no such roll", "ValueError", name_of(EscPosPrinter, "/dev/null", lines=MOST_LINES + 1))
     told("no such protocol", "protocol is 'cd5220' or 'escpos': not 'morse'",
          text_of(SerialDisplay, "/dev/null", "morse"))

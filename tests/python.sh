@@ -133,8 +133,14 @@ if [ "${#mypy[@]}" -gt 1 ] || command -v mypy > "$work/said"; then
   runs "the document has a listener" grep -q '^def ' "$work/listener.py"
   MYPYPATH=$top/abi/python runs "mypy --strict of the document's listener" \
     "${mypy[@]}" --strict --cache-dir "$work/mypy" "$work/listener.py"
+  { sed -n '/^```python/,/^```/{/^```/!p}' "$top/README.md"
+    printf '%s\n' 'names: list[bytes] = sorted(totals.keys())' \
+      'sizes: dict[bytes, int] = {name[:1]: file.size for name, file in totals.items()}'
+  } > "$work/example.py"
+  MYPYPATH=$top/abi/python runs "mypy --strict of README's example, and of what totals are as a mapping" \
+    "${mypy[@]}" --strict --cache-dir "$work/mypy" "$work/example.py"
 else
-  echo "3 skipped: mypy isn't installed"
+  echo "4 skipped: mypy isn't installed"
 fi
 
 echo "$passed passed, $failed failed"

@@ -218,6 +218,152 @@ def try_threads():
     told("tills in threads of their own", [True] * 4, found)
 
 
+class Counted:
+    """A library whose tills are counted, with the threads that have ended them."""
+
+    def __init__(self):
+        self.library, self.ended = kijolvar.load(LIBRARY), []
+        close = self.library.kijolvar_close
+
+        def closes(raw):
+            self.ended.append(threading.get_ident())
+            close(raw)
+        self.library.kijolvar_close = closes
+
+
+def collect():
+    """Has Python look for what nothing refers to any more, in another thread. The name of that."""
+    found = []
+    thread = threading.Thread(target=lambda: found.append(threading.get_ident()) or gc.collect())
+    thread.start()
+    thread.join()
+    return found[0]
+
+
+def leaves(library, path, *drivers):
+    """Opens a till that isn't closed, and to which nothing refers any more, but what the drivers do."""
+    till = kijolvar.open(totals=path, library=library)
+    till.drawer("d1").open_drawer()
+    for device, driver in zip(("r1", "s1"), drivers):
+        till.drive(device, driver)
+
+
+def try_collected_elsewhere():
+    """A till that isn't closed ends in the thread that finds out that nothing refers to it: its memory is freed, and
+    its file of totals is. It is the same if its own thread has ended."""
+    path, counted = WORK / "collected elsewhere", Counted()
+    kijolvar.create_totals(path, LIBRARY).close()
+    gc.collect()
+    gc.disable()
+    try:
+        with warnings.catch_warnings(record=True) as caught:
+            warnings.simplefilter("always", ResourceWarning)
+            leaves(counted.library, path)
+            told("it isn't ended yet", ([], "BlockingIOError"), (counted.ended, name_of(opened, totals=path)))
+            told("it is ended in another thread", [collect()], counted.ended)
+            told("its file is free", None, raised(lambda: opened(totals=path).close()))
+            # Python may find the file first, and says then that it is unclosed, too.
+            found = [warning for warning in caught if isinstance(warning.source, kijolvar.Till)]
+            told("that is told", [f"unclosed till <kijolvar.Till: totals in {str(path)!r}, 0 controls>"],
+                 [str(warning.message) for warning in found])
+            till = found[0].source
+            told("it is closed for who has it from the warning", (True, "TillClosedError", None),
+                 (till.is_closed, name_of(till.drawer, "d1"), raised(till.close)))
+            del till, found
+            caught.clear()
+            thread = threading.Thread(target=leaves, args=(counted.library, path))
+            thread.start()
+            thread.join()
+            counted.ended.clear()
+            gc.collect()
+            told("one whose thread has ended", [threading.get_ident()], counted.ended)
+            counted.ended.clear()
+            drivers = [kijolvar.EscPosPrinter("/dev/null", timeout=0.01), kijolvar.WedgeScanner("/dev/null")]
+            leaves(counted.library, None, *drivers)
+            collect()
+            told("one whose driver is in use goes on", ([], None), (counted.ended, raised(drivers[0].poll)))
+            del drivers[0]
+            told("it is ended after that", [collect()], counted.ended)
+            told("a driver that doesn't need it goes on", None, raised(drivers[0].poll))
+            drivers[0].close()
+        counted.ended.clear()
+        with warnings.catch_warnings(), mock.patch("sys.unraisablehook") as heard:
+            warnings.simplefilter("error", ResourceWarning)
+            leaves(counted.library, path)
+            told("it is ended though the warning is an error", [collect()], counted.ended)
+            told("which is told", {ResourceWarning}, {call.args[0].exc_type for call in heard.call_args_list})
+        told("its file is free then", None, raised(lambda: opened(totals=path).close()))
+    finally:
+        gc.enable()
+    counted.ended.clear()
+    with mock.patch("kijolvar.till.Till", side_effect=KeyboardInterrupt):
+        told("an interrupt as it is opened", "KeyboardInterrupt",
+             interrupted(lambda: kijolvar.open(totals=path, library=counted.library)))
+    told("it is ended, and its file is free", ([threading.get_ident()], None),
+         (counted.ended, raised(lambda: opened(totals=path).close())))
+
+
+# A thread has a till, to which nothing refers in a process that is forked: Python forgets what its other threads have,
+# and looks for what nothing refers to before the package hears of it.
+LOCAL = """
+import gc, os, sys, threading
+os.register_at_fork(after_in_child=gc.collect)
+import kijolvar
+local, is_open, is_over, ended = threading.local(), threading.Event(), threading.Event(), []
+library = kijolvar.load()
+close = library.kijolvar_close
+def closes(raw):
+    ended.append(raw)
+    close(raw)
+library.kijolvar_close = closes
+def has_till():
+    local.till = kijolvar.open(totals=sys.argv[1], library=library)
+    is_open.set()
+    is_over.wait()
+    local.till.drawer("d1").open_drawer()
+    local.till.close()
+thread = threading.Thread(target=has_till)
+thread.start()
+is_open.wait()
+child = os.fork()
+if child == 0:
+    os._exit(len(ended))
+print(os.waitpid(child, 0)[1], flush=True)
+sys.stdin.read()
+is_over.set()
+thread.join()
+"""
+# A thread that Python stops at its end, and that has a till and is within calls of it.
+STOPPED = """
+import sys, threading, kijolvar
+is_open = threading.Event()
+def works(local):
+    local.till = kijolvar.open(totals=sys.argv[1])
+    is_open.set()
+    while True:
+        local.till.carry_out("show d1\\n" * 1000)
+threading.Thread(target=works, args=(threading.local(),), daemon=True).start()
+is_open.wait()
+"""
+
+
+def try_collected_in_a_fork():
+    """A till that a process which was forked collects stays as it is: the lock of its totals is that of the process
+    that has it. So does one whose thread is stopped as Python ends."""
+    path = WORK / "collected"
+    kijolvar.create_totals(path, LIBRARY).close()
+    paths = {**os.environ, "PYTHONPATH": str(TOP / "abi/python"), "KIJOLVAR_LIBRARY": LIBRARY}
+    pipes = {"stdin": subprocess.PIPE, "stdout": subprocess.PIPE, "stderr": subprocess.STDOUT, "text": True}
+    with subprocess.Popen([sys.executable, "-c", LOCAL, path], env=paths, **pipes) as process:
+        told("a process was forked, and has ended no till", "0\n", process.stdout.readline())
+        told("the totals are locked", "BlockingIOError", name_of(opened, totals=path))
+        told("the till goes on, up to its end", "", process.communicate()[0])
+    told("it ends well", (0, None), (process.returncode, raised(lambda: opened(totals=path).close())))
+    for _ in range(5):
+        ended = subprocess.run([sys.executable, "-W", "ignore", "-c", STOPPED, path], env=paths, capture_output=True)
+        told("a thread that is stopped within a call", (0, b""), (ended.returncode, ended.stderr))
+
+
 def try_fork():
     """A process that is forked can't use the till, and nothing that it does or has changes the till's."""
     path = WORK / "forked"
@@ -593,7 +739,8 @@ def try_copies():
         totals = till.totals("t1")
         totals.create("SALES", 4)
         for noun, one in (("a till", till), ("a session", till._session), ("a control", totals),
-                          ("a file of totals", totals["SALES"]), ("a port", kijolvar.FilePort("/dev/null"))):
+                          ("a file of totals", totals["SALES"]), ("a port", kijolvar.FilePort("/dev/null")),
+                          ("a driver", kijolvar.EscPosPrinter("/dev/null")), ("a driver", kijolvar.Driver())):
             told(f"{noun} can't be copied", [("TypeError", f"{noun} can't be copied or pickled")] * 2,
                  [(type(fault).__name__, str(fault)) for fault in (raised(copy.copy, one), raised(pickle.dumps, one))])
         told("nor deeply", ["TypeError"] * 3, [name_of(copy.deepcopy, one) for one in (
@@ -620,6 +767,36 @@ def try_listeners():
             till.device("s1").scan(104, "1", "1")
             told("an event that a listener makes is delivered too", (2, [kijolvar.StatusUpdateEvent(drawer, 1)]),
                  (till.deliver(), heard))
+
+
+def try_failing_listeners():
+    """A listener that raises something, or ends its control or the till: no event is lost, or comes twice."""
+    with opened() as till:
+        drawer, device, heard = till.drawer("d1"), till.device("d1"), []
+
+        def moves():
+            device.drawer(True)
+            device.drawer(False)
+
+        def fails(event):
+            heard.append(event.status)
+            raise ValueError("the listener fails")
+        moves()
+        drawer.listen(fails)
+        told("what a listener raises passes through", ["ValueError"] * 2, [name_of(till.deliver) for _ in range(2)])
+        told("each event came once", [1, 0], heard)
+        moves()
+        drawer.listen(lambda event: drawer.listen(None))
+        told("a listener that ends itself", (1, [0]), (till.deliver(), [event.status for event in till.events()]))
+        moves()
+        drawer.listen(lambda event: drawer.close())
+        told("a listener that closes its control", (1, None), (till.deliver(), drawer.device))
+        drawer.open("d1")
+        drawer.device_enabled = True
+        told("its other events are gone with it", [], list(till.events()))
+        moves()
+        drawer.listen(lambda event: till.close())
+        told("a listener that closes the till", ("TillClosedError", True), (name_of(till.deliver), till.is_closed))
 
 
 def scanned(till):
@@ -2568,8 +2745,9 @@ def try_reply_lines():
 
 def main():
     try:
-        for try_it in (try_scripts, try_threads, try_fork, try_closed, try_replies, try_events, try_copies,
-                       try_types_of_codes, try_constants_of_others, try_listeners, try_kept_listeners, try_claims,
+        for try_it in (try_scripts, try_threads, try_collected_elsewhere, try_collected_in_a_fork, try_fork, try_closed,
+                       try_replies, try_events, try_copies, try_types_of_codes, try_constants_of_others, try_listeners,
+                       try_failing_listeners, try_kept_listeners, try_claims,
                        try_misuse, try_many_controls, try_totals, try_disabled_transactions, try_files,
                        try_backups, try_backups_beside_changes, try_replaced_totals, try_handlers,
                        try_closing_handlers, try_forking_handlers, try_any_event,

@@ -475,6 +475,52 @@ SCRIPT
   told "$name" "<!doctype html>" "$(apart sh page.sh "$@" 2>&1)"
 }
 
+# try_command NAME PYTHON EMULATOR: the command of the installed Python package that tries a device, in a folder without
+# the package: at a port that is missing it ends with 1 and says what to do; at an emulated printer it prints
+try_command() {
+  local name=$1
+  shift
+  cat > "$outside/command.sh" <<'SCRIPT'
+python=$(realpath -s "$1")
+emulator=$(realpath "$2")
+rm -rf tried
+mkdir tried
+cd tried
+"$python" -m kijolvar printer /dev/usb/lp99
+echo "status $?"
+mkfifo words
+"$python" "$emulator" printer --tcp 0 < words > port &
+exec 3> words
+for turn in $(seq 600); do
+  [ -s port ] || sleep 0.2
+done
+"$python" -m kijolvar printer "$(head -n 1 port)" --drawer 3>&-
+echo "status $?"
+printf 'wait\nshow\n' >&3
+exec 3>&-
+wait
+tail -n +2 port
+SCRIPT
+  told "$name" "port: FAILED: /dev/usb/lp99 can't be opened: No such file or directory
+what to do: is the printer plugged in, and on? If it is: \`modprobe usblp\` as root, and take it out of CUPS
+status 1
+port: tcp://127.0.0.1:PORT is open
+printer: it answers; its cover is closed, its paper there
+page: done after TIME s
+cut: done after TIME s
+drawer: done after TIME s
+drawer: its sensor says that it is open
+look: three short lines, the first bold, a line of 42 x, and one right below it
+status 0
+*Kijolvar*
+              in the centre
+                              at the right
+$(printf 'x%.0s' {1..42})
+right below the full line
+$(printf -- '-%.0s' {1..42})" \
+    "$(apart sh command.sh "$@" 2>&1 | sed 's/after [0-9.]* s$/after TIME s/; s/\(127.0.0.1:\)[0-9]*/\1PORT/')"
+}
+
 # try_sdist: the sources of Python work over the shared object that KIJOLVAR_LIBRARY names
 try_sdist() {
   local folder=$inside/kijolvar-$version
@@ -531,6 +577,7 @@ try_debs() {
   runs "CMake finds the package" sh -c 'cmake -S cmake -B cmake/system -DWANTED=0.1 && cmake --build cmake/system'
   sells "the sale by CMake from the packages" cmake/system/sale_static
   sells "the sale in Python from the packages" python3 /usr/share/doc/python3-kijolvar/examples/sale.py
+  try_command "the command that tries a device, from the packages" /usr/bin/python3 /usr/share/kijolvar/emulator
   try_page "the page is served from the packages" / \
     "$(grep -o 'python3 /usr/share/kijolvar/page/[^`]*' "$tree/share/doc/kijolvar/packaging/README.md")"
   told "the day by the packages" "$(blocks "$tree/README.md" "A till's day" text)" \
@@ -674,6 +721,8 @@ try_page "the page is served from the archive" "${tree##*/}" \
   "$(blocks "$tree/README.md" "A counter to look at" indented)"
 try_sdist
 if [ "$1" = --quick ]; then
+  try_command "the command that tries a device, from the wheel" "${tree##*/}/day/venv/bin/python" \
+    "${tree##*/}/share/kijolvar/emulator"
   try_again
   try_install
   try_uninstall

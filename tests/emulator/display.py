@@ -70,6 +70,7 @@ class Display(Device):
         elif self.protocol == "cd5220" and command[:2] == b"\x1bQ" and command[2] - 0x41 in range(min(self.rows, 2)):
             text = command[3:-1][:self.columns]
             self.cells[command[2] - 0x41][:] = text + b" " * (self.columns - len(text))
+            self.line_done()
         else:
             return False
         return True

@@ -245,7 +245,8 @@ class Control(Unique):
         """Makes a function the control's listener, in place of the one before; None ends that.
 
         `till.deliver()` passes each event to it. What it returns is the reply to an ErrorEvent; None is the default
-        reply. You can use it as a decorator.
+        reply. You can use it as a decorator. What it raises passes through `deliver`: its event is delivered then, and
+        the others wait.
 
         An open control with a listener stays open, also when nothing else refers to it.
         """

@@ -15,7 +15,7 @@ from ._devices import Device, Order, WorkFailed, read_order
 from ._faults import DriverError, InCallError, InputError, LineError, NoDeviceError, NoMemoryError, library_fault
 from ._questions import ProfileDevice
 from ._session import Session, is_called
-from .drivers import Driver, EscPosPrinter, Scan
+from .drivers import Driver, EscPosDrawer, EscPosPrinter, Scan, SerialDisplay, WedgeScanner
 from .ports import BESIDE, PortError
 
 if TYPE_CHECKING:
@@ -24,6 +24,8 @@ if TYPE_CHECKING:
 
 # The words of lines that give up what a printer's control has ordered, without the control's name.
 _GIVES_UP: set[tuple[bytes, ...]] = {(b"call", b"clearOutput"), (b"deliver", b"clear")}
+# The drivers that have one device each.
+_SINGLE = EscPosPrinter, EscPosDrawer, SerialDisplay, WedgeScanner
 # How many orders of a printer the till keeps the paper of.
 _KEPT_ORDERS = 500
 # How long the loop waits at most until it looks again, and at least until refused output is tried again, in seconds.
@@ -114,9 +116,9 @@ class Drives:
             raise DriverError(f"{device.name!r} is a {device.category}, and the driver is for a {driver.category}")
         if device.name in self._drives:
             raise DriverError(f"{device.name!r} has a driver already")
-        if isinstance(driver, EscPosPrinter) and any(drive.driver is driver for drive in self._drives.values()):
-            # It would take an order of one for a retry of the other's.
-            raise DriverError(f"the driver for {device.name!r} has another printer: make one for each")
+        if isinstance(driver, _SINGLE) and any(drive.driver is driver for drive in self._drives.values()):
+            # What it knows of one isn't so of the other: it would take an order of one for a retry of the other's.
+            raise DriverError(f"the driver for {device.name!r} has another device: make one for each")
 
     def add(self, device: ProfileDevice, driver: Driver) -> None:
         """Has a driver carry out the orders of a device from now on."""

@@ -176,7 +176,7 @@ class ExchangeError(Error):
 
 class DriverError(Error):
     """A device can't have this driver: it is of another category, or has a driver already, or the driver has another
-    printer. Or it is an InOrderError."""
+    device. Or it is an InOrderError."""
 
 
 class InOrderError(DriverError, InCallError):

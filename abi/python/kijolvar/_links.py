@@ -68,6 +68,8 @@ class Wire:
     """The library's two calls with bytes (`order_bytes` and `replies` of a till), for a device and its settings."""
 
     def __init__(self, till: Till, device: str, settings: WireSettings) -> None:
+        # A till that is collected is ended: while a call of it may be under way, something has to refer to it.
+        self._till = till
         self._session, self._device, self._settings = till._session, device_word(device), settings.raw
 
     @property

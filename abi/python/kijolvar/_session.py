@@ -126,7 +126,7 @@ class Session(Unique):
 
     def __init__(self, library: ctypes.CDLL, profile: bytes, totals: BinaryIO | None = None, *,
                  begin: str = "kijolvar_open_file", owns_totals: bool = False) -> None:
-        self._thread = _identity()
+        self._thread, self._process = _identity(), os.getpid()
         self._library, self._totals, self._owns_totals = library, totals, owns_totals
         self._raw = Raw()
         self._mark, self._is_closed = _Mark(), False
@@ -158,7 +158,8 @@ class Session(Unique):
         # The devices that are driven, and the orders of hosted devices that came before one of these.
         self._driven: set[bytes] = set()
         self._hosted: deque[bytes] = deque()
-        #: Whether orders are of output that waits: the line is one that works on it.
+        #: Whether orders are of output that waits: the line is one that works on it. A till carries such lines out one
+        #: by one, since nobody can see of which of several lines an order is.
         self.is_working = False
         #: Carries out an order of a driven device: whether it is done, and what happened at the device if it isn't.
         self.serve: Callable[[bytes], tuple[bool, bytes]] | None = None
@@ -265,6 +266,19 @@ class Session(Unique):
             self._is_closed = self._mark.is_ending = True
         if not (self._mark.doing and is_called(self, "carry_out", "as_call")):
             self._end()
+
+    @property
+    def may_end(self) -> bool:
+        """Whether the till is open and this is its process. One that was forked from it may collect the till before
+        `forked` is called."""
+        return not self._is_closed and self._process == os.getpid()
+
+    def collect(self) -> None:
+        """Ends the till, to which nothing refers any more, in any thread: the library asks for one call at a time, and
+        one that is under way refers to the till."""
+        self._refuse_calls()
+        self._is_closed = True
+        self._end()
 
     def _end(self) -> None:
         """Ends the library's till."""
@@ -438,7 +452,7 @@ class Session(Unique):
             else:
                 break
             code = self._call_again(lines)
-        self.is_working = lines.startswith(b"work ") and lines.count(b"\n", 0, -1) == 0
+        self.is_working = lines.lstrip(b" ").startswith(b"work ") and lines.count(b"\n", 0, -1) == 0
         text = self._told(code)
         if self._has_served and self.served is not None:
             self._has_served = False

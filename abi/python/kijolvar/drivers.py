@@ -4,7 +4,7 @@
     till.drive("p1", SerialDisplay(SerialPort("/dev/ttyUSB0", 9600)))
     till.drive("s1", WedgeScanner("/dev/input/by-id/usb-scanner-event-kbd"))
 
-What the bytes of orders and replies are says the library. A driver waits for the device's acknowledgement, with a
+The library says what the bytes of orders and replies are. A driver waits for the device's acknowledgement, with a
 timeout, and opens a port that was lost again. It is used in the till's thread alone. For other hardware make a class of
 your own from `Driver`.
 """
@@ -26,8 +26,9 @@ from ._devices import Order
 from ._library import Path
 from ._links import AskedLink, PrinterLink, Wire
 from ._questions import ProfileDevice
+from ._unique import Unique
 from ._wire import WireSettings
-from .ports import FilePort, MinorFaults, Port, PortError, check_choice, port_of
+from .ports import FilePort, MinorFaults, Port, PortError, check_choice, port_of, unlock
 
 if TYPE_CHECKING:
     from .till import Till
@@ -61,14 +62,16 @@ def _check_pause(name: str, seconds: float) -> None:
         raise ValueError(f"{name} is 0 to {_MOST_SECONDS:,} seconds, such as 1.0: not {seconds!r}")
 
 
-class Driver:
-    """What a till asks of a driver. Make a class of your own from it for your hardware.
+class Driver(Unique):
+    """What a till asks of a driver. Make a class of your own from it for your hardware. A driver can't be copied: both
+    would have the same port.
 
     Attributes:
         category: The category of the devices that it is for, such as "POSPrinter". Without one it is for any.
         reads_orders: Whether `carry_out` looks at the order. If not, it gets one without a name and arguments.
     """
 
+    _noun = "a driver"
     category = ""
     reads_orders = True
 
@@ -196,8 +199,8 @@ class EscPosPrinter(Driver):
                  is_open_high: bool = True, lines: int = _MOST_LINES, is_asked: bool = False, timeout: float = 5.0,
                  pause: float = 1.0) -> None:
         check_choice("cutter", cutter, _CUTTERS)
-        if not (0 <= feed <= 255 and pin in (2, 5) and all(0 <= time <= 255 for time in pulse)):
-            raise ValueError("feed and the times of the pulse are 0 to 255, and the pin is 2 or 5")
+        if not (0 <= feed <= 255 and pin in (2, 5) and len(pulse) == 2 and all(0 <= time <= 255 for time in pulse)):
+            raise ValueError("feed and the two times of the pulse are 0 to 255, and the pin is 2 or 5")
         if not 1 <= lines <= _MOST_LINES:
             raise ValueError(f"a roll has 1 to {_MOST_LINES} lines")
         _check_timeout(timeout)
@@ -645,19 +648,32 @@ def _is_keyboard(device: Union[Port, Path]) -> bool:
 
 
 class _KeyPort(FilePort):
-    """A device of Linux input events, which other programs don't see meanwhile."""
+    """A device of Linux input events, which other programs don't see meanwhile. A terminal line is in use for any other
+    port, as with FilePort."""
 
     _way = os.O_RDONLY
 
     def _prepare(self, file: int) -> None:
-        # A pipe has no keys to keep from other programs.
         kind = stat.S_IFMT(os.fstat(file).st_mode)
-        if kind != stat.S_IFIFO:
-            self._check_kind(kind)
-            with MinorFaults(errno.ENOTTY, errno.EINVAL):
-                fcntl.ioctl(file, _GRAB, 1)
+        if kind == stat.S_IFIFO:
+            # A pipe has no keys to keep from other programs.
+            return
+        self._check_kind(kind)
+        if os.isatty(file):
+            self._set_up_own(file)
+            return
+        with MinorFaults(errno.ENOTTY, errno.EINVAL):
+            fcntl.ioctl(file, _GRAB, 1)
+        with MinorFaults():
+            fcntl.ioctl(file, _SET_MASK, _NO_SCAN_CODES)
+
+    def _let_go(self, file: int) -> None:
+        """Gives the keys or the line back, also if a process that was forked has the file still. Nothing was sent."""
+        if os.isatty(file):
+            unlock(file)
+        else:
             with MinorFaults():
-                fcntl.ioctl(file, _SET_MASK, _NO_SCAN_CODES)
+                fcntl.ioctl(file, _GRAB, 0)
 
 
 class WedgeScanner(Driver):

@@ -545,14 +545,17 @@ class FilePort(Port):
         # A printer on USB may send packets with nothing in them.
         self._ends_empty = os.isatty(file)
         if self._ends_empty:
-            # Nothing of the line may change before it is locked.
-            _lock(file)
-            try:
-                fcntl.ioctl(file, termios.TIOCEXCL)
-                self._set_up(file)
-            except BaseException:
-                _unlock(file)
-                raise
+            self._set_up_own(file)
+
+    def _set_up_own(self, file: int) -> None:
+        """Sets up a terminal line that nobody else has. Nothing of it may change before it is locked."""
+        _lock(file)
+        try:
+            fcntl.ioctl(file, termios.TIOCEXCL)
+            self._set_up(file)
+        except BaseException:
+            unlock(file)
+            raise
 
     def _check_kind(self, kind: int) -> None:
         """Refuses what is no port. Of a pipe this program would read what it writes."""
@@ -565,7 +568,7 @@ class FilePort(Port):
                 with MinorFaults():
                     _drop_unsent(file)
             finally:
-                _unlock(file)
+                unlock(file)
 
     def _set_up(self, file: int) -> None:
         """Sets up a terminal line, so that bytes pass as they are."""
@@ -890,7 +893,7 @@ def _lock(file: int) -> None:
         raise OSError(errno.EBUSY, os.strerror(errno.EBUSY)) from fault
 
 
-def _unlock(file: int) -> None:
+def unlock(file: int) -> None:
     """Lets others have a line again, also if a process that was forked has the file still."""
     try:
         with MinorFaults():

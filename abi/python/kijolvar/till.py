@@ -8,6 +8,7 @@ import functools
 import io
 import os
 import re
+import sys
 import warnings
 import weakref
 from collections import deque
@@ -35,8 +36,10 @@ from .ports import check_wait
 from .totals import Totals
 
 C = TypeVar("C", bound=Control)
-# Lines that give up output: an order behind one is a new one.
-_CLEARS = re.compile(r" clear(Output)? *\r?$", re.M)
+# Lines for which a text is carried out line by line, and what each of them has: those that attach a peripheral, those
+# that work on output that waits, and those that give up output, since an order after one is a new one.
+_APART = re.compile(r"^ *(?:attach|work) | clear(?:Output)? *\r?$", re.M)
+_WORDS_APART = "attach ", "work ", " clear"
 
 
 class Printer(POSPrinter):
@@ -56,6 +59,10 @@ class Till(Unique):
     controls; `till.device("s1")` says what happens at a device. A till can be used only in the thread that opened it,
     and it closes at the end of a `with` block. To a process that is forked it is closed. Its calls raise ThreadError
     there, and closing it changes nothing for the process that has it.
+
+    If nothing refers to a till any more that isn't closed, it ends with a ResourceWarning, in whichever thread Python
+    finds that out: its memory is freed, and the file of totals that it has opened is closed. Another thread than the
+    till's doesn't close its drivers: a port closes once nothing refers to it.
 
     One call at a time: a signal's handler that calls the till while a call is under way gets an InCallError. It may
     close the till.
@@ -94,10 +101,23 @@ class Till(Unique):
 
     def __del__(self) -> None:
         session = getattr(self, "_session", None)
-        if session is not None and not session.is_closed:
-            warnings.warn(f"unclosed till {self!r}", ResourceWarning, source=self, stacklevel=2)
-            if session.is_owner:
-                self.close()
+        if session is None or not session.may_end:
+            return
+        said = f"unclosed till {self!r}"
+        try:
+            self.close() if session.is_owner else self._end_elsewhere()
+        finally:
+            # It is told as an error if the program wants that, and whoever hears it may refer to the till again.
+            warnings.warn(said, ResourceWarning, source=self, stacklevel=2)
+
+    def _end_elsewhere(self) -> None:
+        """Ends a till that nothing refers to any more, in another thread. Its drivers belong to the till's thread."""
+        if sys.is_finalizing():
+            # A thread that Python has stopped may be within a call.
+            return
+        with contextlib.ExitStack() as ends:
+            ends.callback(self._close_file)
+            self._session.collect()
 
     @property
     def is_closed(self) -> bool:
@@ -380,8 +400,9 @@ class Till(Unique):
 
         Raises:
             NoDeviceError: The profile has no device of the name, or it can't be driven, as one with `flaky`.
-            DriverError: The driver is for another category, or the device has one already, or an EscPosPrinter is to
-                drive two printers.
+            DriverError: The driver is for another category, or the device has one already, or a driver of this package
+                is to drive two devices.
+            ValueError: The printer has another width than the device, or its rolls have too few lines.
 
         If it raises something, the device has no driver, and neither has the drawer that is on a printer.
         """
@@ -474,7 +495,7 @@ class Till(Unique):
         # A text that can't be encoded is refused as a whole.
         text = lines.encode()
         self._drives.has_opened = self._drives.has_opened or "open " in lines
-        if "attach" not in lines and not (" clear" in lines and _CLEARS.search(lines)):
+        if not (any(word in lines for word in _WORDS_APART) and _APART.search(lines)):
             return self._carry_out(text).decode()
         answers: list[str] = []
         try:
@@ -550,8 +571,11 @@ def open(profile: Profile | None = None, totals: Path | BinaryIO | None = None, 
         name = getattr(file, "name", None)
         with _files.naming(name) if isinstance(name, str) else contextlib.nullcontext():
             session = Session(found, text.encode(), file, owns_totals=owns)
+        undo.callback(session.close)
+        till = Till(session, file, where=where, owns_totals=owns,
+                    devices=functools.partial(devices, text or None, found))
         undo.pop_all()
-    return Till(session, file, where=where, owns_totals=owns, devices=functools.partial(devices, text or None, found))
+    return till
 
 
 @contextlib.contextmanager

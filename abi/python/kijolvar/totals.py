@@ -2,9 +2,9 @@
 from __future__ import annotations
 
 import contextlib
-from collections.abc import Iterator, Mapping
+from collections.abc import ItemsView, Iterator, KeysView, Mapping
 from types import TracebackType
-from typing import SupportsIndex, TypeVar, overload
+from typing import TYPE_CHECKING, SupportsIndex, TypeVar, overload
 
 from ._constants import E_NOEXIST
 from ._control import Text, is_answer_lost, undoing
@@ -19,7 +19,7 @@ D = TypeVar("D")
 _NO_FILE = NoExistError, UnicodeEncodeError, OverflowError
 
 
-class Totals(HardTotals, Mapping[bytes, "TotalsFile"]):
+class Totals(HardTotals, Mapping[Text, "TotalsFile"]):
     """Hard Totals: small files that survive a loss of power, as a mapping of names to files.
 
     `totals["SALES"]` is a file, `"SALES" in totals` says whether there is one, `len(totals)` counts them, a loop gives
@@ -32,6 +32,12 @@ class Totals(HardTotals, Mapping[bytes, "TotalsFile"]):
     """
 
     __slots__ = ()
+
+    if TYPE_CHECKING:
+        # A name may be given as any text, and is bytes.
+        def keys(self) -> KeysView[bytes]: ...
+
+        def items(self) -> ItemsView[bytes, TotalsFile]: ...
 
     def __getitem__(self, name: Text) -> TotalsFile:
         """The file of a name. Raises NoExistError, which is a KeyError, if there is none."""
