@@ -35,8 +35,9 @@ enum {
 };
 
 /* How long a lost port may take to open while other devices wait, how often a printer is asked, how long its late
-   answers may be apart, how long a printer whose line holds bytes back may be silent, and how long after it has stopped
-   it may still acknowledge what was before that, in milliseconds. */
+   answers may be apart however short the timeout is, how long a printer whose line holds bytes back may be silent, and
+   how long after it has stopped, or acknowledged something, it may still acknowledge what was before that, in
+   milliseconds. */
 static const int64_t quickly = 20, often = 100, apart = 500, silence = 2000, shortly = 1000;
 
 static inline int64_t least(int64_t one, int64_t other) { return one < other ? one : other; }
@@ -89,15 +90,23 @@ static void put_question(kij_link *link, uint32_t question) {
 /* Whether a question goes out at once. In a line that holds bytes back it would only wait with those before it. */
 static bool may_ask(const kij_link *link) { return is_idle(link) && !kij_internal_port_is_holding(&link->port); }
 
+/* What the printer has said up to now says nothing of what comes. */
+static void stir(kij_link *link) {
+    link->calm = 0;
+    link->calm_at = kij_internal_now();
+}
+
 /* Asks a printer how it is that says nothing by itself, or whose late answers have told nothing: the printer, why it is
-   offline, the paper, one after another. It begins again if one isn't answered in time, or late answers have ended. */
+   offline, the paper, one after another. It begins again if one isn't answered in time, or late answers have ended. A
+   short timeout leaves an answer time, and a long one doesn't keep what the printer says now waiting. */
 static void ask_on(kij_link *link) {
-    int64_t time = link->unanswered > 0 ? link->timeout : often;
-    if (link->has_late_answers) time = least(time, apart);
+    int64_t time = link->unanswered > 0 ? least(greatest(link->timeout, apart), silence) : often;
+    if (link->has_late_answers) time = apart;
     else if (!link->is_asked) return;
     if (!may_ask(link) || kij_internal_now() - link->questioned_at < time) return;
     /* The late answers that haven't come are lost. */
     if (link->has_late_answers) link->unanswered = 0;
+    if (link->unanswered > 0) stir(link);
     link->has_late_answers = false;
     put_question(link, ASKED_NOW);
 }
@@ -181,6 +190,7 @@ static bool send_parcel(kij_link *link, const char *bytes, size_t size, kij_job 
         return false;
     }
     make_room(link);
+    stir(link);
     kij_parcel *parcel = &link->due[link->due_count++];
     memset(parcel, 0, sizeof *parcel);
     parcel->number = link->number;
@@ -279,7 +289,7 @@ static void tear_due(kij_link *link) {
 /* What is due is lost. */
 static void lose_due(kij_link *link) {
     tear_due(link);
-    link->due_count = 0;
+    link->due_count = link->answered = link->again = 0;
 }
 
 /* The printer may have lost its power while its line held back the end of a piece, which it would print and acknowledge
@@ -353,6 +363,27 @@ static void acknowledge(kij_link *link, size_t last) {
         if (left == 1 && !parcel.is_torn && (job == NULL || !job->is_torn)) print(link, &parcel);
         else tear(link, &parcel);
     }
+}
+
+/* Whether a marker is out. */
+static bool is_marked(const kij_link *link) {
+    const kij_parcel *last = &link->due[link->due_count - 1];
+    return last->job == 0 && last->place < link->put_out - (link->out.size - link->out_sent);
+}
+
+/* An acknowledgement without a number. Once a marker is out, it doesn't say which question it is for, unless each has
+   one. */
+static void acknowledge_next(kij_link *link) {
+    stir(link);
+    if (!is_marked(link)) {
+        acknowledge(link, 0);
+        return;
+    }
+    link->answered++;
+    link->ends_at = kij_internal_now() + greatest(link->timeout, silence);
+    if (link->answered < link->due_count + link->again) return;
+    while (link->due_count > 0) acknowledge(link, 0);
+    link->answered = link->again = 0;
 }
 
 /* Whether a printer that acknowledges something has lost its power since it was offline. Otherwise it would have said
@@ -509,8 +540,9 @@ static void take_part(kij_link *link, const char *line, const kij_told *told) {
         put_question(link, 2 * link->question);
         return;
     }
-    link->rounds++;
     compose(link, has_ended);
+    if (link->hearing.is_offline) stir(link);
+    else link->calm++;
 }
 
 /* A reply of a printer that says by itself how it is: an acknowledgement, an automatic status, which alone has several
@@ -533,7 +565,7 @@ static void take_reply(kij_link *link, const char *text, const kij_told *told) {
 /* A reply of a printer that is asked, which is a byte. */
 static void take_answer(kij_link *link, const char *text, const kij_told *told) {
     answered(link);
-    if (told->asked == ASKED_PAPER) acknowledge(link, 0);
+    if (told->asked == ASKED_PAPER) acknowledge_next(link);
     else take_part(link, last_line(text), told);
 }
 
@@ -693,10 +725,18 @@ static bool is_settled(const kij_link *link, const kij_job *job) {
     return job->is_done || !is_due(link, job) || is_stopped(link);
 }
 
+/* Whether no acknowledgement is left of those that may come since a marker is out: one has come, and none behind it
+   though the printer has said several times that it can print. The first of these rounds may have begun before. */
+static bool is_all_answered(const kij_link *link) {
+    return link->answered > 0 && link->calm > 1 && kij_internal_now() - link->calm_at >= shortly;
+}
+
 static bool is_none_due(const kij_link *link, const kij_job *job) {
     (void)job;
-    return link->due_count == 0 || is_stopped(link);
+    return link->due_count == 0 || is_stopped(link) || is_all_answered(link);
 }
+
+static bool is_calm(const kij_link *link, const kij_job *job) { return link->calm > 0 || is_none_due(link, job); }
 
 static bool is_known(const kij_link *link, const kij_job *job) {
     (void)job;
@@ -834,17 +874,6 @@ void kij_internal_link_poll(kij_link *link) {
 
 /* ---- Orders ---- */
 
-/* Waits for acknowledgements that are late, where they have no number. They are lost if none comes for the whole time,
-   although the printer says that it can print. False if the port was lost. */
-static bool give_up(kij_link *link) {
-    size_t count = link->due_count;
-    unsigned rounds = link->rounds;
-    if (!link->is_asked || count == 0) return true;
-    if (!pump(link, is_none_due, NULL)) return false;
-    if (link->due_count == count && link->rounds > rounds + 1 && !is_offline(link)) lose_due(link);
-    return true;
-}
-
 /* Makes a job of the bytes of the order that is out. */
 static void begin(kij_link *link, kij_job *job, bool is_once) {
     kij_buffer before = job->data;
@@ -855,14 +884,48 @@ static void begin(kij_link *link, kij_job *job, bool is_once) {
     link->fresh = before;
 }
 
+/* Asks once more in place of a marker that isn't answered and may be lost. Its answer may come all the same, so that it
+   is counted. */
+static void put_marker_again(kij_link *link) {
+    bool had_time = kij_internal_now() - link->marked_at >= greatest(link->timeout, silence);
+    if (link->calm == 0 || !had_time || !may_ask(link)) return;
+    put(link, link->end, link->end_size);
+    link->again++;
+    link->marked_at = kij_internal_now();
+    stir(link);
+}
+
 /* Asks for an acknowledgement of all that was sent before. */
 static void put_marker(kij_link *link) {
     if (link->due_count > 0 && link->due[link->due_count - 1].job == 0) {
         /* Nobody has answered the last one yet. Its answer will be counted, if it has no number: it serves again. */
-        if (link->is_asked) return;
+        if (link->is_asked) {
+            put_marker_again(link);
+            return;
+        }
         link->due_count--;
     }
-    send_parcel(link, NULL, 0, NULL);
+    if (send_parcel(link, NULL, 0, NULL)) link->marked_at = kij_internal_now();
+}
+
+/* Waits for acknowledgements that are late, where they have no number, and finds out which are lost, by a marker. The
+   printer does nothing between what is due and that, so that it answers both together, however late: if one answer
+   comes alone, the other is lost. That doesn't depend on the timeout. False if the port was lost. */
+static bool give_up(kij_link *link) {
+    if (!link->is_asked || link->due_count == 0) return true;
+    if (link->answered > 0) {
+        /* Nobody may have looked for long. */
+        stir(link);
+        link->ends_at = greatest(link->ends_at, kij_internal_now() + silence);
+    }
+    if (!pump(link, is_calm, NULL)) return false;
+    if (link->calm > 0 && !is_none_due(link, NULL)) put_marker(link);
+    if (!pump(link, is_none_due, NULL)) return false;
+    if (link->due_count > 0 && is_all_answered(link)) {
+        lose_due(link);
+        link->ends_at = kij_internal_now() + link->timeout;
+    }
+    return true;
 }
 
 static void forget_order(kij_link *link, bool is_waiting) {
