@@ -822,12 +822,25 @@ void kij_internal_link_start(kij_link *link) {
     if (kij_internal_port_is_open(&link->port) && !pump(link, is_known, NULL)) lose(link);
 }
 
+/* How long a printer may say nothing before it is asked. One that can't print, or isn't there, as far as is known, may be
+   well again, and what it has said of that be lost: that doesn't wait for a long timeout. */
+static int64_t longest_quiet(const kij_link *link) {
+    bool is_well = link->is_there && !is_offline(link);
+    return is_well ? link->timeout : least(link->timeout, silence);
+}
+
+/* Asks again, also though a question is out that may be lost. That one stays, with its time. */
+static void ask_again(kij_link *link, int64_t most) {
+    bool is_lost = link->was_asked && link->was_sent && kij_internal_now() - link->questioned_at > most;
+    if (!link->is_asked && !link->has_late_answers && is_lost && may_ask(link)) put_question(link, ASKED_NOW);
+}
+
 /* Asks a printer that has said nothing for a time, and one that says that it can't print, for more. One that may be
    silent isn't off for that, unless it has answered since it said so. False if the port is to be opened again: a
    network printer that lost its power has closed nothing, and the system would send it what comes next for minutes.
    What is due may still be acknowledged. */
 static bool look_after(kij_link *link) {
-    int64_t now = kij_internal_now();
+    int64_t now = kij_internal_now(), most = longest_quiet(link);
     bool may_wait = may_be_silent(link) && !link->is_hearing;
     bool is_late = link->was_asked && now - link->asked_at > link->timeout;
     watch(link, false);
@@ -844,7 +857,8 @@ static bool look_after(kij_link *link) {
     }
     /* After an order that failed it is asked at once. A question that is out stays, with its time: if each such order
        asked again, a printer that is off would never count as off. */
-    bool is_heard = link->is_there && !link->was_silent && now - link->heard_at <= link->timeout;
+    bool is_heard = link->is_there && !link->was_silent && now - link->heard_at <= most;
+    if (!is_late) ask_again(link, most);
     if (!is_heard && (!link->was_asked || is_late)) {
         if (may_ask(link)) {
             ask(link);

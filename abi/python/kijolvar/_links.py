@@ -699,13 +699,16 @@ class PrinterLink:
     def _look_after(self, now: float) -> None:
         """Asks a printer that has said nothing for a time, and one that says that it can't print, for more. One on a
         network that doesn't answer is lost, unless something is due: the system might find that much later."""
-        if self._notes_silence() and isinstance(self.port, TcpPort) and not self._due:
+        is_silent = self._notes_silence()
+        if is_silent and isinstance(self.port, TcpPort) and not self._due:
             raise PortError(errno.ETIMEDOUT, f"{self.port.name} doesn't answer")
-        is_asking = self._asked_at is not None and now - self._asked_at <= self.timeout
-        is_heard = self._is_there and now - self._heard_at <= self.timeout
+        most = self._longest_quiet()
+        is_asking = self._asked_at is not None and now - max(self._asked_at, self._questioned_at) <= most
+        is_heard = self._is_there and now - self._heard_at <= most
         if not (is_heard or is_asking or self._is_late):
             if self._may_ask():
-                self._asked_at = None
+                if is_silent:
+                    self._asked_at = None
                 self._ask()
                 self._refreshes(now)
             elif self._asked_at is None and self._unanswered and self.port.is_holding:
@@ -713,6 +716,12 @@ class PrinterLink:
                 self._asked_at = now
         elif self.is_stopped and now - self._refreshed_at > self._pause and self._may_ask():
             self._refreshes(now)
+
+    def _longest_quiet(self) -> float:
+        """How long a printer may say nothing before it is asked. One that can't print, or isn't there, as far as is known,
+        may be well again, and what it has said of that be lost: that doesn't wait for a long timeout."""
+        is_well = self._is_there and self.signs.get("offline") != "yes"
+        return self.timeout if is_well else min(self.timeout, _SILENT)
 
     def _may_ask(self) -> bool:
         """Whether a question goes out at once. In a line that holds it back it would only wait with those before it."""

@@ -625,6 +625,10 @@ impl Link {
         self.heard.push(told);
         self.hearing.hear(line);
         if !self.is_asked && !self.hearing.is_offline {
+            if self.is_offline() && !self.control.ends_with(REFRESH) {
+                // It prints again, and hasn't said so, or that is lost.
+                self.put_refresh();
+            }
             return;
         }
         if self.question + 1 < QUESTIONS.len() {
@@ -971,6 +975,16 @@ impl Link {
         }
     }
 
+    /// How long a printer may say nothing before it is asked. One that can't print, or isn't there, as far as is known,
+    /// may be well again, and what it has said of that be lost: that doesn't wait for a long timeout.
+    fn longest_quiet(&self) -> Duration {
+        if self.is_there && !self.is_offline() {
+            self.timeout
+        } else {
+            self.timeout.min(SILENT)
+        }
+    }
+
     /// Asks a printer that has said nothing for a time, and one that says that it can't print, for more. One on a
     /// network that doesn't answer is lost, unless something is due: the system might find that much later. One that
     /// may be silent is asked again, too, since it may have been off meanwhile, where the question was lost. It is off
@@ -990,10 +1004,14 @@ impl Link {
                 return Err(Lost);
             }
         }
-        let is_heard = self.is_there && !self.was_silent && !is_over(self.heard_at, self.timeout);
-        if !is_heard && (self.asked_at.is_none() || is_late) {
+        let most = self.longest_quiet();
+        let is_heard = self.is_there && !self.was_silent && !is_over(self.heard_at, most);
+        let is_lost = !self.is_asked && !self.is_late && is_over(self.questioned_at, most);
+        if !is_heard && (self.asked_at.is_none() || is_late || is_lost) {
             if self.is_idle() {
-                self.asked_at = None;
+                if is_late {
+                    self.asked_at = None;
+                }
                 self.ask();
             } else if self.unanswered > 0 && self.cable.is_holding() {
                 // A question that waits in the line already counts from now on.
