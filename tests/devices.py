@@ -1410,6 +1410,46 @@ def try_late_acknowledgement():
             told(f"{name}: the paper", [b"Before", b"One", b"Two"], characters_of(device))
 
 
+def try_late_acknowledgement_over_another_connection():
+    """A printer that is asked is slow, and its connection ends meanwhile. What it acknowledges over the next one, as
+    behind a print server, isn't taken for a line that is sent over that."""
+    for kind in ("asked tcp", "asked tcp stays"):
+        with contextlib.ExitStack() as stack:
+            name, shop = f"an acknowledgement over another connection, {kind}", Shop(stack, kind, timeout=2.0)
+            device, found = shop.device, []
+            told(f"{name}: it prints", True, prints(shop, b"Before\n"))
+            device.after_characters(1, lambda: device.pauses(3.0))
+            device.after_characters(4, device.hang)
+            told(f"{name}: the order", (111, 0), raised(shop.control.print, b"One\n"))
+            with device.lock:
+                device.cable.drop()
+            told(f"{name}: another one begins", True, until(lambda: shop.till.run_devices(0.01) is not None and (
+                found.append(raised(shop.control.print, b"Two\n")) or found[-1] is None or device.is_hung)))
+            told(f"{name}: it isn't done before it is printed", (False, [b"Before", b"One"]),
+                 (None in found, characters_of(device)))
+            device.hang(False)
+            told(f"{name}: it is done", True, prints(shop, b"Two\n"))
+            told(f"{name}: the paper", [b"Before", b"One", b"Two"], characters_of(device))
+
+
+def try_another_connection_at_a_short_timeout():
+    """A network printer that is asked, and is off for a moment while its cover is open: a question that it has lost
+    doesn't keep it from being found, at a timeout that is shorter than late answers may be apart."""
+    for kind in ("asked tcp", "tcp"):
+        with contextlib.ExitStack() as stack:
+            name, shop = f"off in a line with an open cover, at {SHORT} s over {kind}", Shop(stack, kind, timeout=SHORT)
+            device = shop.device
+            told(f"{name}: it prints", True, prints(shop, b"Before\n"))
+            device.after_characters(5, lambda: device.cover(True))
+            told(f"{name}: the order", True, raised(shop.control.print, TEXT) is not None)
+            until(lambda: shop.till.run_devices(0.01) is None, 0.5)
+            device.pull_plug()
+            device.cover(False)
+            device.plug_in()
+            told(f"{name}: again", True, prints(shop, TEXT))
+            told(f"{name}: each line is whole", [], not_whole(device, shop.till.device("r1").show().items))
+
+
 class Distant(Printer):
     """A printer whose answers about itself come 0.3 seconds late."""
 

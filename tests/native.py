@@ -789,6 +789,47 @@ def try_late_acknowledgement():
             told(f"{name}: the paper", [b"Before", b"One", b"Two"], [item.characters for item in device.receipt()])
 
 
+def try_late_acknowledgement_over_another_connection():
+    """A printer that is asked is slow, and its connection ends meanwhile. What it acknowledges over the next one, as
+    behind a print server, isn't taken for a line that is sent over that."""
+    for kind in ("asked tcp", "asked tcp stays"):
+        with contextlib.ExitStack() as stack:
+            name, shop = f"an acknowledgement over another connection, {kind}", Shop(stack, kind, timeout=2000)
+            device, found = shop.device, []
+            told(f"{name}: it prints", True, prints(shop, b"Before\n"))
+            device.after_characters(1, lambda: device.pauses(3.0))
+            device.after_characters(4, device.hang)
+            told(f"{name}: the order", "err 111", shop.print(b"One\n"))
+            with device.lock:
+                device.cable.drop()
+            told(f"{name}: another one begins", True, until(lambda: shop.host.ask("run 10") and (
+                found.append(shop.print(b"Two\n")) or found[-1] == "ok" or device.is_hung)))
+            told(f"{name}: it isn't done before it is printed", (False, [b"Before", b"One"]),
+                 ("ok" in found, [item.characters for item in device.receipt()]))
+            device.hang(False)
+            told(f"{name}: it is done", True, prints(shop, b"Two\n"))
+            told(f"{name}: the paper", [b"Before", b"One", b"Two"], [item.characters for item in device.receipt()])
+
+
+def try_another_connection_at_a_short_timeout():
+    """A network printer that is asked, and is off for a moment while its cover is open: a question that it has lost
+    doesn't keep it from being found, at a timeout that is shorter than late answers may be apart."""
+    for kind in ("asked tcp", "tcp"):
+        with contextlib.ExitStack() as stack:
+            name = f"off in a line with an open cover, at {SHORT} ms over {kind}"
+            shop = Shop(stack, kind, timeout=SHORT)
+            device = shop.device
+            told(f"{name}: it prints", True, prints(shop, b"Before\n"))
+            device.after_characters(5, lambda: device.cover(True))
+            told(f"{name}: the order", "err", print_receipt(shop)[:3])
+            runs(shop, 0.5)
+            device.pull_plug()
+            device.cover(False)
+            device.plug_in()
+            told(f"{name}: again", True, is_done_after_all(shop))
+            told(f"{name}: each line is whole", [], missing(shop))
+
+
 class Distant(Printer):
     """A printer whose answers about itself come 0.3 seconds late."""
 

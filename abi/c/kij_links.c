@@ -83,6 +83,8 @@ static void put_question(kij_link *link, uint32_t question) {
     const uint8_t bytes[3] = {0x10, 0x04, (uint8_t)question};
     link->question = question;
     link->questioned_at = kij_internal_now();
+    /* Nobody can answer what wasn't asked. */
+    if (link->unanswered == 0 && link->was_asked) link->asked_at = link->questioned_at;
     link->unanswered++;
     put(link, bytes, sizeof bytes);
 }
@@ -117,7 +119,8 @@ static void ask(kij_link *link) {
     link->asked_at = kij_internal_now();
     link->was_asked = true;
     if (link->is_asked) {
-        ask_on(link);
+        if (link->unanswered == 0 && may_ask(link)) put_question(link, ASKED_NOW);
+        else ask_on(link);
     } else {
         put_question(link, ASKED_NOW);
         if (link->is_there && !is_offline(link)) put_refresh(link);
@@ -786,8 +789,13 @@ static void forget(kij_link *link) {
     link->status_left = 0;
     link->questioned_at = KIJ_NEVER;
     memset(&link->signs, 0, sizeof link->signs);
-    /* Acknowledgements without a number can't be told from those of another connection. */
-    if (link->is_asked) lose_due(link);
+    if (!link->is_asked) return;
+    /* Acknowledgements without a number may still come over another connection, and mustn't count for what is sent over
+       that. A marker of its own finds out which are lost. */
+    tear_due(link);
+    stir(link);
+    link->answered = 0;
+    link->marked_at = KIJ_NEVER;
 }
 
 /* The port was lost, with what wasn't sent. What was sent may still be acknowledged over the next one. What had come
@@ -840,9 +848,11 @@ static void ask_again(kij_link *link, int64_t most) {
    network printer that lost its power has closed nothing, and the system would send it what comes next for minutes.
    What is due may still be acknowledged. */
 static bool look_after(kij_link *link) {
-    int64_t now = kij_internal_now(), most = longest_quiet(link);
+    int64_t now = kij_internal_now(), most = longest_quiet(link), since = link->asked_at;
     bool may_wait = may_be_silent(link) && !link->is_hearing;
-    bool is_late = link->was_asked && now - link->asked_at > link->timeout;
+    /* As long as late answers come, no question is put. */
+    if (link->has_late_answers) since = greatest(since, link->questioned_at + apart);
+    bool is_late = link->was_asked && now - since > link->timeout;
     watch(link, false);
     if (is_late && !may_wait) {
         if (kij_internal_port_holds_back(&link->port) && is_any_due(link)) lose_sent(link);
@@ -850,7 +860,7 @@ static bool look_after(kij_link *link) {
         link->is_there = link->is_started = false;
         link->told_count = 0;
         memset(&link->signs, 0, sizeof link->signs);
-        if (link->port.kind == KIJ_PORT_TCP && link->due_count == 0) {
+        if (link->port.kind == KIJ_PORT_TCP && !(link->is_asked ? is_any_due(link) : link->due_count > 0)) {
             link->port.error = ETIMEDOUT;
             return false;
         }
@@ -859,7 +869,7 @@ static bool look_after(kij_link *link) {
        asked again, a printer that is off would never count as off. */
     bool is_heard = link->is_there && !link->was_silent && now - link->heard_at <= most;
     if (!is_late) ask_again(link, most);
-    if (!is_heard && (!link->was_asked || is_late)) {
+    if (!is_heard && !link->has_late_answers && (!link->was_asked || is_late)) {
         if (may_ask(link)) {
             ask(link);
         } else if (!link->was_asked && link->unanswered > 0 && kij_internal_port_is_holding(&link->port)) {

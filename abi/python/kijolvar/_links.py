@@ -363,6 +363,10 @@ class PrinterLink:
         """Whether something of a job may still be acknowledged."""
         return bool(self._due) and any(parcel.job is job for parcel in self._due)
 
+    def _has_order(self) -> bool:
+        """Whether something of an order may still be acknowledged over this connection."""
+        return bool(self._due)
+
     def _is_back(self) -> bool:
         """Whether the printer has answered since it was silent."""
         return not self._was_silent
@@ -700,7 +704,7 @@ class PrinterLink:
         """Asks a printer that has said nothing for a time, and one that says that it can't print, for more. One on a
         network that doesn't answer is lost, unless something is due: the system might find that much later."""
         is_silent = self._notes_silence()
-        if is_silent and isinstance(self.port, TcpPort) and not self._due:
+        if is_silent and isinstance(self.port, TcpPort) and not self._has_order():
             raise PortError(errno.ETIMEDOUT, f"{self.port.name} doesn't answer")
         most = self._longest_quiet()
         is_asking = self._asked_at is not None and now - max(self._asked_at, self._questioned_at) <= most
@@ -733,7 +737,11 @@ class PrinterLink:
         a line that holds it back, unless it has answered one since."""
         if self._is_offline and self.port.holds_back and not self._is_hearing:
             return False
-        is_silent = self._asked_at is not None and time.monotonic() - self._asked_at > self.timeout
+        since = self._asked_at
+        if since is not None and self._is_late:
+            # As long as late answers come, no question is put.
+            since = max(since, self._questioned_at + _APART)
+        is_silent = since is not None and time.monotonic() - since > self.timeout
         if is_silent:
             if self._may_keep_a_part():
                 self._tears()
@@ -753,6 +761,9 @@ class PrinterLink:
         self._asked_last, self._questioned_at = question, time.monotonic()
         data = _STATUS_NOW + bytes([question])
         if not any(parcel.rest == data for parcel in self._outbox):
+            if not self._unanswered and self._asked_at is not None:
+                # Nobody can answer what wasn't asked.
+                self._asked_at = self._questioned_at
             self._unanswered += 1
             self._puts(data)
 
@@ -860,7 +871,10 @@ class AskedLink(PrinterLink):
     def _ask(self) -> None:
         if self._asked_at is None:
             self._asked_at = time.monotonic()
-        self._asks_on()
+        if not self._unanswered and self._may_ask():
+            self._asks(_PRINTER)
+        else:
+            self._asks_on()
 
     def _ask_at_once(self) -> None:
         self._questioned_at = -1e9
@@ -1015,6 +1029,16 @@ class AskedLink(PrinterLink):
         self._due.clear()
         self._answered = self._again = 0
 
+    def _has_order(self) -> bool:
+        return any(parcel.job is not None for parcel in self._due)
+
     def _forget(self) -> None:
+        """Acknowledgements may still come over another connection, and mustn't count for what is sent over that. A marker
+        of its own finds out which are lost."""
         super()._forget()
-        self._lost_due()
+        for parcel in self._due:
+            if parcel.job is not None:
+                parcel.job.is_torn = True
+        self._discounts_due()
+        self._stirs()
+        self._answered, self._marked_at = 0, -1e9

@@ -344,6 +344,10 @@ impl Link {
     /// Puts a question of DLE EOT.
     fn put_question(&mut self, question: usize) {
         (self.question, self.questioned_at) = (question, Some(Instant::now()));
+        if self.unanswered == 0 && self.asked_at.is_some() {
+            // Nobody can answer what wasn't asked.
+            self.asked_at = self.questioned_at;
+        }
         self.unanswered += 1;
         self.control.extend_from_slice(&[0x10, 0x04, QUESTIONS[question] as u8]);
     }
@@ -376,10 +380,10 @@ impl Link {
     /// Asks whether the printer is there. While a question is unanswered, its time goes on.
     fn ask(&mut self) {
         self.asked_at.get_or_insert_with(Instant::now);
-        if self.is_asked {
-            self.ask_on();
-        } else {
+        if !self.is_asked || self.unanswered == 0 && self.is_idle() {
             self.put_question(0);
+        } else {
+            self.ask_on();
         }
     }
 
@@ -830,6 +834,12 @@ impl Link {
 
     // The port.
 
+    /// What is due counts for nothing.
+    fn tear_due(&mut self) {
+        let jobs: Vec<u64> = self.due.iter().map(|parcel| parcel.job).collect();
+        jobs.into_iter().for_each(|job| self.tear(job));
+    }
+
     /// What is due is lost.
     fn lose_due(&mut self) {
         for parcel in std::mem::take(&mut self.due) {
@@ -904,8 +914,7 @@ impl Link {
         self.clear_out();
         if self.is_asked {
             // Acknowledgements without a number may still come, and mustn't count for anything else.
-            let jobs: Vec<u64> = self.due.iter().map(|parcel| parcel.job).collect();
-            jobs.into_iter().for_each(|job| self.tear(job));
+            self.tear_due();
         } else {
             self.lose_due();
         }
@@ -936,8 +945,11 @@ impl Link {
         }
         self.status_left = 0;
         if self.is_asked {
-            // Acknowledgements without a number can't be told from those of another connection.
-            self.lose_due();
+            // Acknowledgements without a number may still come over another connection, and mustn't count for what is
+            // sent over that. A marker of its own finds out which are lost.
+            self.tear_due();
+            self.stir();
+            (self.answers, self.marked_at) = (0, None);
         }
     }
 
@@ -990,8 +1002,10 @@ impl Link {
     /// may be silent is asked again, too, since it may have been off meanwhile, where the question was lost. It is off
     /// if it has answered before, though it was offline.
     fn look_after(&mut self) -> Result<(), Lost> {
-        let is_late = self.asked_at.is_some_and(|asked_at| asked_at.elapsed() > self.timeout);
-        if is_late && (self.is_hearing || !self.may_be_silent()) {
+        // As long as late answers come, no question is put.
+        let paused = self.questioned_at.filter(|_| self.is_late).map(|at| at + APART);
+        let is_silent = self.asked_at.is_some_and(|at| paused.map_or(at, |end| end.max(at)).elapsed() > self.timeout);
+        if is_silent && (self.is_hearing || !self.may_be_silent()) {
             if self.cable.holds_back() && self.is_any_due() {
                 self.lose_held();
             }
@@ -999,17 +1013,18 @@ impl Link {
             self.is_there = false;
             self.told.clear();
             self.signs = Signs::default();
-            if matches!(self.cable.port, Port::Tcp(..)) && self.due.is_empty() {
+            let has_order = if self.is_asked { self.is_any_due() } else { !self.due.is_empty() };
+            if matches!(self.cable.port, Port::Tcp(..)) && !has_order {
                 self.cable.fault = Some(ETIMEDOUT);
                 return Err(Lost);
             }
         }
         let most = self.longest_quiet();
         let is_heard = self.is_there && !self.was_silent && !is_over(self.heard_at, most);
-        let is_lost = !self.is_asked && !self.is_late && is_over(self.questioned_at, most);
-        if !is_heard && (self.asked_at.is_none() || is_late || is_lost) {
+        let is_lost = !self.is_asked && is_over(self.questioned_at, most);
+        if !is_heard && !self.is_late && (self.asked_at.is_none() || is_silent || is_lost) {
             if self.is_idle() {
-                if is_late {
+                if is_silent {
                     self.asked_at = None;
                 }
                 self.ask();
