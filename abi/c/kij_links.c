@@ -830,8 +830,8 @@ void kij_internal_link_start(kij_link *link) {
     if (kij_internal_port_is_open(&link->port) && !pump(link, is_known, NULL)) lose(link);
 }
 
-/* How long a printer may say nothing before it is asked. One that can't print, or isn't there, as far as is known, may be
-   well again, and what it has said of that be lost: that doesn't wait for a long timeout. */
+/* How long a printer may say nothing before it is asked. One that can't print, or isn't there, as far as is known, may
+   be well again, and what it has said of that be lost: that doesn't wait for a long timeout. */
 static int64_t longest_quiet(const kij_link *link) {
     bool is_well = link->is_there && !is_offline(link);
     return is_well ? link->timeout : least(link->timeout, silence);

@@ -722,8 +722,8 @@ class PrinterLink:
             self._refreshes(now)
 
     def _longest_quiet(self) -> float:
-        """How long a printer may say nothing before it is asked. One that can't print, or isn't there, as far as is known,
-        may be well again, and what it has said of that be lost: that doesn't wait for a long timeout."""
+        """How long a printer may say nothing before it is asked. One that can't print, or isn't there, as far as is
+        known, may be well again, and what it has said of that be lost: that doesn't wait for a long timeout."""
         is_well = self._is_there and self.signs.get("offline") != "yes"
         return self.timeout if is_well else min(self.timeout, _SILENT)
 
@@ -1033,8 +1033,8 @@ class AskedLink(PrinterLink):
         return any(parcel.job is not None for parcel in self._due)
 
     def _forget(self) -> None:
-        """Acknowledgements may still come over another connection, and mustn't count for what is sent over that. A marker
-        of its own finds out which are lost."""
+        """Acknowledgements may still come over another connection, and mustn't count for what is sent over that. A
+        marker of its own finds out which are lost."""
         super()._forget()
         for parcel in self._due:
             if parcel.job is not None:

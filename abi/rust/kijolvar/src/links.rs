@@ -516,8 +516,8 @@ impl Link {
         }
     }
 
-    /// Whether no acknowledgement is left of those that may come since a marker is out: one has come, and none behind it
-    /// though the printer has said several times that it can print. The first of these rounds may have begun before.
+    /// Whether no acknowledgement is left of those that may come since a marker is out: one has come, and none behind
+    /// it though the printer has said several times that it can print. The first of these rounds may have begun before.
     fn is_all_answered(&self) -> bool {
         self.answers > 0 && self.calm > 1 && self.calm_at.elapsed() >= STOPPING
     }
