@@ -1366,6 +1366,211 @@ def try_lost_acknowledgement():
             told(f"{name}: their paper", [*printed, b"Three", b"Four"], characters_of(device))
 
 
+# A timeout in which a printer can't be asked several times how it is, and one that no test waits for.
+SHORT, LONG = 0.1, 600.0
+
+
+def prints(shop, text):
+    """Whether an order is done in the end, with the devices' loop between its retries."""
+    return until(lambda: shop.till.run_devices(0.01) is not None and raised(shop.control.print, text) is None)
+
+
+def try_lost_answer_at_a_short_timeout():
+    """A printer that is asked, and whose acknowledgement is lost, or that of the marker behind it, too: it recovers in
+    an order or two, at a timeout that no round of questions fits into."""
+    for kind in ("asked", "asked stays", "asked tcp", "asked holds"):
+        with contextlib.ExitStack() as stack:
+            name, shop = f"a lost answer at {SHORT} s over {kind}", Shop(stack, kind, made=Losing, timeout=SHORT)
+            device, counts = shop.device, (1, 2)
+            told(f"{name}: it prints", True, prints(shop, b"Before\n"))
+            for count in counts:
+                text = b"One of %d\nTwo of %d\n" % (count, count)
+                had = len(device.receipt())
+                device.is_losing = True
+                told(f"{name}: the order", (111, 0), raised(shop.control.print, text))
+                device.is_losing = count > 1
+                told(f"{name}: again", True, prints(shop, text))
+                told(f"{name}: its acknowledgements were lost", False, device.is_losing)
+                told(f"{name}: the paper", True, set(characters_of(device)[had:]) == set(text.split(b"\n")[:2]))
+                told(f"{name}: its last line", text.split(b"\n")[1], characters_of(device)[-1])
+            told(f"{name}: another order", True, prints(shop, b"Other\n"))
+            told(f"{name}: it is printed, and nothing else is due", (b"Other", 0),
+                 (characters_of(device)[-1], len(shop.driver.link._due)))
+
+
+def try_power_at_a_short_timeout():
+    """A printer that is asked and loses its power in a line, behind a port that stays: it recovers at a timeout that no
+    round of questions fits into, and each line is whole."""
+    for kind in ("asked stays", "asked tcp stays", "asked holds", "asked holds adapter"):
+        with contextlib.ExitStack() as stack:
+            name, shop = f"off in a line at {SHORT} s over {kind}", Shop(stack, kind, timeout=SHORT)
+            device = shop.device
+            told(f"{name}: it prints", True, prints(shop, b"Before\n"))
+            device.ROOM = 8
+            device.after_characters(5, device.pull_plug)
+            told(f"{name}: the order", True, raised(shop.control.print, TEXT) is not None)
+            device.plug_in()
+            told(f"{name}: again", True, prints(shop, TEXT))
+            told(f"{name}: each line is whole", [], not_whole(device, shop.till.device("r1").show().items))
+
+
+def try_late_acknowledgement():
+    """A printer that is asked, says that it can print, and is slow: it acknowledges a line long after the order has
+    failed. That isn't taken for another line, at any timeout."""
+    for timeout in (SHORT, 0.25, TIMEOUT):
+        with contextlib.ExitStack() as stack:
+            name, shop = f"a late acknowledgement at {timeout} s", Shop(stack, "asked", timeout=timeout)
+            device, found = shop.device, []
+            told(f"{name}: it prints", True, prints(shop, b"Before\n"))
+            # It takes long for the first line, and stops at the first character of the second one.
+            device.after_characters(1, lambda: device.pauses(8 * timeout + 2))
+            device.after_characters(4, device.hang)
+            told(f"{name}: the order", (111, 0), raised(shop.control.print, b"One\n"))
+            told(f"{name}: another one begins", True, until(
+                lambda: found.append(raised(shop.control.print, b"Two\n")) or found[-1] is None or device.is_hung))
+            told(f"{name}: it isn't done before it is printed", (False, [b"Before", b"One"]),
+                 (None in found, characters_of(device)))
+            device.hang(False)
+            told(f"{name}: it is done", True, prints(shop, b"Two\n"))
+            told(f"{name}: the paper", [b"Before", b"One", b"Two"], characters_of(device))
+
+
+def try_late_acknowledgement_over_another_connection():
+    """A printer that is asked is slow, and its connection ends meanwhile. What it acknowledges over the next one, as
+    behind a print server, isn't taken for a line that is sent over that."""
+    for kind in ("asked tcp", "asked tcp stays"):
+        with contextlib.ExitStack() as stack:
+            name, shop = f"an acknowledgement over another connection, {kind}", Shop(stack, kind, timeout=2.0)
+            device, found = shop.device, []
+            told(f"{name}: it prints", True, prints(shop, b"Before\n"))
+            device.after_characters(1, lambda: device.pauses(3.0))
+            device.after_characters(4, device.hang)
+            told(f"{name}: the order", (111, 0), raised(shop.control.print, b"One\n"))
+            with device.lock:
+                device.cable.drop()
+            told(f"{name}: another one begins", True, until(lambda: shop.till.run_devices(0.01) is not None and (
+                found.append(raised(shop.control.print, b"Two\n")) or found[-1] is None or device.is_hung)))
+            told(f"{name}: it isn't done before it is printed", (False, [b"Before", b"One"]),
+                 (None in found, characters_of(device)))
+            device.hang(False)
+            told(f"{name}: it is done", True, prints(shop, b"Two\n"))
+            told(f"{name}: the paper", [b"Before", b"One", b"Two"], characters_of(device))
+
+
+def try_another_connection_at_a_short_timeout():
+    """A network printer that is asked, and is off for a moment while its cover is open: a question that it has lost
+    doesn't keep it from being found, at a timeout that is shorter than late answers may be apart."""
+    for kind in ("asked tcp", "tcp"):
+        with contextlib.ExitStack() as stack:
+            name, shop = f"off in a line with an open cover, at {SHORT} s over {kind}", Shop(stack, kind, timeout=SHORT)
+            device = shop.device
+            told(f"{name}: it prints", True, prints(shop, b"Before\n"))
+            device.after_characters(5, lambda: device.cover(True))
+            told(f"{name}: the order", True, raised(shop.control.print, TEXT) is not None)
+            until(lambda: shop.till.run_devices(0.01) is None, 0.5)
+            device.pull_plug()
+            device.cover(False)
+            device.plug_in()
+            told(f"{name}: again", True, prints(shop, TEXT))
+            told(f"{name}: each line is whole", [], not_whole(device, shop.till.device("r1").show().items))
+
+
+class Distant(Printer):
+    """A printer whose answers about itself come 0.3 seconds late."""
+
+    is_about_itself = False
+
+    def __init__(self, *words, **named):
+        super().__init__(*words, **named)
+        self.timers = []
+
+    def _status_now(self, kind):
+        self.is_about_itself = True
+        return super()._status_now(kind)
+
+    def send(self, data):
+        if self.is_about_itself:
+            self.timers.append(threading.Timer(0.3, self.garbage, [bytes(data)]))
+            self.timers[-1].start()
+        else:
+            super().send(data)
+        self.is_about_itself = False
+
+    def ends(self):
+        """Waits until nothing comes any more."""
+        for timer in self.timers:
+            timer.join()
+
+
+def try_late_answers_at_a_short_timeout():
+    """A printer that answers later than the timeout how it is: none of its answers is taken for another."""
+    for kind in ("asked", "usb"):
+        with contextlib.ExitStack() as stack:
+            name, shop = f"answers after 0.3 s at {SHORT} s over {kind}", Shop(stack, kind, made=Distant, timeout=SHORT)
+            # The bit of the drawer's pin is that of an open cover in another answer.
+            shop.device.drawer(True)
+            heard = []
+            until(lambda: shop.till.run_devices(0.01) is None or heard.append(shop.driver.link.signs.get("cover")), 4)
+            told(f"{name}: its cover was never open", False, "open" in heard)
+            told(f"{name}: no event says so", [], [
+                event for event in shop.control.events() if getattr(event, "status", 0) in (11, 24)])
+            shop.device.ends()
+
+
+def try_lost_word_at_a_long_timeout():
+    """A printer is well again, and what it has said of that is lost, or it says nothing, since it was off: it is asked
+    long before a long timeout is over."""
+    for kind in ("usb", "serial", "tcp", "holds", "asked", "asked holds"):
+        with contextlib.ExitStack() as stack:
+            name = f"a lost word at {LONG} s over {kind}"
+            shop = Shop(stack, kind, timeout=LONG, made=HearingPrinter if "asked" in kind else Printer)
+            device = shop.device
+            told(f"{name}: it prints", None, raised(shop.control.print, b"Before\n"))
+            device.cover(True)
+            told(f"{name}: its cover is open", True, until(
+                lambda: shop.till.run_devices(0.01) is not None and shop.control.cover_open))
+            # It is asked to say what changes, and keeps that for later.
+            until(lambda: shop.till.run_devices(0.01) is None, 0.3)
+            device.mute()
+            device.cover(False)
+            until(lambda: shop.till.run_devices(0.01) is None, 0.7)
+            device.mute(False)
+            told(f"{name}: its cover is closed", True, until(
+                lambda: shop.till.run_devices(0.01) is not None and not shop.control.cover_open))
+            told(f"{name}: it prints again", None, raised(shop.control.print, TEXT))
+            shop.same_paper(f"{name}: the paper")
+    for kind in ("usb stays", "tcp stays", "serial", "asked stays"):
+        with contextlib.ExitStack() as stack:
+            name, shop = f"off while its cover is open, at {LONG} s over {kind}", Shop(stack, kind, timeout=LONG)
+            device = shop.device
+            told(f"{name}: it prints", None, raised(shop.control.print, b"Before\n"))
+            device.cover(True)
+            told(f"{name}: its cover is open", True, until(
+                lambda: shop.till.run_devices(0.01) is not None and shop.control.cover_open))
+            device.pull_plug()
+            device.cover(False)
+            device.plug_in()
+            told(f"{name}: its cover is closed", True, until(
+                lambda: shop.till.run_devices(0.01) is not None and not shop.control.cover_open))
+            told(f"{name}: it prints again", None, raised(shop.control.print, TEXT))
+            shop.same_paper(f"{name}: the paper")
+    for kind in ("usb", "asked"):
+        with contextlib.ExitStack() as stack:
+            name, shop = f"the first answer is lost, at {LONG} s over {kind}", Shop(stack, kind, timeout=LONG)
+            device = shop.device
+            device.pull_plug()
+            told(f"{name}: it is off", True, until(
+                lambda: shop.till.run_devices(0.01) is not None and not shop.driver.is_online))
+            device.mute()
+            device.plug_in()
+            until(lambda: shop.till.run_devices(0.01) is None, 0.7)
+            device.mute(False)
+            told(f"{name}: it is there", True, until(
+                lambda: shop.till.run_devices(0.01) is not None and shop.driver.is_online))
+            told(f"{name}: it prints", None, raised(shop.control.print, TEXT))
+            shop.same_paper(f"{name}: the paper")
+
+
 def try_reset_connection():
     """A network printer has acknowledged lines, and its connection is reset before anybody has read that: the next
     write fails. What was acknowledged isn't printed again."""
@@ -1959,7 +2164,7 @@ def try_held_back():
         shop.settle()
         list(shop.control.events())
         shop.device.hold(True)
-        until(lambda: shop.till.run_devices(0.01) and False, 3.5 * TIMEOUT)
+        until(lambda: shop.till.run_devices(0.01) and False, 5 * TIMEOUT)
         told("questions that are held back", (True, False), (shop.device.held.count(b"\x10\x04\1") > 2, shop.driver.is_online))
         shop.device.hold(False)
         until(lambda: shop.till.run_devices(0.01) and False, TIMEOUT)

@@ -734,6 +734,219 @@ def try_lost_acknowledgement():
             told(f"{name}: their paper", [*printed, b"Three", b"Four"], [item.characters for item in device.receipt()])
 
 
+# A timeout in which a printer can't be asked several times how it is, and one that no test waits for, in milliseconds.
+SHORT, LONG = 100, 600_000
+
+
+def runs(shop, seconds):
+    """Runs the devices' loop for a time."""
+    end = time.monotonic() + seconds
+    until(lambda: shop.host.ask("run 10") and time.monotonic() > end)
+
+
+def prints(shop, text):
+    """Whether an order is done in the end, with the devices' loop between its retries."""
+    return until(lambda: shop.host.ask("run 10") and shop.print(text) == "ok")
+
+
+def tells_cover(shop, is_open):
+    """Whether the till finds the cover so."""
+    wanted = f"ok {str(is_open).lower()}"
+    return until(lambda: shop.host.ask("run 10") and shop.host.line("get r CoverOpen") == wanted)
+
+
+def try_lost_answer_at_a_short_timeout():
+    """A printer that is asked, and whose acknowledgement is lost, or that of the marker behind it, too: it recovers in
+    an order or two, at a timeout that no round of questions fits into."""
+    for kind in ("asked", "asked stays", "asked serial", "asked tcp", "asked holds"):
+        with contextlib.ExitStack() as stack:
+            name, shop = f"a lost answer at {SHORT} ms over {kind}", Shop(stack, kind, made=Losing, timeout=SHORT)
+            device = shop.device
+            told(f"{name}: it prints", True, prints(shop, b"Before\n"))
+            for count in (1, 2):
+                lines = [b"One of %d" % count, b"Two of %d" % count]
+                text, had = b"\n".join(lines) + b"\n", len(device.receipt())
+                device.is_losing = True
+                told(f"{name}: the order", "err 111", shop.print(text))
+                device.is_losing = count > 1
+                told(f"{name}: again", True, prints(shop, text))
+                told(f"{name}: its acknowledgements were lost", False, device.is_losing)
+                found = [item.characters for item in device.receipt()[had:]]
+                told(f"{name}: the paper", (set(lines), lines[-1]), (set(found), found[-1]))
+            told(f"{name}: another order", True, prints(shop, b"Other\n"))
+            told(f"{name}: it is printed once", 1, [item.characters for item in device.receipt()].count(b"Other"))
+
+
+def try_power_at_a_short_timeout():
+    """A printer that is asked and loses its power in a line, behind a port that stays: it recovers at a timeout that no
+    round of questions fits into, and each line is whole."""
+    for kind in ("asked stays", "asked serial", "asked tcp stays", "asked holds", "asked holds adapter"):
+        with contextlib.ExitStack() as stack:
+            name, shop = f"off in a line at {SHORT} ms over {kind}", Shop(stack, kind, timeout=SHORT)
+            device = shop.device
+            told(f"{name}: it prints", True, prints(shop, b"Before\n"))
+            device.ROOM = 8
+            device.after_characters(5, device.pull_plug)
+            told(f"{name}: the order", "err", print_receipt(shop)[:3])
+            device.plug_in()
+            told(f"{name}: again", True, is_done_after_all(shop))
+            told(f"{name}: each line is whole", [], missing(shop))
+
+
+def try_late_acknowledgement():
+    """A printer that is asked, says that it can print, and is slow: it acknowledges a line long after the order has
+    failed. That isn't taken for another line, at any timeout."""
+    for timeout in (SHORT, 250, TIMEOUT):
+        with contextlib.ExitStack() as stack:
+            name, shop = f"a late acknowledgement at {timeout} ms", Shop(stack, "asked", timeout=timeout)
+            device, found = shop.device, []
+            told(f"{name}: it prints", True, prints(shop, b"Before\n"))
+            # It takes long for the first line, and stops at the first character of the second one.
+            device.after_characters(1, lambda: device.pauses(8 * timeout / 1000 + 2))
+            device.after_characters(4, device.hang)
+            told(f"{name}: the order", "err 111", shop.print(b"One\n"))
+            told(f"{name}: another one begins", True, until(
+                lambda: found.append(shop.print(b"Two\n")) or found[-1] == "ok" or device.is_hung))
+            told(f"{name}: it isn't done before it is printed", (False, [b"Before", b"One"]),
+                 ("ok" in found, [item.characters for item in device.receipt()]))
+            device.hang(False)
+            told(f"{name}: it is done", True, prints(shop, b"Two\n"))
+            told(f"{name}: the paper", [b"Before", b"One", b"Two"], [item.characters for item in device.receipt()])
+
+
+def try_late_acknowledgement_over_another_connection():
+    """A printer that is asked is slow, and its connection ends meanwhile. What it acknowledges over the next one, as
+    behind a print server, isn't taken for a line that is sent over that."""
+    for kind in ("asked tcp", "asked tcp stays"):
+        with contextlib.ExitStack() as stack:
+            name, shop = f"an acknowledgement over another connection, {kind}", Shop(stack, kind, timeout=2000)
+            device, found = shop.device, []
+            told(f"{name}: it prints", True, prints(shop, b"Before\n"))
+            device.after_characters(1, lambda: device.pauses(3.0))
+            device.after_characters(4, device.hang)
+            told(f"{name}: the order", "err 111", shop.print(b"One\n"))
+            with device.lock:
+                device.cable.drop()
+            told(f"{name}: another one begins", True, until(lambda: shop.host.ask("run 10") and (
+                found.append(shop.print(b"Two\n")) or found[-1] == "ok" or device.is_hung)))
+            told(f"{name}: it isn't done before it is printed", (False, [b"Before", b"One"]),
+                 ("ok" in found, [item.characters for item in device.receipt()]))
+            device.hang(False)
+            told(f"{name}: it is done", True, prints(shop, b"Two\n"))
+            told(f"{name}: the paper", [b"Before", b"One", b"Two"], [item.characters for item in device.receipt()])
+
+
+def try_another_connection_at_a_short_timeout():
+    """A network printer that is asked, and is off for a moment while its cover is open: a question that it has lost
+    doesn't keep it from being found, at a timeout that is shorter than late answers may be apart."""
+    for kind in ("asked tcp", "tcp"):
+        with contextlib.ExitStack() as stack:
+            name = f"off in a line with an open cover, at {SHORT} ms over {kind}"
+            shop = Shop(stack, kind, timeout=SHORT)
+            device = shop.device
+            told(f"{name}: it prints", True, prints(shop, b"Before\n"))
+            device.after_characters(5, lambda: device.cover(True))
+            told(f"{name}: the order", "err", print_receipt(shop)[:3])
+            runs(shop, 0.5)
+            device.pull_plug()
+            device.cover(False)
+            device.plug_in()
+            told(f"{name}: again", True, is_done_after_all(shop))
+            told(f"{name}: each line is whole", [], missing(shop))
+
+
+class Distant(Printer):
+    """A printer whose answers about itself come 0.3 seconds late."""
+
+    is_about_itself = False
+
+    def __init__(self, *words, **named):
+        super().__init__(*words, **named)
+        self.timers = []
+
+    def _status_now(self, kind):
+        self.is_about_itself = True
+        return super()._status_now(kind)
+
+    def send(self, data):
+        if self.is_about_itself:
+            self.timers.append(threading.Timer(0.3, self.garbage, [bytes(data)]))
+            self.timers[-1].start()
+        else:
+            super().send(data)
+        self.is_about_itself = False
+
+    def ends(self):
+        """Waits until nothing comes any more."""
+        for timer in self.timers:
+            timer.join()
+
+
+def try_late_answers_at_a_short_timeout():
+    """A printer that answers later than the timeout how it is: none of its answers is taken for another."""
+    for kind in ("asked", "usb"):
+        with contextlib.ExitStack() as stack:
+            name = f"answers after 0.3 s at {SHORT} ms over {kind}"
+            shop = Shop(stack, kind, made=Distant, timeout=SHORT)
+            # The bit of the drawer's pin is that of an open cover in another answer.
+            shop.device.drawer(True)
+            runs(shop, 4)
+            events = list(iter(lambda: shop.host.line("deliver r"), "none"))
+            told(f"{name}: its cover was never open", False, "event StatusUpdateEvent 11" in events)
+            shop.device.ends()
+
+
+def try_lost_word_at_a_long_timeout():
+    """A printer is well again, and what it has said of that is lost, or it says nothing, since it was off: it is asked
+    long before a long timeout is over."""
+    for kind in ("usb", "serial", "tcp", "holds", "asked", "asked holds"):
+        with contextlib.ExitStack() as stack:
+            name = f"a lost word at {LONG} ms over {kind}"
+            shop = Shop(stack, kind, timeout=LONG, made=HearingPrinter if "asked" in kind else Printer)
+            device = shop.device
+            told(f"{name}: it prints", "ok", shop.print(b"Before\n"))
+            device.cover(True)
+            told(f"{name}: its cover is open", True, tells_cover(shop, True))
+            # It is asked to say what changes, and keeps that for later.
+            runs(shop, 0.3)
+            device.mute()
+            device.cover(False)
+            runs(shop, 0.7)
+            device.mute(False)
+            told(f"{name}: its cover is closed", True, tells_cover(shop, False))
+            told(f"{name}: it prints again", "ok", shop.print(TEXT))
+            told(f"{name}: the paper", [("left", b"Before"), *PRINTED], shop.paper())
+    for kind in ("usb stays", "tcp stays", "serial", "asked stays"):
+        with contextlib.ExitStack() as stack:
+            name, shop = f"off while its cover is open, at {LONG} ms over {kind}", Shop(stack, kind, timeout=LONG)
+            device = shop.device
+            told(f"{name}: it prints", "ok", shop.print(b"Before\n"))
+            device.cover(True)
+            told(f"{name}: its cover is open", True, tells_cover(shop, True))
+            device.pull_plug()
+            device.cover(False)
+            device.plug_in()
+            told(f"{name}: its cover is closed", True, tells_cover(shop, False))
+            told(f"{name}: it prints again", "ok", shop.print(TEXT))
+            told(f"{name}: the paper", [("left", b"Before"), *PRINTED], shop.paper())
+    for kind in ("usb", "asked"):
+        with contextlib.ExitStack() as stack:
+            name, shop = f"the first answer is lost, at {LONG} ms over {kind}", Shop(stack, kind, timeout=LONG)
+            device = shop.device
+
+            def is_online():
+                return shop.host.ask("run 10") and shop.host.ask("state r1").startswith("online")
+            device.pull_plug()
+            told(f"{name}: it is off", True, until(lambda: not is_online()))
+            device.mute()
+            device.plug_in()
+            runs(shop, 0.7)
+            device.mute(False)
+            told(f"{name}: it is there", True, until(is_online))
+            told(f"{name}: it prints", "ok", shop.print(TEXT))
+            told(f"{name}: the paper", PRINTED, shop.paper())
+
+
 def try_reset_connection():
     """A network printer has acknowledged lines, and its connection is reset before anybody has read that: the next
     write fails. What was acknowledged isn't printed again."""
@@ -2105,22 +2318,41 @@ def try_answer_too_early():
         told("it is printed once", [("left", b"First")], shop.paper())
 
 
+class Unacknowledging(Printer):
+    """A printer whose acknowledgements are all lost, until it is told to send them."""
+
+    is_losing = False
+
+    def _acknowledges(self, answer):
+        was_mute, self.is_mute = self.is_mute, self.is_mute or self.is_losing
+        super()._acknowledges(answer)
+        self.is_mute = was_mute
+
+
 def try_begun_late():
-    """An order whose time is over when what is due before it is given up isn't sent: it has failed."""
+    """An order whose time is over before it is known what became of the one that is due isn't sent: it has failed. Once
+    that is known, it is sent at once."""
+    with contextlib.ExitStack() as stack:
+        shop = Shop(stack, "asked stays", made=Unacknowledging)
+        shop.device.is_losing = True
+        told("an order that isn't acknowledged", "err 111", shop.print(b"First\n"))
+        told("an order that waits for the first", "err 111", shop.print(b"Second\n"))
+        time.sleep(0.1)
+        told("only the first is printed", [b"First"], [item.characters for item in shop.device.receipt()])
+        shop.device.is_losing = False
+        told("it is still on", True, shop.settle())
+        told("the second order again", True, until(lambda: shop.print(b"Second\n") == "ok"))
+        told("it is printed once", [b"First", b"Second"], [item.characters for item in shop.device.receipt()])
+        told("nothing was late", "0", shop.late())
     with contextlib.ExitStack() as stack:
         shop = Shop(stack, "asked stays")
         shop.device.pull_plug()
         told("an order of a printer that is off", "err 111", shop.print(b"First\n"))
         shop.device.plug_in()
         told("it is on", True, shop.settle())
-        told("an order that waits for the first", "err 111", shop.print(b"Second\n"))
-        time.sleep(0.1)
-        told("nothing is printed", [], shop.paper())
-        told("it is still on", True, shop.settle())
-        # On a machine that is busy it may not have said twice by then that it can print.
-        told("the second order again", True, until(lambda: shop.print(b"Second\n") == "ok"))
-        told("it is printed once", [("left", b"Second")], shop.paper())
-        told("nothing was late", "0", shop.late())
+        told("an order that waits for the first", True, until(lambda: shop.print(b"Second\n") == "ok"))
+        told("it alone is printed, and once", [("left", b"Second")], shop.paper())
+        told("nothing is late", "0", shop.late())
 
 
 class HeldPrinter(Printer):

@@ -710,8 +710,14 @@ typedef struct kij_scanner_settings {
  * machine that is suspended, fails for that reason. A printer that has said by itself that it is offline, as while its
  * paper feed button is held down, may be silent for longer, since it says that it goes on. If it has answered a
  * question since, it counts as off once it is silent for the timeout.
- * With `is_asked` the next order waits first for an answer to what was sent before. If none comes for the timeout, it
- * fails, and the one after it is sent.
+ *
+ * With `is_asked` acknowledgements have no number. If that of a line doesn't come, the next order first asks once more.
+ * If both answers come, however late, the line is printed. If one comes alone, the other is lost, and the order that
+ * failed goes on with that line. To find this out takes a second, and up to 2 beside the timeout, however short that
+ * is. As long as neither comes, nothing else is sent, and each order fails.
+ *
+ * A printer that can't print, or isn't there, as far as is known, is asked every 2 seconds, however long the timeout
+ * is.
  *
  * @param device   the name of a printer of the profile
  * @param port     /dev/usb/lp0, /dev/ttyUSB0, tcp:HOST or tcp:HOST:PORT (9100 if there is none). HOST had better be an

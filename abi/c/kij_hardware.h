@@ -182,8 +182,7 @@ typedef struct kij_link {
     int64_t tried_at;
     int64_t refreshed_at;
     /* The question that was put last, how many have no answer, whether late answers come, when one was put or such an
-       answer came, how many statuses had come at the answer to question 1, what was heard of 1, 2 and 4, and how often
-       all three were answered. */
+       answer came, how many statuses had come at the answer to question 1, and what was heard of 1, 2 and 4. */
     uint32_t question;
     unsigned unanswered;
     bool has_late_answers;
@@ -191,11 +190,19 @@ typedef struct kij_link {
     uint64_t asked_why_at;
     kij_told heard[3];
     kij_signs hearing;
-    unsigned rounds;
     /* Whether it has answered a question that was put after it had said that it is offline. */
     bool is_hearing;
     /* Of one that is asked: how many bytes of an automatic status that has begun still come. */
     unsigned status_left;
+    /* How many rounds of questions have said that it can print since something was sent or acknowledged, or it said
+       anything else; and since when they count. */
+    unsigned calm;
+    int64_t calm_at;
+    /* How many acknowledgements without a number have come since a marker is out, how often that was put again, and
+       when it was last. */
+    size_t answered;
+    size_t again;
+    int64_t marked_at;
 } kij_link;
 
 typedef enum kij_power { KIJ_POWER_UNKNOWN, KIJ_POWER_OFF, KIJ_POWER_ON } kij_power;

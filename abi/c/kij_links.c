@@ -35,8 +35,9 @@ enum {
 };
 
 /* How long a lost port may take to open while other devices wait, how often a printer is asked, how long its late
-   answers may be apart, how long a printer whose line holds bytes back may be silent, and how long after it has stopped
-   it may still acknowledge what was before that, in milliseconds. */
+   answers may be apart however short the timeout is, how long a printer whose line holds bytes back may be silent, and
+   how long after it has stopped, or acknowledged something, it may still acknowledge what was before that, in
+   milliseconds. */
 static const int64_t quickly = 20, often = 100, apart = 500, silence = 2000, shortly = 1000;
 
 static inline int64_t least(int64_t one, int64_t other) { return one < other ? one : other; }
@@ -82,6 +83,8 @@ static void put_question(kij_link *link, uint32_t question) {
     const uint8_t bytes[3] = {0x10, 0x04, (uint8_t)question};
     link->question = question;
     link->questioned_at = kij_internal_now();
+    /* Nobody can answer what wasn't asked. */
+    if (link->unanswered == 0 && link->was_asked) link->asked_at = link->questioned_at;
     link->unanswered++;
     put(link, bytes, sizeof bytes);
 }
@@ -89,15 +92,23 @@ static void put_question(kij_link *link, uint32_t question) {
 /* Whether a question goes out at once. In a line that holds bytes back it would only wait with those before it. */
 static bool may_ask(const kij_link *link) { return is_idle(link) && !kij_internal_port_is_holding(&link->port); }
 
+/* What the printer has said up to now says nothing of what comes. */
+static void stir(kij_link *link) {
+    link->calm = 0;
+    link->calm_at = kij_internal_now();
+}
+
 /* Asks a printer how it is that says nothing by itself, or whose late answers have told nothing: the printer, why it is
-   offline, the paper, one after another. It begins again if one isn't answered in time, or late answers have ended. */
+   offline, the paper, one after another. It begins again if one isn't answered in time, or late answers have ended. A
+   short timeout leaves an answer time, and a long one doesn't keep what the printer says now waiting. */
 static void ask_on(kij_link *link) {
-    int64_t time = link->unanswered > 0 ? link->timeout : often;
-    if (link->has_late_answers) time = least(time, apart);
+    int64_t time = link->unanswered > 0 ? least(greatest(link->timeout, apart), silence) : often;
+    if (link->has_late_answers) time = apart;
     else if (!link->is_asked) return;
     if (!may_ask(link) || kij_internal_now() - link->questioned_at < time) return;
     /* The late answers that haven't come are lost. */
     if (link->has_late_answers) link->unanswered = 0;
+    if (link->unanswered > 0) stir(link);
     link->has_late_answers = false;
     put_question(link, ASKED_NOW);
 }
@@ -108,7 +119,8 @@ static void ask(kij_link *link) {
     link->asked_at = kij_internal_now();
     link->was_asked = true;
     if (link->is_asked) {
-        ask_on(link);
+        if (link->unanswered == 0 && may_ask(link)) put_question(link, ASKED_NOW);
+        else ask_on(link);
     } else {
         put_question(link, ASKED_NOW);
         if (link->is_there && !is_offline(link)) put_refresh(link);
@@ -181,6 +193,7 @@ static bool send_parcel(kij_link *link, const char *bytes, size_t size, kij_job 
         return false;
     }
     make_room(link);
+    stir(link);
     kij_parcel *parcel = &link->due[link->due_count++];
     memset(parcel, 0, sizeof *parcel);
     parcel->number = link->number;
@@ -279,7 +292,7 @@ static void tear_due(kij_link *link) {
 /* What is due is lost. */
 static void lose_due(kij_link *link) {
     tear_due(link);
-    link->due_count = 0;
+    link->due_count = link->answered = link->again = 0;
 }
 
 /* The printer may have lost its power while its line held back the end of a piece, which it would print and acknowledge
@@ -353,6 +366,27 @@ static void acknowledge(kij_link *link, size_t last) {
         if (left == 1 && !parcel.is_torn && (job == NULL || !job->is_torn)) print(link, &parcel);
         else tear(link, &parcel);
     }
+}
+
+/* Whether a marker is out. */
+static bool is_marked(const kij_link *link) {
+    const kij_parcel *last = &link->due[link->due_count - 1];
+    return last->job == 0 && last->place < link->put_out - (link->out.size - link->out_sent);
+}
+
+/* An acknowledgement without a number. Once a marker is out, it doesn't say which question it is for, unless each has
+   one. */
+static void acknowledge_next(kij_link *link) {
+    stir(link);
+    if (!is_marked(link)) {
+        acknowledge(link, 0);
+        return;
+    }
+    link->answered++;
+    link->ends_at = kij_internal_now() + greatest(link->timeout, silence);
+    if (link->answered < link->due_count + link->again) return;
+    while (link->due_count > 0) acknowledge(link, 0);
+    link->answered = link->again = 0;
 }
 
 /* Whether a printer that acknowledges something has lost its power since it was offline. Otherwise it would have said
@@ -509,8 +543,9 @@ static void take_part(kij_link *link, const char *line, const kij_told *told) {
         put_question(link, 2 * link->question);
         return;
     }
-    link->rounds++;
     compose(link, has_ended);
+    if (link->hearing.is_offline) stir(link);
+    else link->calm++;
 }
 
 /* A reply of a printer that says by itself how it is: an acknowledgement, an automatic status, which alone has several
@@ -533,7 +568,7 @@ static void take_reply(kij_link *link, const char *text, const kij_told *told) {
 /* A reply of a printer that is asked, which is a byte. */
 static void take_answer(kij_link *link, const char *text, const kij_told *told) {
     answered(link);
-    if (told->asked == ASKED_PAPER) acknowledge(link, 0);
+    if (told->asked == ASKED_PAPER) acknowledge_next(link);
     else take_part(link, last_line(text), told);
 }
 
@@ -693,10 +728,18 @@ static bool is_settled(const kij_link *link, const kij_job *job) {
     return job->is_done || !is_due(link, job) || is_stopped(link);
 }
 
+/* Whether no acknowledgement is left of those that may come since a marker is out: one has come, and none behind it
+   though the printer has said several times that it can print. The first of these rounds may have begun before. */
+static bool is_all_answered(const kij_link *link) {
+    return link->answered > 0 && link->calm > 1 && kij_internal_now() - link->calm_at >= shortly;
+}
+
 static bool is_none_due(const kij_link *link, const kij_job *job) {
     (void)job;
-    return link->due_count == 0 || is_stopped(link);
+    return link->due_count == 0 || is_stopped(link) || is_all_answered(link);
 }
+
+static bool is_calm(const kij_link *link, const kij_job *job) { return link->calm > 0 || is_none_due(link, job); }
 
 static bool is_known(const kij_link *link, const kij_job *job) {
     (void)job;
@@ -746,8 +789,13 @@ static void forget(kij_link *link) {
     link->status_left = 0;
     link->questioned_at = KIJ_NEVER;
     memset(&link->signs, 0, sizeof link->signs);
-    /* Acknowledgements without a number can't be told from those of another connection. */
-    if (link->is_asked) lose_due(link);
+    if (!link->is_asked) return;
+    /* Acknowledgements without a number may still come over another connection, and mustn't count for what is sent over
+       that. A marker of its own finds out which are lost. */
+    tear_due(link);
+    stir(link);
+    link->answered = 0;
+    link->marked_at = KIJ_NEVER;
 }
 
 /* The port was lost, with what wasn't sent. What was sent may still be acknowledged over the next one. What had come
@@ -782,14 +830,29 @@ void kij_internal_link_start(kij_link *link) {
     if (kij_internal_port_is_open(&link->port) && !pump(link, is_known, NULL)) lose(link);
 }
 
+/* How long a printer may say nothing before it is asked. One that can't print, or isn't there, as far as is known, may
+   be well again, and what it has said of that be lost: that doesn't wait for a long timeout. */
+static int64_t longest_quiet(const kij_link *link) {
+    bool is_well = link->is_there && !is_offline(link);
+    return is_well ? link->timeout : least(link->timeout, silence);
+}
+
+/* Asks again, also though a question is out that may be lost. That one stays, with its time. */
+static void ask_again(kij_link *link, int64_t most) {
+    bool is_lost = link->was_asked && link->was_sent && kij_internal_now() - link->questioned_at > most;
+    if (!link->is_asked && !link->has_late_answers && is_lost && may_ask(link)) put_question(link, ASKED_NOW);
+}
+
 /* Asks a printer that has said nothing for a time, and one that says that it can't print, for more. One that may be
    silent isn't off for that, unless it has answered since it said so. False if the port is to be opened again: a
    network printer that lost its power has closed nothing, and the system would send it what comes next for minutes.
    What is due may still be acknowledged. */
 static bool look_after(kij_link *link) {
-    int64_t now = kij_internal_now();
+    int64_t now = kij_internal_now(), most = longest_quiet(link), since = link->asked_at;
     bool may_wait = may_be_silent(link) && !link->is_hearing;
-    bool is_late = link->was_asked && now - link->asked_at > link->timeout;
+    /* As long as late answers come, no question is put. */
+    if (link->has_late_answers) since = greatest(since, link->questioned_at + apart);
+    bool is_late = link->was_asked && now - since > link->timeout;
     watch(link, false);
     if (is_late && !may_wait) {
         if (kij_internal_port_holds_back(&link->port) && is_any_due(link)) lose_sent(link);
@@ -797,15 +860,16 @@ static bool look_after(kij_link *link) {
         link->is_there = link->is_started = false;
         link->told_count = 0;
         memset(&link->signs, 0, sizeof link->signs);
-        if (link->port.kind == KIJ_PORT_TCP && link->due_count == 0) {
+        if (link->port.kind == KIJ_PORT_TCP && !(link->is_asked ? is_any_due(link) : link->due_count > 0)) {
             link->port.error = ETIMEDOUT;
             return false;
         }
     }
     /* After an order that failed it is asked at once. A question that is out stays, with its time: if each such order
        asked again, a printer that is off would never count as off. */
-    bool is_heard = link->is_there && !link->was_silent && now - link->heard_at <= link->timeout;
-    if (!is_heard && (!link->was_asked || is_late)) {
+    bool is_heard = link->is_there && !link->was_silent && now - link->heard_at <= most;
+    if (!is_late) ask_again(link, most);
+    if (!is_heard && !link->has_late_answers && (!link->was_asked || is_late)) {
         if (may_ask(link)) {
             ask(link);
         } else if (!link->was_asked && link->unanswered > 0 && kij_internal_port_is_holding(&link->port)) {
@@ -834,17 +898,6 @@ void kij_internal_link_poll(kij_link *link) {
 
 /* ---- Orders ---- */
 
-/* Waits for acknowledgements that are late, where they have no number. They are lost if none comes for the whole time,
-   although the printer says that it can print. False if the port was lost. */
-static bool give_up(kij_link *link) {
-    size_t count = link->due_count;
-    unsigned rounds = link->rounds;
-    if (!link->is_asked || count == 0) return true;
-    if (!pump(link, is_none_due, NULL)) return false;
-    if (link->due_count == count && link->rounds > rounds + 1 && !is_offline(link)) lose_due(link);
-    return true;
-}
-
 /* Makes a job of the bytes of the order that is out. */
 static void begin(kij_link *link, kij_job *job, bool is_once) {
     kij_buffer before = job->data;
@@ -855,14 +908,48 @@ static void begin(kij_link *link, kij_job *job, bool is_once) {
     link->fresh = before;
 }
 
+/* Asks once more in place of a marker that isn't answered and may be lost. Its answer may come all the same, so that it
+   is counted. */
+static void put_marker_again(kij_link *link) {
+    bool had_time = kij_internal_now() - link->marked_at >= greatest(link->timeout, silence);
+    if (link->calm == 0 || !had_time || !may_ask(link)) return;
+    put(link, link->end, link->end_size);
+    link->again++;
+    link->marked_at = kij_internal_now();
+    stir(link);
+}
+
 /* Asks for an acknowledgement of all that was sent before. */
 static void put_marker(kij_link *link) {
     if (link->due_count > 0 && link->due[link->due_count - 1].job == 0) {
         /* Nobody has answered the last one yet. Its answer will be counted, if it has no number: it serves again. */
-        if (link->is_asked) return;
+        if (link->is_asked) {
+            put_marker_again(link);
+            return;
+        }
         link->due_count--;
     }
-    send_parcel(link, NULL, 0, NULL);
+    if (send_parcel(link, NULL, 0, NULL)) link->marked_at = kij_internal_now();
+}
+
+/* Waits for acknowledgements that are late, where they have no number, and finds out which are lost, by a marker. The
+   printer does nothing between what is due and that, so that it answers both together, however late: if one answer
+   comes alone, the other is lost. That doesn't depend on the timeout. False if the port was lost. */
+static bool give_up(kij_link *link) {
+    if (!link->is_asked || link->due_count == 0) return true;
+    if (link->answered > 0) {
+        /* Nobody may have looked for long. */
+        stir(link);
+        link->ends_at = greatest(link->ends_at, kij_internal_now() + silence);
+    }
+    if (!pump(link, is_calm, NULL)) return false;
+    if (link->calm > 0 && !is_none_due(link, NULL)) put_marker(link);
+    if (!pump(link, is_none_due, NULL)) return false;
+    if (link->due_count > 0 && is_all_answered(link)) {
+        lose_due(link);
+        link->ends_at = kij_internal_now() + link->timeout;
+    }
+    return true;
 }
 
 static void forget_order(kij_link *link, bool is_waiting) {

@@ -45,10 +45,10 @@ _MOST_DUE, _ENOUGH, _ENOUGH_HELD = 32, 2048, 512
 _STATUS_SIZE, _FIRST_BITS, _OTHER_BITS, _FIRST = 4, 0x93, 0x90, 0x10
 # How long a lost port may take to open while other devices wait, and how often a printer is asked, in seconds.
 _QUICKLY, _OFTEN = 0.02, 0.1
-# How long late answers may be apart, in seconds.
+# How long late answers may be apart, in seconds, however short the timeout is: a later question is none of theirs.
 _APART = 0.5
 # How long a printer whose line holds back what is sent may say nothing while something is due, and how long after it
-# has stopped it may acknowledge what was before that, in seconds.
+# has stopped, or acknowledged something, it may acknowledge what was before that, in seconds.
 _SILENT, _SHORTLY = 2.0, 1.0
 # What ends a piece: a line feed, a pulse, a feed, or a cut.
 _PIECE = re.compile(rb"(?:\x1b[^pd].|[^\n\x1b\x1d]++)*+(?:\n|\x1bp...|\x1bd.|\x1dV(?:[AB].|[^AB])|\Z)", re.S)
@@ -365,6 +365,10 @@ class PrinterLink:
         """Whether something of a job may still be acknowledged."""
         return bool(self._due) and any(parcel.job is job for parcel in self._due)
 
+    def _has_order(self) -> bool:
+        """Whether something of an order may still be acknowledged over this connection."""
+        return bool(self._due)
+
     def _is_back(self) -> bool:
         """Whether the printer has answered since it was silent."""
         return not self._was_silent
@@ -640,7 +644,7 @@ class PrinterLink:
 
     def _asks_on(self) -> None:
         """Asks again once no late answers come any more. Those that haven't come are lost."""
-        is_over = self._is_late and time.monotonic() - self._questioned_at >= min(self.timeout / 2, _APART)
+        is_over = self._is_late and time.monotonic() - self._questioned_at >= _APART
         if is_over and self._may_ask():
             self._unanswered, self._is_late = 0, False
             self._asks(_PRINTER)
@@ -701,13 +705,16 @@ class PrinterLink:
     def _look_after(self, now: float) -> None:
         """Asks a printer that has said nothing for a time, and one that says that it can't print, for more. One on a
         network that doesn't answer is lost, unless something is due: the system might find that much later."""
-        if self._notes_silence() and isinstance(self.port, TcpPort) and not self._due:
+        is_silent = self._notes_silence()
+        if is_silent and isinstance(self.port, TcpPort) and not self._has_order():
             raise PortError(errno.ETIMEDOUT, f"{self.port.name} doesn't answer")
-        is_asking = self._asked_at is not None and now - self._asked_at <= self.timeout
-        is_heard = self._is_there and now - self._heard_at <= self.timeout
+        most = self._longest_quiet()
+        is_asking = self._asked_at is not None and now - max(self._asked_at, self._questioned_at) <= most
+        is_heard = self._is_there and now - self._heard_at <= most
         if not (is_heard or is_asking or self._is_late):
             if self._may_ask():
-                self._asked_at = None
+                if is_silent:
+                    self._asked_at = None
                 self._ask()
                 self._refreshes(now)
             elif self._asked_at is None and self._unanswered and self.port.is_holding:
@@ -715,6 +722,12 @@ class PrinterLink:
                 self._asked_at = now
         elif self.is_stopped and now - self._refreshed_at > self._pause and self._may_ask():
             self._refreshes(now)
+
+    def _longest_quiet(self) -> float:
+        """How long a printer may say nothing before it is asked. One that can't print, or isn't there, as far as is
+        known, may be well again, and what it has said of that be lost: that doesn't wait for a long timeout."""
+        is_well = self._is_there and self.signs.get("offline") != "yes"
+        return self.timeout if is_well else min(self.timeout, _SILENT)
 
     def _may_ask(self) -> bool:
         """Whether a question goes out at once. In a line that holds it back it would only wait with those before it."""
@@ -726,7 +739,11 @@ class PrinterLink:
         a line that holds it back, unless it has answered one since."""
         if self._is_offline and self.port.holds_back and not self._is_hearing:
             return False
-        is_silent = self._asked_at is not None and time.monotonic() - self._asked_at > self.timeout
+        since = self._asked_at
+        if since is not None and self._is_late:
+            # As long as late answers come, no question is put.
+            since = max(since, self._questioned_at + _APART)
+        is_silent = since is not None and time.monotonic() - since > self.timeout
         if is_silent:
             if self._may_keep_a_part():
                 self._tears()
@@ -746,6 +763,9 @@ class PrinterLink:
         self._asked_last, self._questioned_at = question, time.monotonic()
         data = _STATUS_NOW + bytes([question])
         if not any(parcel.rest == data for parcel in self._outbox):
+            if not self._unanswered and self._asked_at is not None:
+                # Nobody can answer what wasn't asked.
+                self._asked_at = self._questioned_at
             self._unanswered += 1
             self._puts(data)
 
@@ -805,6 +825,10 @@ class AskedLink(PrinterLink):
     answered once everything before it is printed. Its replies have no number, so one piece at a time is out: if several
     were and one of them was lost, the answer to a later one would count for it.
 
+    If an answer doesn't come, it may be lost, or come late. Behind the piece a marker asks once more. The printer does
+    nothing between the two, so that both answers come together, however late: if one comes alone, the other is lost.
+    That doesn't depend on the timeout.
+
     One that sends an automatic status, which it was told not to do, was reset: some send it whenever they are switched
     on. Its bytes would count as replies to GS r if they were read one by one."""
 
@@ -814,7 +838,11 @@ class AskedLink(PrinterLink):
 
     def __init__(self, port: Port, timeout: float, pause: float) -> None:
         super().__init__(port, timeout, pause)
-        self._rounds = 0
+        # How many rounds of questions have said that it can print since something was sent or acknowledged, or it
+        # said anything else; and since when they count.
+        self._calm, self._calm_at = 0, -1e9
+        # How many answers have come since a marker is out, how often that was put again, and when it was last.
+        self._answered, self._again, self._marked_at = 0, 0, -1e9
 
     @property
     def _is_offline(self) -> bool:
@@ -829,16 +857,26 @@ class AskedLink(PrinterLink):
         return self._question
 
     def _asks_on(self) -> None:
-        """Asks all questions of DLE EOT, one after the other. It begins again if one isn't answered in time."""
+        """Asks all questions of DLE EOT, one after the other. It begins again if one isn't answered in time: a short
+        timeout leaves the answer time, and a long one doesn't keep what the printer says now waiting."""
         super()._asks_on()
-        pause = self.timeout if self._unanswered else _OFTEN
+        pause = min(max(self.timeout, _APART), _SILENT) if self._unanswered else _OFTEN
         if not self._is_late and time.monotonic() - self._questioned_at >= pause and self._may_ask():
+            if self._unanswered:
+                self._stirs()
             self._asks(_PRINTER)
+
+    def _stirs(self) -> None:
+        """What the printer has said up to now says nothing of what comes."""
+        self._calm, self._calm_at = 0, time.monotonic()
 
     def _ask(self) -> None:
         if self._asked_at is None:
             self._asked_at = time.monotonic()
-        self._asks_on()
+        if not self._unanswered and self._may_ask():
+            self._asks(_PRINTER)
+        else:
+            self._asks_on()
 
     def _ask_at_once(self) -> None:
         self._questioned_at = -1e9
@@ -882,15 +920,44 @@ class AskedLink(PrinterLink):
 
     def _hears(self, text: bytes, data: bytes, asked: int) -> None:
         if asked == _PAPER_IN_ORDER:
-            number = self._due[0].number
-            assert number is not None
-            self._acknowledged(number)
+            self._hears_acknowledgement()
+        else:
+            self._hears_answer(Told(data, asked), signs_of(text))
+
+    def _hears_acknowledgement(self) -> None:
+        """Once a marker is out, an answer doesn't say which question it is for, unless each has one."""
+        self._stirs()
+        if not self._is_marked():
+            self._acknowledges(1)
             return
-        self._hears_answer(Told(data, asked), signs_of(text))
+        self._answered += 1
+        self._ends_at = time.monotonic() + max(self.timeout, _SILENT)
+        if self._answered >= len(self._due) + self._again:
+            self._acknowledges(len(self._due))
+            self._answered = self._again = 0
+
+    def _acknowledges(self, count: int) -> None:
+        """So many of the first parcels that are due are printed."""
+        for parcel in list(self._due)[:count]:
+            assert parcel.number is not None
+            self._acknowledged(parcel.number)
+
+    def _is_marked(self) -> bool:
+        """Whether a marker is out."""
+        last = self._due[-1]
+        return last.is_marker and (last.is_begun or last not in self._outbox)
 
     def _asks_more(self, asked: int) -> None:
-        self._rounds += asked == _PAPER
         self._asks_next(asked)
+        if asked == _PAPER:
+            self._ends_round()
+
+    def _ends_round(self) -> None:
+        """All questions are answered."""
+        if self.signs.get("offline") == "no":
+            self._calm += 1
+        else:
+            self._stirs()
 
     def _forgets_end(self) -> None:
         """It may have no sensor that sees the end of the paper."""
@@ -913,27 +980,67 @@ class AskedLink(PrinterLink):
         for parcel in self._due:
             parcel.job = None
 
+    def _send(self, piece: bytes, job: Job | None, done: int) -> None:
+        super()._send(piece, job, done)
+        self._stirs()
+
     def _puts_marker(self) -> None:
-        """Answers are counted, so that of a marker that is out comes, and serves again."""
-        if not self._due[-1].is_marker:
+        """Answers are counted, so that of a marker that is out comes, and serves again. It is put again, and counted,
+        if there was time for it, since it may be lost, too."""
+        is_first, now = not self._due[-1].is_marker, time.monotonic()
+        if is_first:
             super()._puts_marker()
+        elif self._calm and now - self._marked_at >= max(self.timeout, _SILENT) and self._may_ask():
+            self._again += 1
+            self._puts(self._question)
+            self._stirs()
+        else:
+            return
+        self._marked_at = now
 
     def _gives_up(self) -> None:
-        """Waits for acknowledgements that are late. They are lost if none comes for the whole time, although the
-        printer says that it can print."""
+        """Waits for acknowledgements that are late, and finds out which are lost: once the printer says that it can
+        print, and acknowledges nothing, a marker goes out."""
         if not self._due:
             return
-        count, rounds = len(self._due), self._rounds
-        self._pump(lambda: not self._due or self.is_stopped)
-        if len(self._due) == count and self._rounds > rounds + 1 and not self.is_stopped:
+        if self._answered:
+            # Nobody may have looked for long.
+            self._stirs()
+            self._ends_at = max(self._ends_at, time.monotonic() + _SILENT)
+        self._pump(lambda: self._calm > 0 or self._is_settled())
+        if self._calm and not self._is_settled():
+            self._puts_marker()
+        self._pump(self._is_settled)
+        if self._due and self._is_all_answered():
             self._lost_due()
+            self._ends_at = time.monotonic() + self.timeout
+
+    def _is_settled(self) -> bool:
+        """Whether it is known what of that which is due is printed, or the printer has stopped."""
+        return not self._due or self.is_stopped or self._is_all_answered()
+
+    def _is_all_answered(self) -> bool:
+        """Whether no answer is left of those that may come since a marker is out: one has come, and none behind it
+        though the printer has said several times that it can print. The first of these rounds may have begun before."""
+        return self._answered > 0 and self._calm > 1 and time.monotonic() - self._calm_at >= _SHORTLY
 
     def _lost_due(self) -> None:
         for parcel in self._due:
             if parcel.job is not None:
                 parcel.job.is_torn = True
         self._due.clear()
+        self._answered = self._again = 0
+
+    def _has_order(self) -> bool:
+        return any(parcel.job is not None for parcel in self._due)
 
     def _forget(self) -> None:
+        """Acknowledgements may still come over another connection, and mustn't count for what is sent over that. A
+        marker of its own finds out which are lost."""
         super()._forget()
-        self._lost_due()
+        for parcel in self._due:
+            if parcel.job is not None:
+                parcel.job.is_torn = True
+        self._discounts_due()
+        self._stirs()
+        self._answered, self._marked_at = 0, -1e9

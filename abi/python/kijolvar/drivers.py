@@ -168,6 +168,14 @@ class EscPosPrinter(Driver):
     that has said by itself that it is offline may be silent, as while its feed button is held: it says that it goes on.
     If it has answered a question since, it counts as off once it is silent for the timeout.
 
+    With is_asked acknowledgements have no number. If that of a line doesn't come, the next order first asks once more.
+    If both answers come, however late, the line is printed. If one comes alone, the other is lost, and the order that
+    failed goes on with that line. To find this out takes a second, and up to 2 beside the timeout, however short that
+    is. As long as neither comes, nothing else is sent, and each order fails.
+
+    A printer that can't print, or isn't there, as far as is known, is asked every 2 seconds, however long the timeout
+    is.
+
     Args:
         port: The port, or its name as `port_of` takes it: /dev/usb/lp0, /dev/ttyUSB0, tcp:192.168.1.9:9100.
         drawer: The name of the till's drawer that is on the printer's connector. It is driven too (EscPosDrawer).

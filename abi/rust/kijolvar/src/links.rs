@@ -25,11 +25,11 @@ const ENOUGH_HELD: usize = 512;
 /// How many pieces of an order may be due, and how many bytes of no use are kept.
 const DUE_OF_JOB: usize = 32;
 const MOST_KEPT: usize = 1024;
-/// How often a printer is asked, and how long late answers may be apart.
+/// How often a printer is asked, and how long late answers may be apart, however short the timeout is.
 const OFTEN: Duration = Duration::from_millis(100);
 const APART: Duration = Duration::from_millis(500);
 /// How long a printer says nothing at least when it is switched off and on again, and how long it may still acknowledge
-/// a line after it has said that it stops.
+/// a line after it has said that it stops, or has acknowledged another one.
 const SILENT: Duration = Duration::from_secs(2);
 const STOPPING: Duration = Duration::from_secs(1);
 
@@ -130,8 +130,10 @@ enum Until {
     Printed(Kind),
     /// The order is printed, or nothing of it is due any more, or the printer has stopped.
     Settled(Kind),
-    /// Nothing is due, or the printer has stopped.
+    /// Nothing is due, or it is known what is lost, or the printer has stopped.
     NoneDue,
+    /// That is so, or the printer has said that it can print.
+    Calm,
     /// The printer that was silent has answered something, or it has stopped.
     Heard,
     /// The first status has come.
@@ -199,11 +201,19 @@ pub(crate) struct Link {
     is_late: bool,
     heard: Vec<Told>,
     hearing: Signs,
-    rounds: u32,
     /// Whether it has answered a question that was put after it had said that it is offline.
     is_hearing: bool,
     /// Of a printer that is asked: how many bytes of an automatic status that has begun still come.
     status_left: usize,
+    /// How many rounds of questions have said that it can print since something was sent or acknowledged, or it said
+    /// anything else; and since when they count.
+    calm: u32,
+    calm_at: Instant,
+    /// How many acknowledgements without a number have come since a marker is out, how often that was put again, and
+    /// when it was last.
+    answers: usize,
+    again: usize,
+    marked_at: Option<Instant>,
 }
 
 /// Whether an order may take so long: in no time none succeeds, and each has to end.
@@ -265,9 +275,13 @@ impl Link {
             is_late: false,
             heard: Vec::new(),
             hearing: Signs::default(),
-            rounds: 0,
             is_hearing: false,
             status_left: 0,
+            calm: 0,
+            calm_at: Instant::now(),
+            answers: 0,
+            again: 0,
+            marked_at: None,
         }
     }
 
@@ -330,33 +344,46 @@ impl Link {
     /// Puts a question of DLE EOT.
     fn put_question(&mut self, question: usize) {
         (self.question, self.questioned_at) = (question, Some(Instant::now()));
+        if self.unanswered == 0 && self.asked_at.is_some() {
+            // Nobody can answer what wasn't asked.
+            self.asked_at = self.questioned_at;
+        }
         self.unanswered += 1;
         self.control.extend_from_slice(&[0x10, 0x04, QUESTIONS[question] as u8]);
     }
 
-    /// Asks a printer how it is that says nothing by itself, or whose late answers have told nothing.
+    /// Asks a printer how it is that says nothing by itself, or whose late answers have told nothing. A short timeout
+    /// leaves an answer time, and a long one doesn't keep what the printer says now waiting.
     fn ask_on(&mut self) {
         let time = match self.unanswered {
             0 => OFTEN,
-            _ if self.is_late => self.timeout.min(APART),
-            _ => self.timeout,
+            _ if self.is_late => APART,
+            _ => self.timeout.max(APART).min(SILENT),
         };
         if (self.is_asked || self.is_late) && self.is_idle() && is_over(self.questioned_at, time) {
             if std::mem::take(&mut self.is_late) {
                 // The late answers that haven't come are lost.
                 self.unanswered = 0;
             }
+            if self.unanswered > 0 {
+                self.stir();
+            }
             self.put_question(0);
         }
+    }
+
+    /// What the printer has said up to now says nothing of what comes.
+    fn stir(&mut self) {
+        (self.calm, self.calm_at) = (0, Instant::now());
     }
 
     /// Asks whether the printer is there. While a question is unanswered, its time goes on.
     fn ask(&mut self) {
         self.asked_at.get_or_insert_with(Instant::now);
-        if self.is_asked {
-            self.ask_on();
-        } else {
+        if !self.is_asked || self.unanswered == 0 && self.is_idle() {
             self.put_question(0);
+        } else {
+            self.ask_on();
         }
     }
 
@@ -394,6 +421,7 @@ impl Link {
         }
         self.put_out += (self.out.len() - begun) as u64;
         self.due.push_back(parcel);
+        self.stir();
     }
 
     /// Puts out what comes next, once nothing is left of what went out before: what nothing acknowledges, and then
@@ -464,6 +492,34 @@ impl Link {
                 self.print(&parcel);
             }
         }
+    }
+
+    /// Whether a marker is out.
+    fn is_marked(&self) -> bool {
+        let begun = self.put_out - (self.out.len() - self.out_sent) as u64;
+        self.due.back().is_some_and(|last| last.job == 0 && last.place < begun)
+    }
+
+    /// An acknowledgement without a number. Once a marker is out, it doesn't say which question it is for, unless each
+    /// has one.
+    fn acknowledge_next(&mut self) {
+        self.stir();
+        if !self.is_marked() {
+            self.acknowledge(0);
+            return;
+        }
+        self.answers += 1;
+        self.ends_at = end_after(self.timeout.max(SILENT));
+        if self.answers >= self.due.len() + self.again {
+            (0..self.due.len()).for_each(|_| self.acknowledge(0));
+            (self.answers, self.again) = (0, 0);
+        }
+    }
+
+    /// Whether no acknowledgement is left of those that may come since a marker is out: one has come, and none behind
+    /// it though the printer has said several times that it can print. The first of these rounds may have begun before.
+    fn is_all_answered(&self) -> bool {
+        self.answers > 0 && self.calm > 1 && self.calm_at.elapsed() >= STOPPING
     }
 
     /// What a parcel is of is printed.
@@ -544,7 +600,7 @@ impl Link {
     fn take_answer(&mut self, line: &str, told: Told) {
         self.answered(line);
         if told.asked == Asked::PaperInOrder {
-            self.acknowledge(0);
+            self.acknowledge_next();
         } else {
             self.take_part(line, told);
         }
@@ -573,14 +629,22 @@ impl Link {
         self.heard.push(told);
         self.hearing.hear(line);
         if !self.is_asked && !self.hearing.is_offline {
+            if self.is_offline() && !self.control.ends_with(REFRESH) {
+                // It prints again, and hasn't said so, or that is lost.
+                self.put_refresh();
+            }
             return;
         }
         if self.question + 1 < QUESTIONS.len() {
             self.put_question(self.question + 1);
             return;
         }
-        self.rounds += 1;
         self.compose(has_ended);
+        if self.hearing.is_offline {
+            self.stir();
+        } else {
+            self.calm += 1;
+        }
     }
 
     /// Puts the replies to the three questions together to what an automatic status would say. The sensor tells of the
@@ -729,7 +793,8 @@ impl Link {
         match until {
             Until::Printed(kind) => is_stopped || job(kind).is_some_and(|job| job.is_done || job.is_torn),
             Until::Settled(kind) => is_stopped || job(kind).is_some_and(|job| job.is_done || !self.is_due(job.number)),
-            Until::NoneDue => is_stopped || self.due.is_empty(),
+            Until::NoneDue => is_stopped || self.due.is_empty() || self.is_all_answered(),
+            Until::Calm => self.calm > 0 || self.is_reached(Until::NoneDue),
             Until::Heard => is_stopped || !self.was_silent,
             Until::Known => !self.told.is_empty(),
         }
@@ -769,6 +834,12 @@ impl Link {
 
     // The port.
 
+    /// What is due counts for nothing.
+    fn tear_due(&mut self) {
+        let jobs: Vec<u64> = self.due.iter().map(|parcel| parcel.job).collect();
+        jobs.into_iter().for_each(|job| self.tear(job));
+    }
+
     /// What is due is lost.
     fn lose_due(&mut self) {
         for parcel in std::mem::take(&mut self.due) {
@@ -776,6 +847,7 @@ impl Link {
                 job.is_torn = true;
             }
         }
+        (self.answers, self.again) = (0, 0);
     }
 
     /// Whether the printer has said nothing for a time.
@@ -842,8 +914,7 @@ impl Link {
         self.clear_out();
         if self.is_asked {
             // Acknowledgements without a number may still come, and mustn't count for anything else.
-            let jobs: Vec<u64> = self.due.iter().map(|parcel| parcel.job).collect();
-            jobs.into_iter().for_each(|job| self.tear(job));
+            self.tear_due();
         } else {
             self.lose_due();
         }
@@ -874,8 +945,11 @@ impl Link {
         }
         self.status_left = 0;
         if self.is_asked {
-            // Acknowledgements without a number can't be told from those of another connection.
-            self.lose_due();
+            // Acknowledgements without a number may still come over another connection, and mustn't count for what is
+            // sent over that. A marker of its own finds out which are lost.
+            self.tear_due();
+            self.stir();
+            (self.answers, self.marked_at) = (0, None);
         }
     }
 
@@ -913,13 +987,25 @@ impl Link {
         }
     }
 
+    /// How long a printer may say nothing before it is asked. One that can't print, or isn't there, as far as is known,
+    /// may be well again, and what it has said of that be lost: that doesn't wait for a long timeout.
+    fn longest_quiet(&self) -> Duration {
+        if self.is_there && !self.is_offline() {
+            self.timeout
+        } else {
+            self.timeout.min(SILENT)
+        }
+    }
+
     /// Asks a printer that has said nothing for a time, and one that says that it can't print, for more. One on a
     /// network that doesn't answer is lost, unless something is due: the system might find that much later. One that
     /// may be silent is asked again, too, since it may have been off meanwhile, where the question was lost. It is off
     /// if it has answered before, though it was offline.
     fn look_after(&mut self) -> Result<(), Lost> {
-        let is_late = self.asked_at.is_some_and(|asked_at| asked_at.elapsed() > self.timeout);
-        if is_late && (self.is_hearing || !self.may_be_silent()) {
+        // As long as late answers come, no question is put.
+        let paused = self.questioned_at.filter(|_| self.is_late).map(|at| at + APART);
+        let is_silent = self.asked_at.is_some_and(|at| paused.map_or(at, |end| end.max(at)).elapsed() > self.timeout);
+        if is_silent && (self.is_hearing || !self.may_be_silent()) {
             if self.cable.holds_back() && self.is_any_due() {
                 self.lose_held();
             }
@@ -927,15 +1013,20 @@ impl Link {
             self.is_there = false;
             self.told.clear();
             self.signs = Signs::default();
-            if matches!(self.cable.port, Port::Tcp(..)) && self.due.is_empty() {
+            let has_order = if self.is_asked { self.is_any_due() } else { !self.due.is_empty() };
+            if matches!(self.cable.port, Port::Tcp(..)) && !has_order {
                 self.cable.fault = Some(ETIMEDOUT);
                 return Err(Lost);
             }
         }
-        let is_heard = self.is_there && !self.was_silent && !is_over(self.heard_at, self.timeout);
-        if !is_heard && (self.asked_at.is_none() || is_late) {
+        let most = self.longest_quiet();
+        let is_heard = self.is_there && !self.was_silent && !is_over(self.heard_at, most);
+        let is_lost = !self.is_asked && is_over(self.questioned_at, most);
+        if !is_heard && !self.is_late && (self.asked_at.is_none() || is_silent || is_lost) {
             if self.is_idle() {
-                self.asked_at = None;
+                if is_silent {
+                    self.asked_at = None;
+                }
                 self.ask();
             } else if self.unanswered > 0 && self.cable.is_holding() {
                 // A question that waits in the line already counts from now on.
@@ -971,16 +1062,26 @@ impl Link {
 
     // Orders.
 
-    /// Waits for acknowledgements that are late, if they have no number. They are lost if none comes for the whole
-    /// time, although the printer says that it can print.
+    /// Waits for acknowledgements that are late, if they have no number, and finds out which are lost, by a marker. The
+    /// printer does nothing between what is due and that, so that it answers both together, however late: if one answer
+    /// comes alone, the other is lost. That doesn't depend on the timeout.
     fn give_up(&mut self, till: &mut DriverTill<'_>) -> Result<(), Lost> {
-        let (count, rounds) = (self.due.len(), self.rounds);
-        if !self.is_asked || count == 0 {
+        if !self.is_asked || self.due.is_empty() {
             return Ok(());
         }
+        if self.answers > 0 {
+            // Nobody may have looked for long.
+            self.stir();
+            self.ends_at = self.ends_at.max(end_after(SILENT));
+        }
+        self.pump(till, Until::Calm, None)?;
+        if self.calm > 0 && !self.is_reached(Until::NoneDue) {
+            self.put_marker();
+        }
         self.pump(till, Until::NoneDue, None)?;
-        if self.due.len() == count && self.rounds > rounds + 1 && !self.is_offline() {
+        if !self.due.is_empty() && self.is_all_answered() {
             self.lose_due();
+            self.ends_at = end_after(self.timeout);
         }
         Ok(())
     }
@@ -990,16 +1091,29 @@ impl Link {
         Job { number: self.jobs, bytes, is_once, ..Job::default() }
     }
 
+    /// Asks once more in place of a marker that isn't answered and may be lost. Its answer may come all the same, so
+    /// that it is counted.
+    fn put_marker_again(&mut self) {
+        if self.calm > 0 && is_over(self.marked_at, self.timeout.max(SILENT)) && self.is_idle() {
+            self.control.extend_from_slice(&self.end);
+            self.again += 1;
+            self.marked_at = Some(Instant::now());
+            self.stir();
+        }
+    }
+
     /// Asks for an acknowledgement of all that was sent before.
     fn put_marker(&mut self) {
         if self.due.back().is_some_and(|last| last.job == 0) {
             // Answers without a number are counted: that of the last one comes, and serves again.
             if self.is_asked {
+                self.put_marker_again();
                 return;
             }
             // One that nobody has answered yet is of no use any more.
             self.due.pop_back();
         }
+        self.marked_at = Some(Instant::now());
         let parcel =
             Parcel { number: 0, job: 0, from: 0, to: 0, is_last: false, is_torn: false, is_once: false, place: 0 };
         self.send(&[], parcel);
