@@ -406,8 +406,8 @@ module _ {D P : Type 0} (bound : DiskGhosts D) (peripherals : Ghosts P) where
   each_none only c s given = (tells_none only c s given, refl, refl)
 
   -- one line more
-  each_line : ((disk : D) → OnlyNow bound disk) → (lines : List (List ℕ)) (a : Counter D P) (s : Session) (before : Given)
-      {b c : Counter D P} {mid left : Session} {line : List ℕ} {between after : Given}
+  each_line : ((disk : D) → OnlyNow bound disk) → (lines : List (List ℕ)) (a : Counter D P) (s : Session)
+      (before : Given) {b c : Counter D P} {mid left : Session} {line : List ℕ} {between after : Given}
       → CarriesEach bound peripherals a s lines before between b mid
       → (tells : RunsAndWrites bound peripherals b mid (line ∷ []) between after c left)
       → (tells.text ≡ codes "memory\n" → c.tally ≡ b.tally)
