@@ -124,7 +124,6 @@ impl OrderSender {
     /// # Errors
     ///
     /// [`NoMemory`] if memory ran out. For the host's line it is taken before the order is passed on.
-    #[tactic(auto, using(crate::proofs::OrderLemmas::asks_twin))]
     pub fn ask(&self, twin: &mut Driven<Wrapped>, order: &Order) -> Result<Reply, NoMemory>
         ensures { AsksTwin twin.old order.now result twin.new }
     {

@@ -1,5 +1,5 @@
-use Rattle.kijolvar.proofs.Common.{inl}
+use Rattle.kijolvar.proofs.OrderLemmas.{asks_twin}
 use Rattle.kijolvar.proofs.order_queue.OrderSender.ask.Goals as goal
 
 pub returns-then-not-is_hosted : goal.returns-then-not-is_hosted
-returns-then-not-is_hosted c = inl c.ask.ensures.asked
+returns-then-not-is_hosted c = asks_twin _ _ _ _ c.ask.ensures.asked c.ask.ensures.keeps c.ask.ensures.settles
