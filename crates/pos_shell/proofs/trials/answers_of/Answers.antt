@@ -10,6 +10,7 @@ returns c = ok_map c.answer_all-answers.result (λ answers told.
       counter = _;
       spares = _;
       simulated = c.in-Ok-simulate_profile.ensures.made;
+      mounted = c.in-Ok-simulate_profile.ensures.mounted;
       steps = steps;
       left = _;
       end = _;
