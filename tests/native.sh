@@ -87,7 +87,7 @@ runs "what measures the cost is built" gcc -std=c99 "${strict[@]}" -O2 -o "$work
 runs "what tries the system is built" gcc -std=c99 "${strict[@]}" -O1 -g -fsanitize=address,undefined \
   -fno-sanitize-recover -o "$work/system" "$here/system.c" "$abi"/c/kij_*.c "${bare[@]}" \
   -Wl,--wrap=getaddrinfo,--wrap=fsync,--wrap=pread,--wrap=pwrite,--wrap=ioctl,--wrap=tcflush \
-  -Wl,--wrap=statx,--wrap=socket,--wrap=poll
+  -Wl,--wrap=statx,--wrap=socket,--wrap=poll,--wrap=linkat,--wrap=renameat
 times "ports and files where the system does less" sh -c 'rm -rf "$2" && mkdir "$2" && "$1" "$2"' sh "$work/system" \
   "$work/files"
 runs "what tries want of memory is built" gcc -std=c99 "${strict[@]}" -O1 -g -fsanitize=address,undefined \

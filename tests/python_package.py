@@ -1673,7 +1673,7 @@ def try_backups():
         part.write_bytes(b"")
         told("a crash has left a part", ("FileExistsError", str(part), False, True), refused())
         part.unlink()
-        for name, number in (("pwrite", errno.ENOSPC), ("fsync", errno.EIO), ("link", errno.EPERM)):
+        for name, number in (("pwrite", errno.ENOSPC), ("fsync", errno.EIO), ("link", errno.EIO)):
             with mock.patch(f"os.{name}", side_effect=OSError(number, os.strerror(number))):
                 told(f"{name} fails", (type(OSError(number, "")).__name__, str(copy_of if name == "link" else part),
                                        False, False), refused())
@@ -1695,6 +1695,54 @@ def try_backups():
     with mock.patch("kijolvar._files.read_whole", side_effect=[bytes([at % 2]) for at in range(1001)]) as readings:
         told("one that always changes", (("BlockingIOError", str(path), False, False), 1001),
              (refused(), readings.call_count))
+
+
+def try_backups_without_links():
+    """Where a file has one name, as on a FAT stick, an empty file takes the name of a copy first, and is replaced."""
+    path, stick = WORK / "linked", WORK / "stick"
+    kijolvar.create_totals(path, LIBRARY).close()
+    stick.mkdir()
+    copy_of, renames, replaced = stick / "copy", os.rename, []
+
+    def backs_up(number, rename=renames):
+        """What a copy is refused with where linking and renaming end so, and the steps to it."""
+        steps = mock.Mock()
+        with contextlib.ExitStack() as stack:
+            for name, does in (("pwrite", os.pwrite), ("fsync", os.fsync), ("rename", rename), ("unlink", os.unlink),
+                               ("link", OSError(number, os.strerror(number)))):
+                steps.attach_mock(stack.enter_context(mock.patch(f"os.{name}", side_effect=does)), name)
+            fault = raised(kijolvar.backup, path, copy_of, LIBRARY)
+        refused = None if fault is None else (type(fault).__name__, getattr(fault, "filename", None))
+        return refused, [call[0] for call in steps.mock_calls]
+
+    def renames_over(part, name, **folders):
+        replaced.append(copy_of.stat().st_size)
+        renames(part, name, **folders)
+
+    def is_interrupted(part, name, **folders):
+        renames(part, name, **folders)
+        raise InterruptedError
+    for number in (errno.EPERM, errno.EACCES, errno.EOPNOTSUPP, errno.ENOSYS):
+        name = errno.errorcode[number]
+        told(f"a copy where a file has one name ({name})", (None, ["pwrite", "fsync", "link", "rename", "fsync"]),
+             backs_up(number, renames_over))
+        told(f"it is whole, for its owner alone, and the only file ({name})", (path.read_bytes(), 0o600, ["copy"]),
+             (copy_of.read_bytes(), copy_of.stat().st_mode & 0o777, os.listdir(stick)))
+        copy_of.unlink()
+    told("an empty file had its name before", [0] * 4, replaced)
+    copy_of.write_bytes(b"kept")
+    told("a file is there", (("FileExistsError", str(copy_of)), ["pwrite", "fsync", "link", "unlink"]),
+         backs_up(errno.EPERM))
+    told("it is kept, and the only file", (b"kept", ["copy"]), (copy_of.read_bytes(), os.listdir(stick)))
+    copy_of.unlink()
+    copy_of.symlink_to(WORK / "no-such-file")
+    told("a link that leads nowhere is there", "FileExistsError", backs_up(errno.EPERM)[0][0])
+    copy_of.unlink()
+    told("it can't be renamed", (("OSError", str(copy_of)), ["pwrite", "fsync", "link", "rename", "unlink", "unlink"]),
+         backs_up(errno.EPERM, OSError(errno.EIO, os.strerror(errno.EIO))))
+    told("then nothing is there", [], os.listdir(stick))
+    told("a handler interrupts it", ("InterruptedError", None), backs_up(errno.EPERM, is_interrupted)[0])
+    told("nothing is there then", [], os.listdir(stick))
 
 
 def try_backups_beside_changes():
@@ -2749,8 +2797,8 @@ def main():
                        try_replies, try_events, try_copies, try_types_of_codes, try_constants_of_others, try_listeners,
                        try_failing_listeners, try_kept_listeners, try_claims,
                        try_misuse, try_many_controls, try_totals, try_disabled_transactions, try_files,
-                       try_backups, try_backups_beside_changes, try_replaced_totals, try_handlers,
-                       try_closing_handlers, try_forking_handlers, try_any_event,
+                       try_backups, try_backups_without_links, try_backups_beside_changes, try_replaced_totals,
+                       try_handlers, try_closing_handlers, try_forking_handlers, try_any_event,
                        try_lines_without_memory, try_orders_without_memory, try_order_without_memory,
                        try_scan_before_power, try_lost_answers, try_lost_openings, try_lost_renames,
                        try_lost_constructors, try_given_up_by_a_closed_control,

@@ -285,7 +285,7 @@ kij_result kij_files(const char *path, char *text, size_t room, size_t *needed, 
  * Copies a file of totals to a path where nothing is, also while a till has it open. The file is only read, and not
  * locked: again and again, until two readings in a row give the same bytes. They have to be sound. The copy appears
  * whole or not at all: it is written to a file beside it, with `.part` at its end, and synced before it gets its name.
- * Its file system must have hard links.
+ * Without hard links, as on a FAT stick, an empty file takes the name first, so a power cut may leave it empty.
  *
  * @param path the path of the file
  * @param to   the path of the copy, which is for its owner alone

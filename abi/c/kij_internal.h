@@ -328,7 +328,7 @@ int kij_internal_sync_first(int file);
 int kij_internal_read_file(int file, uint8_t *bytes, size_t *size);
 
 /* Makes a file with these bytes, for its owner alone, at a path where nothing is: 0, or errno, or a code of enum
-   kij_code with a minus. It appears whole or not at all. */
+   kij_code with a minus. It appears whole or not at all; where a file has one name, a crash may leave an empty one. */
 int kij_internal_put_file(const char *path, const uint8_t *bytes, size_t size);
 
 /* What the library's code means to who opens a file or a till. */

@@ -265,10 +265,31 @@ static int write_part(int folder, const char *part, const uint8_t *bytes, size_t
     return why;
 }
 
-/* Gives the file of a name in a folder another name there, which nothing has. */
+/* Whether a second name was refused as it is where a file has one name, such as on a FAT stick. */
+static bool has_one_name(int why) { return why == EPERM || why == EACCES || why == EOPNOTSUPP || why == ENOSYS; }
+
+/* Gives the file of a name in a folder another name there, in place of its own. An empty file takes that first, so that
+   nothing which has it is replaced; it is removed again if the renaming fails. */
+static int take_name(int folder, const char *part, const char *name) {
+    int file = openat(folder, name, O_WRONLY | O_CREAT | O_EXCL | O_CLOEXEC, 0600);
+    if (file < 0) return errno;
+    close(file);
+    if (renameat(folder, part, folder, name) == 0) return 0;
+    int why = errno;
+    (void)unlinkat(folder, name, 0);
+    return why;
+}
+
+/* Gives the file of a name in a folder another name there, which nothing has, and takes its own away. Where a file has
+   one name, it gets the new one in place of that. */
 static int link_part(int folder, const char *part, const char *name) {
     int why = linkat(folder, part, folder, name, 0) == 0 ? 0 : errno;
-    if (unlinkat(folder, part, 0) != 0 && why == 0) why = errno;
+    bool is_renamed = false;
+    if (has_one_name(why)) {
+        why = take_name(folder, part, name);
+        is_renamed = why == 0;
+    }
+    if (!is_renamed && unlinkat(folder, part, 0) != 0 && why == 0) why = errno;
     return why == 0 && !kij_internal_is_synced(folder) ? errno : why;
 }
 

@@ -1,8 +1,8 @@
 /* Tries the layer of C where the system does something that no emulated device can bring about: a serial line that is
    pulled out before its bytes are out, processes that are forked, names that are looked up, signals, and files that are
    read and written in parts.
-   What is linked with it has -Wl,--wrap=.. for getaddrinfo, fsync, pread, pwrite, ioctl, tcflush, statx, socket and
-   poll.
+   What is linked with it has -Wl,--wrap=.. for getaddrinfo, fsync, pread, pwrite, ioctl, tcflush, statx, socket, poll,
+   linkat and renameat.
 
    Usage: system FOLDER. It makes files in the folder, and prints what fails. Its status is 0 if nothing does. */
 #define _GNU_SOURCE
@@ -47,6 +47,10 @@ static int is_grabbed = -1, left_out = -1;
 static int own_number;
 /* How many bytes each line holds back. */
 static int held;
+/* Why no file gets a second name, and why none is renamed, or 0. */
+static int link_fault, rename_fault;
+/* How many bytes the file had that was replaced last by a renaming, and how many syncs were before that. */
+static long replaced, syncs_before;
 
 int __real_getaddrinfo(const char *host, const char *service, const struct addrinfo *wanted, struct addrinfo **found);
 int __real_fsync(int file);
@@ -57,6 +61,8 @@ int __real_tcflush(int file, int queue);
 int __real_poll(struct pollfd *files, nfds_t count, int time);
 int __real_socket(int domain, int type, int protocol);
 int __real_statx(int folder, const char *path, int flags, unsigned mask, struct statx *found);
+int __real_linkat(int from, const char *name, int to, const char *second, int flags);
+int __real_renameat(int from, const char *name, int to, const char *second);
 int __wrap_getaddrinfo(const char *host, const char *service, const struct addrinfo *wanted, struct addrinfo **found);
 int __wrap_ioctl(int file, unsigned long request, ...);
 int __wrap_tcflush(int file, int queue);
@@ -66,6 +72,8 @@ ssize_t __wrap_pwrite(int file, const void *bytes, size_t size, off_t at);
 int __wrap_poll(struct pollfd *files, nfds_t count, int time);
 int __wrap_socket(int domain, int type, int protocol);
 int __wrap_statx(int folder, const char *path, int flags, unsigned mask, struct statx *found);
+int __wrap_linkat(int from, const char *name, int to, const char *second, int flags);
+int __wrap_renameat(int from, const char *name, int to, const char *second);
 
 int __wrap_getaddrinfo(const char *host, const char *service, const struct addrinfo *wanted, struct addrinfo **found) {
     lookups++;
@@ -150,6 +158,19 @@ int __wrap_statx(int folder, const char *path, int flags, unsigned mask, struct 
     int result = __real_statx(folder, path, flags, mask, found);
     if (is_disk) found->stx_mode = (uint16_t)((found->stx_mode & ~S_IFMT) | S_IFBLK);
     return result;
+}
+
+int __wrap_linkat(int from, const char *name, int to, const char *second, int flags) {
+    errno = link_fault;
+    return link_fault != 0 ? -1 : __real_linkat(from, name, to, second, flags);
+}
+
+int __wrap_renameat(int from, const char *name, int to, const char *second) {
+    struct stat found;
+    replaced = fstatat(to, second, &found, AT_SYMLINK_NOFOLLOW) == 0 ? (long)found.st_size : -1;
+    syncs_before = syncs;
+    errno = rename_fault;
+    return rename_fault != 0 ? -1 : __real_renameat(from, name, to, second);
 }
 
 /* Whether two numbers are the same. */
@@ -1253,6 +1274,47 @@ static void try_backups(const char *path) {
     if (unlink(copy) != 0) abort();
 }
 
+/* Where a file has one name, as on a FAT stick, an empty file takes the name of a copy first, and is replaced. */
+static void try_backups_without_links(const char *path) {
+    static const int faults[] = {EPERM, EACCES, EOPNOTSUPP, ENOSYS};
+    char copy[4200], part[4300];
+    size_t needed = 0;
+    uint64_t place = 0;
+    struct stat found;
+    snprintf(copy, sizeof copy, "%s.copy", path);
+    snprintf(part, sizeof part, "%s.part", copy);
+    for (size_t at = 0; at < sizeof faults / sizeof faults[0]; at++) {
+        link_fault = faults[at];
+        replaced = -1;
+        syncs = 0;
+        told("a copy where a file has one name", KIJ_OK, kij_backup(path, copy).code);
+        told("an empty file had its name before", 0, replaced);
+        told("it is synced before it gets that", 1, syncs_before);
+        told("its folder is synced after that", 2, syncs);
+        told("it is there", 0, stat(copy, &found));
+        told("for its owner alone", S_IFREG | 0600, found.st_mode);
+        told("it is sound", KIJ_OK, kij_files(copy, NULL, 0, &needed, &place).code);
+        told("and no part of it is left", -1, access(part, F_OK));
+        told("where a copy is", EEXIST, kij_backup(path, copy).extended);
+        told("that is kept", KIJ_OK, kij_files(copy, NULL, 0, &needed, &place).code);
+        told("and no part is left then", -1, access(part, F_OK));
+        (void)unlink(copy);
+    }
+    rename_fault = EIO;
+    told("one that can't be renamed", EIO, kij_backup(path, copy).extended);
+    told("nothing has its name then", -1, access(copy, F_OK));
+    told("nor has a part of it", -1, access(part, F_OK));
+    rename_fault = 0;
+    link_fault = ENOSPC;
+    told("one that isn't linked for another reason", ENOSPC, kij_backup(path, copy).extended);
+    told("it isn't renamed either", -1, access(copy, F_OK));
+    told("nor is a part of it left", -1, access(part, F_OK));
+    link_fault = EPERM;
+    open_totals("totals that are created there", copy, KIJ_CREATE_NEW, KIJ_SYSTEM, EPERM);
+    told("no file of them is left", -1, access(copy, F_OK));
+    link_fault = 0;
+}
+
 /* Reading and writing in parts and signals are no failure of the file of the totals, and a failure says why. */
 static void try_totals(const char *path) {
     write_fault = ENOSPC;
@@ -1277,6 +1339,7 @@ static void try_totals(const char *path) {
     told("what it holds", KIJ_OK, kij_files(path, NULL, 0, &needed, &place).code);
     told("that is synced", 1, syncs);
     try_backups(path);
+    try_backups_without_links(path);
     read_fault = EIO;
     open_totals("a file that can't be read", path, KIJ_EXISTING, KIJ_SYSTEM, EIO);
     told("nor moved", KIJ_SYSTEM, kij_migrate(path).code);

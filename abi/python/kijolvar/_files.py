@@ -202,7 +202,8 @@ def read_steady(path: Path) -> bytes:
 
 def put_new(path: Path, data: bytes) -> None:
     """Makes a file with these bytes, for its owner alone, at a path where nothing is. It appears whole or not at all:
-    it is written beside that, with .part at its end, and synced before it gets its name.
+    it is written beside that, with .part at its end, and synced before it gets its name. Where a file has one name, as
+    on a FAT stick, a crash may leave an empty file.
 
     Raises:
         FileExistsError: Anything has the name already, or the one with .part at its end.
@@ -213,7 +214,7 @@ def put_new(path: Path, data: bytes) -> None:
     with _folder(name) as folder, contextlib.ExitStack() as ends:
         with naming(f"{name}.part"):
             file = os.open(part, os.O_WRONLY | os.O_CREAT | os.O_EXCL | os.O_CLOEXEC, 0o600, dir_fd=folder)
-            ends.callback(os.unlink, part, dir_fd=folder)
+            ends.callback(_remove, folder, part)
             file = off_streams(file)
             try:
                 write_whole(file, data, 0)
@@ -221,9 +222,41 @@ def put_new(path: Path, data: bytes) -> None:
             finally:
                 os.close(file)
         with naming(name):
-            os.link(part, base, src_dir_fd=folder, dst_dir_fd=folder)
+            if not _is_linked(folder, part, base):
+                _take_name(folder, part, base)
+                ends.pop_all()
         ends.close()
         os.fsync(folder)
+
+
+def _is_linked(folder: int, part: str, name: str) -> bool:
+    """Gives the file of a name in a folder a second name there, which nothing has. False if that is refused as it is
+    where a file has one name, such as on a FAT stick."""
+    try:
+        os.link(part, name, src_dir_fd=folder, dst_dir_fd=folder)
+    except OSError as fault:
+        if fault.errno not in (errno.EPERM, errno.EACCES, errno.EOPNOTSUPP, errno.ENOSYS):
+            raise
+        return False
+    return True
+
+
+def _take_name(folder: int, part: str, name: str) -> None:
+    """Gives the file of a name in a folder another name there, in place of its own. An empty file takes that first, so
+    that nothing which has it is replaced; it is removed again if the renaming fails."""
+    os.close(os.open(name, os.O_WRONLY | os.O_CREAT | os.O_EXCL | os.O_CLOEXEC, 0o600, dir_fd=folder))
+    try:
+        os.rename(part, name, src_dir_fd=folder, dst_dir_fd=folder)
+    except BaseException:
+        with contextlib.suppress(OSError):
+            os.unlink(name, dir_fd=folder)
+        raise
+
+
+def _remove(folder: int, name: str) -> None:
+    """Takes a name in a folder away, if it is there. A renaming may have been interrupted after it was done."""
+    with contextlib.suppress(FileNotFoundError):
+        os.unlink(name, dir_fd=folder)
 
 
 def _open_at_once(path: str, flags: int) -> int:

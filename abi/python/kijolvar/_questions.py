@@ -199,7 +199,8 @@ def backup(path: Path, to: Path, library: Path | ctypes.CDLL | None = None) -> N
 
     The file is only read, and not locked: again and again, until two readings in a row give the same bytes. They have
     to be sound. The copy appears whole or not at all: it is written to a file beside it, with `.part` at its end, and
-    synced before it gets its name. Its file system must have hard links.
+    synced before it gets its name. Without hard links, as on a FAT stick, an empty file takes the name first, so a
+    power cut may leave it empty.
 
     Args:
         path: The file of totals.

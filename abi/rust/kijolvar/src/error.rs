@@ -238,12 +238,8 @@ impl fmt::Display for Cause {
     }
 }
 
-/// The system's number of a fault: it doesn't permit that. A FAT stick answers a hard link so.
-const EPERM: i32 = 1;
-
 /// Why the system refused a copy, if that is another reason than of a till's file.
 fn said_of_copy(fault: &io::Error) -> Option<&'static str> {
-    let has_no_links = fault.kind() == io::ErrorKind::Unsupported || fault.raw_os_error() == Some(EPERM);
     match fault.kind() {
         io::ErrorKind::AlreadyExists => Some(
             "the copy is there already, or the file beside it with .part at its end: remove that if no other program \
@@ -253,10 +249,7 @@ fn said_of_copy(fault: &io::Error) -> Option<&'static str> {
         io::ErrorKind::WouldBlock => {
             Some("the file changes each time it is read: try again, or end the program that writes to it")
         }
-        _ if has_no_links => Some(
-            "the system doesn't permit that: if the file system of the copy has no hard links, such as a FAT stick, \
-             back up elsewhere, and copy the copy there",
-        ),
+        io::ErrorKind::Unsupported => Some("the file system can't do that: back up elsewhere, and copy the copy there"),
         _ => None,
     }
 }
@@ -316,16 +309,16 @@ mod tests {
     fn a_copy_is_refused_for_reasons_of_its_own() {
         let said = |call, number| Error::new(call, Cause::System(io::Error::from_raw_os_error(number))).to_string();
         let reasons = [
-            (EPERM, "has no hard links"),
             (2, "the folder of the copy isn't"),
             (11, "changes each time it is read"),
             (17, "remove that if no other program"),
-            (95, "has no hard links"),
+            (95, "back up elsewhere"),
         ];
         for (number, reason) in reasons {
             assert!(said("backup", number).contains(reason), "{}", said("backup", number));
             assert!(!said("files", number).contains(reason), "{}", said("files", number));
         }
+        assert_eq!(said("backup", 1), "backup: Operation not permitted (os error 1)");
         assert_eq!(said("backup", 28), "backup: No space left on device (os error 28)");
     }
 }

@@ -218,7 +218,8 @@ pub fn check(path: impl AsRef<Path>) -> Result<(), Error> {
 /// Copies a file of totals to a path where nothing is, also while a till has it open. The file is only read, and not
 /// locked: again and again, until two readings in a row give the same bytes. They have to be sound. The copy appears
 /// whole or not at all: it is written to a file beside it, with `.part` at its end, and synced before it gets its name.
-/// It is for its owner alone. Its file system must have hard links.
+/// It is for its owner alone. Without hard links, as on a FAT stick, an empty file takes the name first, so a power cut
+/// may leave it empty.
 ///
 /// # Errors
 ///

@@ -212,16 +212,47 @@ pub(crate) fn read_steady(path: &Path) -> io::Result<Vec<u8>> {
     Err(ErrorKind::WouldBlock.into())
 }
 
+/// Whether a second name was refused as it is where a file has one name, such as on a FAT stick.
+fn has_one_name(fault: &io::Error) -> bool {
+    matches!(fault.kind(), ErrorKind::PermissionDenied | ErrorKind::Unsupported)
+}
+
+/// Gives a file a name that isn't in use, in place of its own. An empty file takes that first, so that nothing which
+/// has it is replaced; it is removed again if the renaming fails.
+fn take_name(part: &Path, path: &Path) -> io::Result<()> {
+    OpenOptions::new().write(true).create_new(true).mode(0o600).open(path)?;
+    fs::rename(part, path).inspect_err(|_| {
+        let _ = fs::remove_file(path);
+    })
+}
+
+/// Gives a file a name that isn't in use, and takes its own away. Where a file has one name, it gets the new one in
+/// place of that.
+fn link_part(part: &Path, path: &Path) -> io::Result<()> {
+    match fs::hard_link(part, path) {
+        Err(fault) if has_one_name(&fault) => take_name(part, path).inspect_err(|_| {
+            let _ = fs::remove_file(part);
+        }),
+        linked => {
+            let removed = fs::remove_file(part);
+            linked.and(removed)
+        }
+    }
+}
+
 /// Makes a file with these bytes, for its owner alone, at a path where nothing is. It appears whole or not at all: it
-/// is written beside that, with .part at its end, and synced before it gets its name.
+/// is written beside that, with .part at its end, and synced before it gets its name. Where a file has one name, as on
+/// a FAT stick, a crash may leave an empty file.
 pub(crate) fn put_new(path: &Path, bytes: &[u8]) -> io::Result<()> {
     let mut part = path.to_path_buf().into_os_string();
     part.push(".part");
-    let file = OpenOptions::new().write(true).create_new(true).mode(0o600).open(&part)?;
-    let written = file.write_all_at(bytes, 0).and_then(|()| file.sync_all());
-    let named = written.and_then(|()| fs::hard_link(&part, path));
-    let removed = fs::remove_file(&part);
-    named.and(removed)?;
+    let part = Path::new(&part);
+    let file = OpenOptions::new().write(true).create_new(true).mode(0o600).open(part)?;
+    if let Err(fault) = file.write_all_at(bytes, 0).and_then(|()| file.sync_all()) {
+        let _ = fs::remove_file(part);
+        return Err(fault);
+    }
+    link_part(part, path)?;
     sync_folder(path)
 }
 

@@ -265,6 +265,39 @@ fn a_file_is_copied_while_a_till_has_it() {
     assert!(!copy.exists() && !part.exists());
 }
 
+/// As on a FAT stick: an empty file takes the name of a copy first, and is replaced.
+#[test]
+fn a_file_is_copied_where_a_file_has_one_name() {
+    let [eperm, eio, eacces, enospc, enosys, eopnotsupp] = [1, 5, 13, 28, 38, 95];
+    let (place, stick) = (Place::new("linked"), Place::new("stick"));
+    let (copy, folder) = (stick.file(), std::fs::canonicalize(&stick.0).unwrap());
+    let names = || -> Vec<_> { std::fs::read_dir(&stick.0).unwrap().map(|found| found.unwrap().file_name()).collect() };
+    let backs_up = || backup(place.file(), &copy);
+    drop(Till::open(BUILT_PROFILE, Totals::create_new(place.file())).unwrap());
+    for fault in [eperm, eacces, eopnotsupp, enosys] {
+        let ((done, synced), renamed) = system::with_name_faults(fault, 0, || system::with_sync_fault(0, backs_up));
+        done.unwrap();
+        // It is synced before it replaces an empty file, and its folder after that.
+        assert_eq!((renamed, synced), (vec![(1, Some(0))], vec![folder.join("totals.part"), folder.clone()]));
+        assert!(std::fs::read(&copy).unwrap() == std::fs::read(place.file()).unwrap());
+        assert_eq!((std::fs::metadata(&copy).unwrap().mode() & 0o777, names()), (0o600, vec!["totals".into()]));
+        std::fs::write(&copy, "kept").unwrap();
+        let (refused, renamed) = system::with_name_faults(fault, 0, || backs_up().unwrap_err());
+        assert_eq!((system_kind(&refused), renamed), (Some(ErrorKind::AlreadyExists), vec![]));
+        assert_eq!((std::fs::read(&copy).unwrap(), names()), (b"kept".to_vec(), vec!["totals".into()]));
+        std::fs::remove_file(&copy).unwrap();
+    }
+    for (link, rename, said) in [(eperm, eio, "Input/output error"), (enospc, 0, "No space left on device")] {
+        let (refused, renamed) = system::with_name_faults(link, rename, || backs_up().unwrap_err());
+        assert!(refused.to_string().starts_with(&format!("backup: {said}")), "{refused}");
+        assert_eq!((renamed.len(), names()), (usize::from(rename != 0), vec![]));
+    }
+    let creates = || Till::open(BUILT_PROFILE, Totals::create_new(&copy)).unwrap_err();
+    let (refused, renamed) = system::with_name_faults(eperm, 0, creates);
+    assert_eq!((system_kind(&refused), renamed), (Some(ErrorKind::PermissionDenied), vec![]));
+    assert_eq!(names(), Vec::<std::ffi::OsString>::new());
+}
+
 #[test]
 fn files_are_told_and_moved() {
     let place = Place::new("told");
@@ -2058,7 +2091,7 @@ fn a_till_without_drivers_waits() {
 /// system's.
 mod system {
     use std::cell::{Cell, RefCell};
-    use std::ffi::{c_char, c_int, c_long, c_short, c_uint, c_ulong, c_void, CString};
+    use std::ffi::{c_char, c_int, c_long, c_short, c_uint, c_ulong, c_void, CStr, CString, OsStr};
     use std::fs::{File, OpenOptions};
     use std::net::{SocketAddr, TcpListener, TcpStream};
     use std::os::fd::AsRawFd;
@@ -2110,6 +2143,8 @@ mod system {
     const O_NOCTTY: c_int = 0o400;
     const SYS_FLOCK: c_long = 73;
     const SYS_FSYNC: c_long = 74;
+    const SYS_RENAME: c_long = 82;
+    const SYS_LINKAT: c_long = 265;
     const LOCK_UN: c_int = 8;
     const SIGKILL: c_int = 9;
     const EAGAIN: c_int = 11;
@@ -2125,6 +2160,9 @@ mod system {
         static TAKES: Cell<u32> = const { Cell::new(u32::MAX) };
         static SYNCED: RefCell<Vec<PathBuf>> = const { RefCell::new(Vec::new()) };
         static SYNC_FAULT: Cell<c_int> = const { Cell::new(0) };
+        static LINK_FAULT: Cell<c_int> = const { Cell::new(0) };
+        static RENAME_FAULT: Cell<c_int> = const { Cell::new(0) };
+        static RENAMED: RefCell<Vec<(usize, Option<u64>)>> = const { RefCell::new(Vec::new()) };
         static LIMIT: Cell<(usize, u32)> = const { Cell::new((0, 0)) };
         static HAS_THREADS: Cell<bool> = const { Cell::new(true) };
     }
@@ -2384,6 +2422,61 @@ mod system {
         let found = does();
         SYNC_FAULT.set(0);
         (found, SYNCED.take())
+    }
+
+    /// Gives a file a second name.
+    ///
+    /// # Safety
+    ///
+    /// As the system's.
+    #[no_mangle]
+    pub unsafe extern "C" fn linkat(
+        from: c_int,
+        old: *const c_char,
+        to: c_int,
+        new: *const c_char,
+        flags: c_int,
+    ) -> c_int {
+        // SAFETY: the texts are the caller's, and the number of the fault is this thread's.
+        unsafe {
+            if LINK_FAULT.get() == 0 {
+                return syscall(SYS_LINKAT, from, old, to, new, flags) as c_int;
+            }
+            *__errno_location() = LINK_FAULT.get();
+            -1
+        }
+    }
+
+    /// Renames a file. It notes how many syncs were before, and how long a file is that it replaces.
+    ///
+    /// # Safety
+    ///
+    /// As the system's.
+    #[no_mangle]
+    pub unsafe extern "C" fn rename(old: *const c_char, new: *const c_char) -> c_int {
+        // SAFETY: the texts are the caller's, and the number of the fault is this thread's.
+        unsafe {
+            let replaced = std::fs::metadata(OsStr::from_bytes(CStr::from_ptr(new).to_bytes()));
+            let found = (SYNCED.with_borrow(Vec::len), replaced.ok().map(|file| file.len()));
+            RENAMED.with_borrow_mut(|list| list.push(found));
+            if RENAME_FAULT.get() == 0 {
+                return syscall(SYS_RENAME, old, new) as c_int;
+            }
+            *__errno_location() = RENAME_FAULT.get();
+            -1
+        }
+    }
+
+    /// Does something, and returns what was renamed. Linking and renaming fail with the system's number of a fault
+    /// each, if that isn't 0.
+    pub fn with_name_faults<R>(link: c_int, rename: c_int, does: impl FnOnce() -> R) -> (R, Vec<(usize, Option<u64>)>) {
+        RENAMED.take();
+        LINK_FAULT.set(link);
+        RENAME_FAULT.set(rename);
+        let found = does();
+        LINK_FAULT.set(0);
+        RENAME_FAULT.set(0);
+        (found, RENAMED.take())
     }
 
     /// Makes a pipe with a name.
