@@ -3178,7 +3178,8 @@ def try_command_with_other_devices():
         said, status = commanded("scanner", device.path, "--seconds", 0.1)
         told("a scanner without a code", (1, "scanner: FAILED: no code came", True),
              (status, said[-2], said[-1].startswith("what to do: does the scanner beep")))
-        said, status = commanded("scanner", device.path, meanwhile=lambda: device.garbage(b"4" * 5000 + b"\r"))
+        said, status = commanded("scanner", device.path,
+                                 meanwhile=lambda: is_read(device) and device.garbage(b"4" * 5000 + b"\r"))
         told("a code that is too long", (1, "scanner: FAILED: a code came that isn't whole, or was disturbed", True),
              (status, said[-2], said[-1].startswith("what to do: scan it again.")))
         said, status = commanded("scanner", device.path, meanwhile=lambda: is_read(device) and device.pull_plug())
