@@ -82,7 +82,7 @@ SettlesNamed system folder them later written part path named result =
 abbrev pub has_one_name : ErrorKind → Bool
 has_one_name PermissionDenied = true
 has_one_name Unsupported = true
-has_one_name other = false
+has_one_name _ = false
 
 -- what giving an open file that is whole its name, in place of the first one, comes to
 abbrev pub TakesName : {S F : Type 0} → SystemGhosts S F → FolderGhosts S → FileGhosts F → S → S → F → List ℕ → List ℕ
